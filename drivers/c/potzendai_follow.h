@@ -252,13 +252,13 @@ static inline void potzendai_tell_stream(struct potzendai_following *f)
     if (left)
         potzendai_tell_left(f, left);
     else
-        fprintf(stderr, "few calls are not shown: %s\n", potzendai_why_not_few(f->told.report));
+        fprintf(stderr, "the few calls are not shown: %s\n", potzendai_why_not_few(f->told.report));
     if (!f->is_unkept)
         potzendai_keep(f->tester, ".jsonl", f->kept ? f->kept : "", f->kept_length);
     else if (f->is_long)
-        fprintf(stderr, "the stream is not kept, since it is longer than %d bytes\n", POTZENDAI_KEPT);
+        fprintf(stderr, "the stream is not saved, since it is longer than %d bytes\n", POTZENDAI_KEPT);
     else
-        fputs("the stream is not kept, since memory for it was refused\n", stderr);
+        fputs("the stream is not saved, since memory for it was refused\n", stderr);
     if (!is_whole || (!left && f->is_unkept))
         potzendai_keep(f->tester, "-report.json", f->told.report, strcspn(f->told.report, "\n"));
     potzendai_tell_again(f->tester, 0);
@@ -355,10 +355,10 @@ static inline int potzendai_open_stream(struct potzendai_following *f)
     f->meetings.processes = processes;
     f->meetings.with = (uint64_t *)calloc((size_t)processes, sizeof *f->meetings.with);
     if (!f->meetings.with)
-        return potzendai_fail(run, POTZENDAI_NO_MEMORY, "memory: a stream has no room");
+        return potzendai_fail(run, POTZENDAI_NO_MEMORY, "memory: no room for a stream");
     if (streaming_open(&f->stream, (unsigned)processes, POTZENDAI_SLOTS, pairs, 1)
         || streaming_start(&f->stream, f->tester->start, f->tester->pairs_at_start))
-        return potzendai_fail(run, POTZENDAI_NO_MEMORY, "memory: a stream has no room");
+        return potzendai_fail(run, POTZENDAI_NO_MEMORY, "memory: no room for a stream");
     streaming_tell_less(&f->stream);
     run->stream = &f->stream;
     return potzendai_is_unjudged(run->options) ? potzendai_open_unjudged(f) : 0;
@@ -373,7 +373,7 @@ static inline int potzendai_run_stream(struct potzendai_following *f)
     f->threads = potzendai_new_threads(run);
     if (!f->threads || pthread_create(&writer, NULL, potzendai_write_stream, f)) {
         potzendai_free_threads(f->threads, run->threads);
-        return potzendai_fail(run, POTZENDAI_NO_MEMORY, "memory: threads have no room");
+        return potzendai_fail(run, POTZENDAI_NO_MEMORY, "memory: no room for threads");
     }
     uint64_t started = potzendai_start_threads(run, f->threads);
     potzendai_wait(f);
@@ -391,7 +391,7 @@ static inline int potzendai_stream(struct potzendai_tester *tester)
 {
     struct potzendai_following *f = (struct potzendai_following *)calloc(1, sizeof *f);
     if (!f)
-        return potzendai_fail(tester->run, POTZENDAI_NO_MEMORY, "memory: a stream has no room");
+        return potzendai_fail(tester->run, POTZENDAI_NO_MEMORY, "memory: no room for a stream");
     f->tester = tester;
     int status = potzendai_open_stream(f);
     status = status ? status : potzendai_run_stream(f);

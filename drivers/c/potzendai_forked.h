@@ -67,7 +67,7 @@ static inline void potzendai_run_scheduled(struct potzendai_tester *tester, stru
     potzendai_scheduler->begin(&shared->asked, &shared->made);
     int status = potzendai_record(tester, &told);
     if (status == 0 && told.length > sizeof shared->text)
-        status = potzendai_fail(run, POTZENDAI_NO_MEMORY, "memory: a round has no room");
+        status = potzendai_fail(run, POTZENDAI_NO_MEMORY, "memory: no room for a round");
     if (status == 0) {
         memcpy(shared->text, told.text, told.length);
         shared->length = told.length;

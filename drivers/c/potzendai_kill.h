@@ -33,7 +33,7 @@ struct potzendai_killing {
     bool is_getting, is_kept; /* whether the open call of a reading is a get, and whether the folder stays */
 };
 
-/* Runs a program to its end: 0 where that is a success. */
+/* Runs a program to its end. Returns 0 if it succeeds. */
 static inline int potzendai_execute(const char *const *words)
 {
     int ended = 1;
@@ -118,7 +118,7 @@ static inline int potzendai_open_kills(struct potzendai_killing *k)
     k->state = o->seed;
     k->functions = (unsigned char *)calloc((size_t)o->threads + POTZENDAI_OTHERS + 1, 1);
     if (!k->functions || potzendai_own_words(k))
-        return potzendai_fail(k->tester->run, POTZENDAI_NO_MEMORY, "memory: a run has no room");
+        return potzendai_fail(k->tester->run, POTZENDAI_NO_MEMORY, "memory: no room for a run");
     return potzendai_build_library(k);
 }
 
@@ -164,7 +164,7 @@ static inline int potzendai_end_child(struct potzendai_child *c)
     return c->ended;
 }
 
-/* Hears what the process writes until then: the length of whole lines at the begin of its text, 0 at the end, or -1 where nothing came. */
+/* Reads what the process writes until then. Returns the length of the whole lines at the beginning of its text, 0 at the end, or -1 if nothing came. */
 static inline ssize_t potzendai_hear(struct potzendai_child *c, double until)
 {
     struct pollfd one = {c->from, POLLIN, 0};
@@ -299,7 +299,7 @@ static inline const char *potzendai_hear_reading(struct potzendai_killing *k, st
     }
     bool is_over = length == 0;
     int ended = potzendai_end_child(&k->child);
-    return !is_over ? "no end of the reading in time" : ended ? "the reading failed" : NULL;
+    return !is_over ? "the reading did not end in time" : ended ? "the reading failed" : NULL;
 }
 
 /* Gives a file of the store what it held at its last sync, or nothing if it never was synced. */
@@ -366,7 +366,7 @@ static inline int potzendai_lose_power(struct potzendai_killing *k)
     if (!k->tester->options->has_power)
         return 0;
     if (potzendai_for_names(k->store, k->shadow, potzendai_lose) || potzendai_for_names(k->shadow, "", potzendai_sort_copy))
-        return potzendai_fail(k->tester->run, POTZENDAI_BAD_FILE, "power: files of the store were not given back");
+        return potzendai_fail(k->tester->run, POTZENDAI_BAD_FILE, "power: files of the store were not restored");
     return 0;
 }
 
@@ -385,7 +385,7 @@ static inline int potzendai_check_seen(struct potzendai_killing *k, bool is_over
                                                                "stdio, or not in potzendai_store()");
 }
 
-/* Takes the end of a life: -1 where it was no kill, or where nothing of the store was seen. */
+/* Takes the end of a life. Returns -1 if it was no kill, or if nothing of the store was seen. */
 static inline int potzendai_take_end(struct potzendai_killing *k, const struct potzendai_following *f, bool is_killed, uint64_t kill_at)
 {
     struct potzendai_tester *tester = k->tester;
@@ -463,7 +463,7 @@ static inline int potzendai_judge_life(struct potzendai_killing *k, struct potze
         return potzendai_not_opened(k, f, why);
     int status = potzendai_end_stream(f);
     if (status == POTZENDAI_IS_NO) {
-        fprintf(stderr, "  killed after event %" PRIu64 ": those after it read the store\n", lived);
+        fprintf(stderr, "  killed after event %" PRIu64 ": the events after it are the reads of the store\n", lived);
         potzendai_keep_life(k);
     }
     return status;
@@ -474,7 +474,7 @@ static inline int potzendai_one_life(struct potzendai_killing *k)
     struct potzendai_following *f = (struct potzendai_following *)calloc(1, sizeof *f);
     k->tester->run->round = k->tester->rounds;
     if (!f)
-        return potzendai_fail(k->tester->run, POTZENDAI_NO_MEMORY, "memory: a life has no room");
+        return potzendai_fail(k->tester->run, POTZENDAI_NO_MEMORY, "memory: no room for a life");
     int status = potzendai_open_life(k, f);
     status = status ? status : potzendai_judge_life(k, f);
     potzendai_close_follower(f);
@@ -507,12 +507,12 @@ static inline void potzendai_tell_writes(const struct potzendai_killing *k)
         sprintf(to, ", %" PRIu64 " writes and syncs, %" PRIu64 " syncs", k->writes, k->syncs);
 }
 
-/* Life after life, until one has no order, the store does not open, or the time is over: a status, or -1 where the run fails. */
+/* Makes life after life, until one has no order, the store does not open, or the time is over. Returns a status, or -1 if the run fails. */
 static inline int potzendai_kill_lives(struct potzendai_tester *tester)
 {
     struct potzendai_killing *k = (struct potzendai_killing *)calloc(1, sizeof *k);
     if (!k)
-        return potzendai_fail(tester->run, POTZENDAI_NO_MEMORY, "memory: a run has no room");
+        return potzendai_fail(tester->run, POTZENDAI_NO_MEMORY, "memory: no room for a run");
     k->tester = tester;
     int status = potzendai_open_kills(k);
     const char *why = status ? NULL : potzendai_hear_reading(k, NULL);

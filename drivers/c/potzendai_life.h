@@ -47,7 +47,7 @@ static inline int potzendai_call_without_end(struct potzendai_run *run)
     struct timespec some_time = {0, 10000000};
     struct potzendai_thread *threads = potzendai_new_threads(run);
     if (!threads)
-        return potzendai_fail(run, POTZENDAI_NO_MEMORY, "memory: threads have no room");
+        return potzendai_fail(run, POTZENDAI_NO_MEMORY, "memory: no room for threads");
     potzendai_join_threads(run, threads, potzendai_start_threads(run, threads));
     potzendai_free_threads(threads, run->threads);
     while (!atomic_load(&run->fault) && getppid() == parent)

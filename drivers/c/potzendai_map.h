@@ -266,8 +266,8 @@ static inline void potzendai_pause(void)
 extern "C" {
 #endif
 
-/* A map's functions may call this where another thread should get in: under `--yield` one sometimes does. A source that does not include this file
- * declares it: void potzendai_point(void); */
+/* A map's functions may call this at each place where another thread should be able to run: under `--yield` one sometimes does. A source that does
+ * not include this file declares it: void potzendai_point(void); */
 __attribute__((weak)) void potzendai_point(void);
 __attribute__((weak)) void potzendai_point(void)
 {

@@ -18,7 +18,7 @@ static inline int potzendai_carry_on(struct potzendai_run *run)
             return potzendai_fail(run, POTZENDAI_IS_UNDECIDED, "calls without an answer leave no room for others: %" PRIu64, count);
         if (recording_add(run->recording, (unsigned)p, run->open_calls[i].call, run->open_calls[i].words[0], run->open_calls[i].words[1],
                           run->open_calls[i].words[2]))
-            return potzendai_fail(run, POTZENDAI_NO_MEMORY, "memory: a round has no room");
+            return potzendai_fail(run, POTZENDAI_NO_MEMORY, "memory: no room for a round");
     }
     return 0;
 }
@@ -76,7 +76,7 @@ static inline int potzendai_open_recording(struct potzendai_tester *tester)
     atomic_store(&run->processes, processes - 1);
     if (recording_open(run->recording, (unsigned)processes, (unsigned)each, pairs_each)
         || recording_start(run->recording, tester->start, tester->pairs_at_start))
-        return potzendai_fail(run, POTZENDAI_NO_MEMORY, "memory: a round has no room");
+        return potzendai_fail(run, POTZENDAI_NO_MEMORY, "memory: no room for a round");
     return 0;
 }
 
@@ -100,7 +100,7 @@ static inline int potzendai_add_overlap(struct potzendai_tester *tester)
     size_t stamps = (size_t)atomic_load(&tester->run->recording->stamps);
     char *kinds = (char *)calloc(stamps + 1, 1);
     if (!kinds)
-        return potzendai_fail(tester->run, POTZENDAI_NO_MEMORY, "memory: a round has no room");
+        return potzendai_fail(tester->run, POTZENDAI_NO_MEMORY, "memory: no room for a round");
     tester->run->counts.overlap += potzendai_count_overlap(tester->run->recording, kinds, stamps);
     for (unsigned p = 0; p < tester->run->recording->processes; p++)
         tester->run->counts.calls += (tester->run->recording->logs[p].length + 1) / 2;
@@ -128,7 +128,7 @@ static inline int potzendai_make_round(struct potzendai_tester *tester)
     struct potzendai_run *run = tester->run;
     struct potzendai_thread *threads = potzendai_new_threads(run);
     if (!threads)
-        return potzendai_fail(run, POTZENDAI_NO_MEMORY, "memory: threads have no room");
+        return potzendai_fail(run, POTZENDAI_NO_MEMORY, "memory: no room for threads");
     potzendai_remember_start(tester);
     if (potzendai_carry_on(run) == 0)
         potzendai_join_threads(run, threads, potzendai_start_threads(run, threads));

@@ -230,7 +230,7 @@ static inline int potzendai_take_scheduled(struct potzendai_plan *plan, const st
     if (shared->fault)
         return potzendai_fail(tester->run, (enum potzendai_status)shared->fault, "%.190s", shared->complaint);
     if (potzendai_copy_text(shared, &told))
-        return potzendai_fail(tester->run, POTZENDAI_NO_MEMORY, "memory: a round has no room");
+        return potzendai_fail(tester->run, POTZENDAI_NO_MEMORY, "memory: no room for a round");
     potzendai_add_counts(&tester->run->counts, &shared->counts);
     tester->run->round = shared->asked.round;
     tester->rounds++;

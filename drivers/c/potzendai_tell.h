@@ -303,7 +303,7 @@ static inline const char *potzendai_why_not_few(const char *report)
     if (!is_value)
         return "the call had taken effect by then, and its answer contradicts what it found";
     if (is_more)
-        return "a key may have had each of these values before the calls \"invoked\"";
+        return "a key may have had any of the listed values before the calls \"invoked\"";
     return "the calls \"invoked\" may have taken effect in several ways, or they fit no history: they are too many, or too many are open at once";
 }
 

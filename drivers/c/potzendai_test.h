@@ -163,7 +163,7 @@ static inline int potzendai_finish(const struct potzendai_tester *tester, int st
         return status;
     }
     if (status == POTZENDAI_IS_NO && tester->options->broken != POTZENDAI_UNBROKEN && run->counts.wrongs == 0)
-        fprintf(stderr, "--break %s: the map was not made wrong by then, so this is a no of the map as it is\n",
+        fprintf(stderr, "--break %s: no bug was injected by then, so this no is of the map itself\n",
                 potzendai_breaks[tester->options->broken]);
     if (status == POTZENDAI_IS_YES && tester->options->broken != POTZENDAI_UNBROKEN)
         fprintf(stderr, "--break %s: the map was wrong now and then, and these calls did not show it\n",
@@ -183,7 +183,7 @@ static inline int potzendai_finish_quietly(const struct potzendai_tester *tester
     bool is_as_it_is = status == POTZENDAI_IS_NO && run->counts.wrongs == 0;
     fprintf(stderr, "%s: ", potzendai_breaks[tester->options->broken]);
     if (status >= 0)
-        potzendai_tell_all(stderr, tester, is_as_it_is ? "no of the map as it is" : potzendai_verdicts[status]);
+        potzendai_tell_all(stderr, tester, is_as_it_is ? "no of the map itself" : potzendai_verdicts[status]);
     else
         fprintf(stderr, "%s\n", run->complaint);
     return status < 0 ? (int)atomic_load(&run->fault) : is_as_it_is ? (int)POTZENDAI_IS_YES : status;
@@ -242,7 +242,7 @@ static inline int potzendai_test(const struct potzendai_options *options, const 
     memset(&broken, 0, sizeof broken);
     if (potzendai_open_tester(&tester, options)) {
         potzendai_close_tester(&tester);
-        fputs("memory: a run has no room\n", stderr);
+        fputs("memory: no room for a run\n", stderr);
         return POTZENDAI_NO_MEMORY;
     }
     tester.program = program;
@@ -272,7 +272,7 @@ static inline int potzendai_test_each(const struct potzendai_options *options, c
     for (int how = 0; how < POTZENDAI_EACH_BREAK; how++) {
         one.broken = (enum potzendai_break)how;
         if (!potzendai_is_called(&one, one.broken)) {
-            fprintf(stderr, "%s: what it makes wrong is not called\n", potzendai_breaks[how]);
+            fprintf(stderr, "%s: no call that it would break is made\n", potzendai_breaks[how]);
             continue;
         }
         int status = potzendai_test(&one, program, map, true);

@@ -122,15 +122,15 @@ static inline void potzendai_keep_made(struct potzendai_tester *tester, potzenda
     free(made);
 }
 
-/* Says why few calls are not shown: by the answer to the question for them. */
+/* Says why the few calls are not shown: by the answer to the question for them. */
 static inline void potzendai_tell_unexplained(const struct potzendai_options *o, enum potzendai_status status, const char *report)
 {
     if (status <= POTZENDAI_IS_UNDECIDED)
-        fprintf(stderr, "few calls are not shown: they are not found within a budget of %" PRIu32 "\n", potzendai_more(o));
+        fprintf(stderr, "the few calls are not shown: they are not found within a budget of %" PRIu32 "\n", potzendai_more(o));
     else if (status == POTZENDAI_NO_MEMORY && (!o->bench || !report))
-        fputs("few calls are not shown: memory: they were not sought to the end\n", stderr);
+        fputs("the few calls are not shown: memory: the search for them did not end\n", stderr);
     else
-        fprintf(stderr, "few calls are not shown: %.*s\n", (int)strcspn(report, "\n"), report);
+        fprintf(stderr, "the few calls are not shown: %.*s\n", (int)strcspn(report, "\n"), report);
 }
 
 /* Shows a no in words and by files. The words and the picture have the processes and events of the recording. `is_kept`: that is saved already. */

@@ -77,7 +77,7 @@ static const char potzendai_usage[] =
     "  --hot N           nine calls in ten use one of the first N keys\n"
     "  --calls N         calls of each thread in a round, or in a stream (200; no limit)\n"
     "  --seed N          what the calls are drawn from (the clock)\n"
-    "  --mix LIST        shares, as get=50,put=30,del=10,scan=10; also replace, put_if_absent, floor, ceiling, pop_first\n"
+    "  --mix LIST        shares, such as get=50,put=30,del=10,scan=10; also replace, put_if_absent, floor, ceiling, pop_first\n"
     "  --void HOW        done: a put or del may answer done; told: it must say the value before; own: one writer for each key remembers\n"
     "                    what it put; lock: a lock for each key around a get and the put after it (done)\n"
     "  --scan HOW        snapshot: a scan is of one moment; steps: steps of ceiling (snapshot)\n"
@@ -87,7 +87,7 @@ static const char potzendai_usage[] =
     "  --fresh N         a new map after each N rounds (one map)\n"
     "  --reopen          the map is closed and opened again after each round\n"
     "  --kill SECONDS    a process makes the calls of a round, and is killed 0.5 to 1.5 times as long after its first call\n"
-    "  --kill-at-write   it is killed before a drawn write of its store\n"
+    "  --kill-at-write   it is killed before a random write of its store\n"
     "  --power           after a kill each file has what it had at its last sync\n"
     "  --stream          one stream, judged while it is recorded, in place of rounds\n"
     "  --schedule [HOW]  the scheduler says which thread runs: mix, pos, pct or walk (mix); with 12 calls and 4 keys\n"
@@ -151,7 +151,7 @@ static inline int potzendai_read_mix(struct potzendai_options *o, const char *te
         uint64_t share = 0;
         size_t digits = is ? strspn(is + 1, "0123456789") : 0;
         if (function < 0 || digits < 1 || digits > 6 || (is[digits + 1] && is[digits + 1] != ','))
-            return potzendai_complain("--mix", "shares, as get=50,put=30,del=10,scan=10");
+            return potzendai_complain("--mix", "shares, such as get=50,put=30,del=10,scan=10");
         for (size_t i = 1; i <= digits; i++)
             share = share * 10 + (uint64_t)(is[i] - '0');
         o->shares[function] = share;
@@ -191,7 +191,7 @@ static inline int potzendai_read_named(struct potzendai_options *o, const char *
         if (strcmp(word, all[i].name) == 0) {
             int place = text ? potzendai_place(all[i].names, text, strlen(text)) : -1;
             if (place < 0)
-                return potzendai_complain(word, "none of its names; --help has them");
+                return potzendai_complain(word, "not one of its names; see --help");
             o->has_void = o->has_void || i == 0;
             if (i == 0)
                 o->void_puts = (enum potzendai_void)place;
@@ -204,7 +204,7 @@ static inline int potzendai_read_named(struct potzendai_options *o, const char *
     return -1;
 }
 
-/* Reads a word of schedules that stands on its own; -1 if it is none of these. */
+/* Reads an option of schedules that takes no value. Returns -1 if it is none of these. */
 static inline int potzendai_read_schedule_flag(struct potzendai_schedule_words *s, const char *word)
 {
     bool is_buffers = strcmp(word, "--tso") == 0;
@@ -238,10 +238,10 @@ static inline int potzendai_read_schedule_word(struct potzendai_schedule_words *
     else
         return -1;
     s->first = s->first || is_way ? s->first : word;
-    return is_right ? 0 : potzendai_complain(word, "none of its names or numbers; --help has them");
+    return is_right ? 0 : potzendai_complain(word, "not one of its names or numbers; see --help");
 }
 
-/* Reads a word of kills that has none after it: -1 where it is none of these. */
+/* Reads an option of kills that takes no value. Returns -1 if it is none of these. */
 static inline int potzendai_read_kill_flag(struct potzendai_options *o, const char *word)
 {
     bool is_power = strcmp(word, "--power") == 0;
@@ -286,7 +286,7 @@ static inline int potzendai_read_word(struct potzendai_options *o, char **words,
     if (strcmp(word, "--kill") == 0)
         return potzendai_read_kill(o, text);
     if (strcmp(word, "--mix") == 0)
-        return text ? potzendai_read_mix(o, text) : potzendai_complain(word, "shares, as get=50,put=30,del=10,scan=10");
+        return text ? potzendai_read_mix(o, text) : potzendai_complain(word, "shares, such as get=50,put=30,del=10,scan=10");
     if (strcmp(word, "--out") == 0) {
         o->out = text;
         return text ? 0 : potzendai_complain(word, "a folder, or -");
@@ -300,7 +300,7 @@ static inline int potzendai_read_word(struct potzendai_options *o, char **words,
     int status = potzendai_read_schedule_word(&o->schedule, word, text);
     status = status < 0 ? potzendai_read_numbered(o, word, text) : status;
     status = status < 0 ? potzendai_read_named(o, word, text) : status;
-    return status < 0 ? potzendai_complain(word, "no such word; --help has them") : status;
+    return status < 0 ? potzendai_complain(word, "no such option; see --help") : status;
 }
 
 /* Whether at most one thread at a time writes a key. */
@@ -338,7 +338,7 @@ static inline int potzendai_check_shares(const struct potzendai_options *o, cons
     if (total == 0)
         return potzendai_complain("--mix", "no share");
     if (o->shares[POTZENDAI_POP_FIRST] > 0 && potzendai_has_one_writer(o))
-        return potzendai_complain("pop_first", "takes keys of others, so not with --void own or lock");
+        return potzendai_complain("pop_first", "takes keys of other threads, so not with --void own or lock");
     return 0;
 }
 
@@ -360,7 +360,7 @@ static inline int potzendai_check_break(const struct potzendai_options *o)
         if ((o->broken == (enum potzendai_break)how || o->broken == POTZENDAI_EACH_BREAK)
             && potzendai_is_called(o, (enum potzendai_break)how))
             return 0;
-    return potzendai_complain("--break", "what it makes wrong is not called");
+    return potzendai_complain("--break", "no call that it would break is made");
 }
 
 /* Whether the map has the functions that --fresh and --reopen need. */
@@ -434,7 +434,7 @@ static inline int potzendai_check_sizes(struct potzendai_options *o)
     if (o->kill > 0)
         return 0;
     if (o->is_stream)
-        return o->rounds > 0 ? potzendai_complain("--rounds", "a stream has none; --seconds, or --calls of each thread") : 0;
+        return o->rounds > 0 ? potzendai_complain("--rounds", "a stream has no rounds; use --seconds, or --calls for each thread") : 0;
     if (o->calls == 0)
         o->calls = potzendai_calls_where_none(o);
     if (o->threads >= RECORDING_PROCESSES)
@@ -458,7 +458,7 @@ static inline int potzendai_check_out(const struct potzendai_options *o)
     int file = length > 0 && length < POTZENDAI_PATH ? mkstemp(path) : -1;
     if (file >= 0 && close(file) == 0 && unlink(path) == 0)
         return 0;
-    fprintf(stderr, "--out: no file can be put into %s: %s\n", o->out, strerror(errno));
+    fprintf(stderr, "--out: no file can be written into %s: %s\n", o->out, strerror(errno));
     return POTZENDAI_BAD_FILE;
 }
 

@@ -13,7 +13,7 @@ static unsigned flags = MDB_NOSYNC;
 static MDB_val bytes_of(uint64_t *number) { return (MDB_val){sizeof *number, number}; }
 static uint64_t number_in(MDB_val value) { uint64_t number; memcpy(&number, value.mv_data, sizeof number); return number; }
 
-/* Ends a transaction: what it says holds where it is committed. Of a commit that fails the manual does not say that nothing has changed. */
+/* Ends a transaction. Its answer holds if it is committed. If a commit fails, the manual does not say that nothing has changed. */
 static enum map_said end(MDB_txn *txn, int status, enum map_said said)
 {
     if (status == 0 && said != MAP_REFUSED)
@@ -44,7 +44,7 @@ static enum map_said get(void *map, uint64_t key, uint64_t *found)
     return end(txn, status, said);
 }
 
-/* Looks what is there, unless it is plain, and then puts or deletes. A replace does so only where the old value is there. */
+/* Looks what is there, unless it is plain, and then puts or deletes. A replace does so only if the old value is there. */
 static enum map_said change(uint64_t key, uint64_t *value, const uint64_t *old, uint64_t *found)
 {
     MDB_txn *txn;

@@ -1,5 +1,5 @@
-// RocksDB, tested: puts and deletes in transactions that read first, and return the value. With the word `plain` before the options they are single
-// calls, which do not say what was there. README.md says how it is built, and what the other words set.
+// RocksDB, tested: puts and deletes in transactions that read first, and return the value. With the word `plain` before the options, puts and deletes
+// are single calls, which do not say what was there. README.md says how it is built, and what the other words set.
 #include "folder_map.hpp"
 #include <rocksdb/utilities/transaction.h>
 #include <rocksdb/utilities/transaction_db.h>
@@ -35,8 +35,8 @@ struct Engine {
 };
 
 class Rocks : public FolderMap<Engine> {
-    // Looks what is there under the key's lock, and then puts a value or deletes; a replace only where the old value is there. Nothing has changed
-    // where the transaction has expired or met a conflict; of a commit that fails otherwise nobody knows.
+    // Looks what is there under the key's lock, and then puts a value or deletes; a replace only if the old value is there. Nothing has changed if the
+    // transaction has expired or met a conflict. If a commit fails otherwise, nobody knows.
     map_said change(uint64_t key, const uint64_t *value, const uint64_t *old, uint64_t &found)
     {
         std::string before, at = bytes_of(key);

@@ -1,10 +1,10 @@
 // Tests an ordered map of one's own: threads (goroutines) call its methods, what they do is recorded, and the program bench judges each
-// recording, or follows one stream of it. Copy this file: Go 1.19 and the program are all that it needs. In a package of its own its first
+// recording, or follows one stream of it. Copy this file: it needs only Go 1.19 and the program. In a package of its own its first
 // line is `package potzendai`, and a whole program is
 //
 //	func main() { os.Exit(potzendai.Run("mine", func() potzendai.Map { return newMap() }, os.Args[1:]...)) }
 //
-// From any test, err := potzendai.Check("mine", .., "--seconds", "5") has the explanation.
+// In a test, err := potzendai.Check("mine", .., "--seconds", "5") has the explanation.
 package main
 
 import (
@@ -29,20 +29,20 @@ import (
 	"time"
 )
 
-// Map is a map of numbers. It may also have any of these methods, and those that it lacks are not called:
+// Map is a map of numbers. It may also have any of these methods; those that it does not have are not called:
 //
-//	Connection() Map                     what one thread calls in the place of the map
-//	Close()                              of a connection, at the end of a run; and of a map, once it is used no more
+//	Connection() Map                     what one thread calls instead of the map
+//	Close()                              of a connection, at the end of a run; and of a map, after its last use
 //	Reopen() Map                         for --reopen: closes the map at rest, and returns it opened again, with what it held
-//	Snapshots(taken func())              of a connection of one thread: its reads call taken once their snapshot is taken; the read counts as
+//	Snapshots(taken func())              of a connection of one thread: its reads call taken when they have their snapshot; the read counts as
 //	                                     answered at this moment, and its pairs may be read later
 //	Del(key uint64) Said                 the value before
 //	Scan(low, high uint64) Said          the pairs of one moment, both ends included, by rising keys
-//	Replace(key, old, value uint64) Said the value found; or Done where it was replaced, Other where it was not
-//	PutIfAbsent(key, value uint64) Said  None where it was put; else the value found
+//	Replace(key, old, value uint64) Said the value found; or Done if it was replaced, Other if it was not
+//	PutIfAbsent(key, value uint64) Said  None if it was put, otherwise the value found
 //	Floor(key uint64) Said               the greatest pair up to the key
 //	Ceiling(key uint64) Said             the least pair from the key on
-//	PopFirst() Said                      the least pair, which is taken
+//	PopFirst() Said                      the least pair, which is removed
 //
 // Nothing else changes the map.
 type Map interface {
@@ -71,7 +71,7 @@ var (
 // Told is the value that there was.
 func Told(value uint64) Said { return Said{word: "told", value: value} }
 
-// ToldIf is the value that there was, or None where there was none.
+// ToldIf is the value that there was, or None if there was none.
 func ToldIf(value uint64, isThere bool) Said {
 	if !isThere {
 		return None
@@ -95,7 +95,7 @@ func (s Said) tells() bool { return s.word == "told" || s.word == "none" }
 const (
 	yes, no, undecided, badWords, badFile = 0, 1, 2, 5, 6
 	processes, mostCalls, span, seldom    = 64, 4096, 16, 20
-	// Limits of a stream and of its keys; how many stamps a thread may be ahead of what is handed over; how many bytes are at once.
+	// The limits of a stream and of its keys; how many stamps a thread may be ahead of what is written; how many bytes are written at once.
 	streamProcesses, streamKeys, ahead, batch = 65536, 16384, 8192, 65536
 	running, over, failed                     = 0, 1, 2
 	reportShown                               = 1000    // bytes of the report of a stream without order
@@ -180,7 +180,7 @@ var (
 	hasPoints      atomic.Bool
 )
 
-// Point is to be called by a map's methods where another thread should get in between: under --yield it sometimes does.
+// Point may be called by a map's methods at each place where another thread should be able to run: under --yield it sometimes does.
 func Point() {
 	hasPoints.Store(true)
 	giveWay()
@@ -233,7 +233,7 @@ var fits = map[string][]string{
 	"ceiling": {"told", "none", "done", "found", "refused", "unknown"}, "pop_first": {"told", "none", "found", "refused"},
 }
 
-// An answer as a text; none where the call stays open.
+// An answer as a text; none if the call stays open.
 func answerText(said Said) string {
 	switch said.word {
 	case "told":
@@ -291,15 +291,15 @@ func noted(kind string, words []uint64, said Said) (*call, string) {
 	return &call{histories[kind], words}, answerText(said)
 }
 
-// What a history has of a call: its invocation, its answer, or none where the call stays open; a note of the call as it was made, where that is
-// another one; and further calls of the same interval, each by a process of its own.
+// What a history has of a call: its invocation, and its answer, or none if the call stays open. Also a note of the call as it was made, if that is
+// another one, and further calls of the same interval, each by a process of its own.
 type made struct {
 	call         *call
 	answer, note string
 	beside       []made
 }
 
-// What a history has of a call; nothing where it is left out.
+// What a history has of a call; nothing if it is left out.
 func (o *options) recorded(kind string, words []uint64, said Said, fresh func() uint64) *made {
 	call, answer := noted(kind, words, said)
 	if call == nil {
@@ -312,8 +312,8 @@ func (o *options) recorded(kind string, words []uint64, said Said, fresh func() 
 	return o.recordedOfCache(kind, words, said, plain, fresh)
 }
 
-// The same for a cache, which may lose any key at any time: of a miss, that the key is gone from then on. So this history has an order if and
-// only if the cache's own has one in which keys may be lost. Late: a miss says nothing.
+// What a history has of a call of a cache, which may lose any key at any time. A miss is recorded so that the key has no value from then on. So this
+// history has an order if and only if the cache's own has one in which keys may be lost. Late: a miss says nothing.
 func (o *options) recordedOfCache(kind string, words []uint64, said Said, plain *made, fresh func() uint64) *made {
 	isLate, isWritten := o.cache == "late", isOneOf(kind, "put", "del", "put_if_absent")
 	if isLate && (said.word == "other" || said.word == "none" && !isWritten) {
@@ -340,7 +340,7 @@ func (o *options) recordedOfCache(kind string, words []uint64, said Said, plain 
 	return o.scanOfCache(plain, pairs, isLate, before)
 }
 
-// A scan with a remove of each key that it did not have; or, where a miss says nothing, gets of those that it had.
+// A scan with a remove of each key that it did not have; or, if a miss says nothing, gets of the keys that it had.
 func (o *options) scanOfCache(plain *made, pairs [][2]uint64, isLate bool, before string) *made {
 	var all []made
 	if isLate {
@@ -368,7 +368,7 @@ func (o *options) scanOfCache(plain *made, pairs [][2]uint64, isLate bool, befor
 	return plain
 }
 
-// The functions of a connection: of those that it lacks there is none.
+// The functions that a connection has.
 type functions map[string]func(words ...uint64) Said
 
 func functionsOf(connection Map) functions {
@@ -415,7 +415,7 @@ func connectionOf(m Map) (Map, func()) {
 	return connection, func() {}
 }
 
-// A map that is used no more.
+// Closes a map after its last use.
 func forget(m Map) {
 	if it, is := m.(interface{ Close() }); is {
 		it.Close()
@@ -450,7 +450,7 @@ type wrong struct {
 
 func (w *wrong) goes(how string) bool { return w.how == how && w.draws.below(seldom) == 0 }
 
-// What the put of the map would say where a get says this.
+// What the put of the map would say if a get says this.
 func (w *wrong) inStyle(got Said) Said {
 	if w.style == "done" {
 		return Done
@@ -474,8 +474,8 @@ func (w *wrong) get(words ...uint64) Said {
 	return said
 }
 
-// Makes a get and then a put, as if they were one call. If the put reports what it found, the get is of the same key. Else it is of the key next
-// to it, which is put back as it was got.
+// Makes a get and then a put, as if they were one call. If the put reports what it found, the get is of the same key. Otherwise the get is of the key
+// next to it, and what it got is put back.
 func (w *wrong) race(key, value uint64) Said {
 	beside := key ^ 1
 	if w.style == "told" || beside >= w.keys {
@@ -549,7 +549,7 @@ func (w *wrong) replace(words ...uint64) Said {
 	return Done
 }
 
-// The functions of the broken map: those of the true one. A put that still comes, comes soon, before another call.
+// The functions of the broken map: those of the true one. A put that is still to come is made soon, before another call.
 func (w *wrong) functions() functions {
 	all := functions{}
 	own := functions{"get": w.get, "put": w.put, "del": w.del, "scan": w.scan, "replace": w.replace}
@@ -573,8 +573,8 @@ func (w *wrong) functions() functions {
 
 // Threads and what they record
 
-// An event: the invocation of a call, or an answer where there is none; of which function it is, unless no thread called one, and what that
-// said, once it is over. Once it is in a round, its process is known.
+// An event: the invocation of a call, or an answer if it has no call. It names the function, unless no thread called one, and what the function said,
+// when the call is over. In a round its process is known.
 type event struct {
 	stamp        uint64
 	thread, life int
@@ -586,7 +586,7 @@ type event struct {
 	isAnswered   bool
 }
 
-// The two events of a call, of which the second is none where the call stays open.
+// The two events of a call; there is no second one if the call stays open.
 func eventsOf(begin, end uint64, thread, life int, kind, said string, m *made) []event {
 	events := []event{{stamp: begin, thread: thread, life: life, kind: kind, call: m.call, note: m.note, beside: m.beside}}
 	if m.answer != "" {
@@ -595,7 +595,7 @@ func eventsOf(begin, end uint64, thread, life int, kind, said string, m *made) [
 	return events
 }
 
-// A task is the number of a round, as how many processes a thread may go on, what the map holds, and keys at which calls have no answer.
+// A task is the number of a round, how many processes a thread may be in turn, what the map holds, and the keys at which calls have no answer.
 type task struct {
 	round    uint64
 	lives    int
@@ -604,7 +604,7 @@ type task struct {
 	from     uint64
 }
 
-// The lock of a key; and whether a call that writes it has no answer, and so may still come between a get and the put after it.
+// The lock of a key, and whether a call that writes the key has no answer. Such a call may still take effect between a get and the put after it.
 type keyLock struct {
 	sync.Mutex
 	isDoubtful bool
@@ -634,7 +634,7 @@ type worker struct {
 	helpers []int
 	marks   uint64
 	broken  *wrong
-	// How often the broken maps of before went wrong.
+	// How often earlier broken maps went wrong.
 	wrongTimes uint64
 	reads      bool   // whether the open call only reads
 	taken      uint64 // the stamp at which its snapshot was taken
@@ -652,7 +652,7 @@ func (w *worker) open(m Map) {
 	}
 }
 
-// Takes this moment as the answer of the open call, if that only reads. Of several such moments the last one counts.
+// Takes this moment as that of the answer of the open call, if the call only reads. Of several such moments the last one counts.
 func (w *worker) take() {
 	if !w.reads {
 		return
@@ -684,7 +684,7 @@ func (w *worker) run(t task) {
 	}
 }
 
-// Whether it may make one call more.
+// Whether it may make one more call.
 func (w *worker) goesOn() bool {
 	if w.stream != nil && (w.stream.state.Load() != running || w.process >= streamProcesses) {
 		return false
@@ -879,15 +879,15 @@ func (w *worker) handOver(begin, end uint64, kind, said string, m *made) {
 	}
 }
 
-// A part of what a stamp of a stream has: a call of a process with its note, or its answer, or none if it stays open.
+// A part of what a stamp of a stream has: a call of a process with its note, or its answer, or nothing if the call stays open.
 type part struct {
 	process      int
 	call         *call
 	answer, note string
 }
 
-// What a stamp of a stream has: first the event of a thread, then those on behalf of it; of which function they are; and what the map said, if
-// this ends a call.
+// What a stamp of a stream has: first the event of a thread, then the events on its behalf; their function; and what the map said, if this ends a
+// call.
 type happening struct {
 	parts      []part
 	kind, said string
@@ -900,9 +900,9 @@ type openCall struct {
 	stored uint64
 }
 
-// A stream of events, which a goroutine of its own hands on while others record. Stamps are numbers without a gap, and each has its slot. Who is
-// too far ahead of what is handed over waits, so that memory does not grow. Between its two stamps nobody waits except for lower stamps, so the
-// event of the least stamp always comes.
+// A stream of events, which a goroutine of its own writes to the program while others record. Stamps are numbers without a gap, and each has its
+// slot. A thread that is too far ahead of what is written waits, so that memory does not grow. Between its two stamps a thread waits only for lower
+// stamps, so the event of the least stamp always comes.
 type stream struct {
 	run           *run
 	stamps        *atomic.Uint64
@@ -933,7 +933,7 @@ func (s *stream) put(stamp uint64, what happening) {
 	s.slots[stamp%ahead].Store(&what)
 }
 
-// Lets others go on: most times at once, sometimes for some time.
+// Lets other threads run: most times once, sometimes for some time.
 func rest(times int) {
 	if times%64 != 0 {
 		runtime.Gosched()
@@ -950,7 +950,7 @@ func newStream(r *run, stamps *atomic.Uint64, start map[uint64]uint64) *stream {
 	return s
 }
 
-// Hands over each event in its turn, and asks for the verdict at the end.
+// Writes each event in its turn, and asks for the verdict at the end.
 func (s *stream) write() {
 	defer close(s.done)
 	defer func() {
@@ -978,7 +978,7 @@ func (s *stream) write() {
 	s.status = s.run.program.checked("follow", s.asked.Wait(), s.asked, s.answer.String())
 }
 
-// Starts the program. It writes once it has a verdict, and may do so while the stream is still running: then the run is over.
+// Starts the program. The program prints its verdict when it has one, which may be while the stream is still running. Then the run is over.
 func (s *stream) ask(ended chan bool) {
 	p := s.run.program
 	s.asked = exec.Command(p.at("follow"), "follow", "--budget", strconv.FormatUint(p.budget, 10))
@@ -1029,7 +1029,7 @@ func (s *stream) handAll() error {
 	}
 }
 
-// Keeps what is to be handed over for a file, or nothing of the stream any more where it is too long.
+// Stores what is written, for a file. If the stream is too long, nothing of it is stored any more.
 func (s *stream) keep() {
 	s.isLong = s.isLong || len(s.kept)+len(s.text) > mostKept
 	if s.isLong || s.asked == nil {
@@ -1039,8 +1039,8 @@ func (s *stream) keep() {
 	s.kept = append(s.kept, s.text...)
 }
 
-// The lines of events, and what is counted: as of a round, but that nothing is kept of calls that are over. A call without an answer is over too:
-// nobody waits for it.
+// The lines of events, and the counts, as for a round. But nothing is stored of calls that are over. A call without an answer is over too: nobody
+// waits for it.
 func (s *stream) take(what *happening) {
 	for i, one := range what.parts {
 		if one.call != nil {
@@ -1072,7 +1072,7 @@ func (s *stream) take(what *happening) {
 	}
 }
 
-// Keeps only the notes of the last events.
+// Drops all notes except those of the last events.
 func (s *stream) forgetNotes() {
 	if len(s.notes) > 2*keptNotes {
 		for number := range s.notes {
@@ -1109,7 +1109,7 @@ func (s *stream) count(what *happening, one part) {
 	}
 }
 
-// No more is put.
+// Ends the stream.
 func (s *stream) end() {
 	s.isEnded.Store(true)
 	<-s.done
@@ -1154,7 +1154,7 @@ func (c *crew) open(m Map) {
 	c.connection, c.close = functionsOf(connection), closing
 }
 
-// Has each worker do its part, all at once. Where one goes wrong, the run ends.
+// Lets each worker do its part, all at once. If one goes wrong, the run ends.
 func (c *crew) each(part func(*worker)) {
 	var all sync.WaitGroup
 	var missing atomic.Int64
@@ -1228,8 +1228,8 @@ func (c *crew) rest(number uint64) []event {
 	return events
 }
 
-// The function by which is known what a key holds: a put of a new value or, at each second key, a del. Of a cache, a del. Or get, where the map has
-// neither.
+// The function after which it is known what a key holds: a put of a new value or, at each second key, a del. For a cache it is a del. It is get if
+// the map has neither.
 func (c *crew) writeOf(key, number uint64) (string, uint64) {
 	isPut, isDel := c.connection["put"] != nil, c.connection["del"] != nil
 	if isDel && (!isPut || c.options.cache != "" || (key+number)%2 == 1) {
@@ -1273,7 +1273,7 @@ func (c *crew) closeAll() {
 	}
 }
 
-// Closes the map, which is used no more.
+// Closes the map after its last use.
 func (c *crew) end() {
 	c.closeAll()
 	if c.made != nil {
@@ -1297,7 +1297,7 @@ func (c *crew) reopen() {
 	c.made = nil
 	made := closed.(interface{ Reopen() Map }).Reopen()
 	if made == nil {
-		fail(badWords, "%s: Reopen said nothing, where it has to return the map", c.options.name)
+		fail(badWords, "%s: Reopen returned nothing; it has to return the map", c.options.name)
 	}
 	c.open(made)
 }
@@ -1316,7 +1316,7 @@ type round struct {
 	atStart, nobody          string
 }
 
-// Calls that have no answer from before are the first.
+// Calls from earlier rounds that have no answer come first.
 func newRound(events []event, start map[uint64]uint64, before []*call, t *tally) *round {
 	r := &round{start: start, met: map[uint64]bool{}, numbers: map[[2]int]int{}, before: len(before), atStart: "at the start", nobody: "nobody"}
 	for i, one := range before {
@@ -1337,8 +1337,8 @@ func (r *round) number(who [2]int) int {
 	return number
 }
 
-// The events of the threads. Further calls of one are made by processes that are free; where there are none, or too many calls, it is left out
-// with them.
+// The events of the threads. The further calls of a call get processes that are free. If there are none, or too many calls, the call is left out with
+// its further calls.
 func (r *round) order(events []event) {
 	own, calls := map[[2]int]bool{}, mostCalls-r.before
 	for _, one := range events {
@@ -1387,8 +1387,8 @@ func (r *round) order(events []event) {
 	}
 }
 
-// How many calls were open where another began, at which keys two writers met, and which changes may still come. A call without an answer is none
-// that others overlap.
+// How many calls were open when another began, at which keys two writers met, and which changes may still come. A call without an answer does not
+// count as overlapped.
 func (r *round) measure(t *tally) {
 	last := map[int]int{}
 	for i, one := range r.events {
@@ -1428,7 +1428,7 @@ func (r *round) measure(t *tally) {
 	}
 }
 
-// Whether an answer reports what a call puts: then it was done.
+// Whether an answer reports what a call puts. Then the call was done.
 func (r *round) tells(one *call) bool {
 	value := strconv.FormatUint(one.words[len(one.words)-1], 10)
 	for _, each := range r.events {
@@ -1448,7 +1448,7 @@ func sorted(start map[uint64]uint64) (pairs [][2]uint64) {
 	return pairs
 }
 
-// A history as a round, as far as what is said of it needs that.
+// A history as a round, as far as the report needs it.
 func roundOf(text string) *round {
 	var whole struct {
 		Events []struct {
@@ -1507,7 +1507,7 @@ func (r *round) text() string {
 	return fmt.Sprintf("%s,\"version\":%d}\n", begin, version)
 }
 
-// The pairs that an answer has, or none where it is no list of them.
+// The pairs of an answer, or none if it is not a list of pairs.
 func pairsOf(answer string) (pairs [][2]uint64) {
 	numbers := strings.FieldsFunc(answer, func(one rune) bool { return one < '0' || one > '9' })
 	for i := 1; i < len(numbers) && answer[0] == '['; i += 2 {
@@ -1518,7 +1518,7 @@ func pairsOf(answer string) (pairs [][2]uint64) {
 	return pairs
 }
 
-// Whether all its keys are below keys and all its calls have answers: then it may be judged together with others.
+// Whether all its keys are below keys and all its calls have answers. Then it may be judged together with other rounds.
 func (r *round) isApart(keys uint64) bool {
 	calls := 0
 	for key := range r.start {
@@ -1579,8 +1579,8 @@ func together(rounds []waiting, keys uint64) string {
 	return fmt.Sprintf("{\"events\":[%s],\"start\":%s,\"version\":3}\n", strings.Join(texts, ","), pairsText(start))
 }
 
-// A tally is how often gets found a value; and how often a key was lost, so that nothing was found where a put was answered and no delete begun
-// since.
+// A tally is how often gets found a value, and how often a key was lost. A key is lost if nothing is found although a put of it was answered, and no
+// delete has begun since.
 type tally struct {
 	hits, misses, losses, clock uint64
 	stored, deletes, deleted    map[uint64]uint64 // when a put ended; open deletes; when a delete began or ended last
@@ -1652,7 +1652,7 @@ func newProgram(o *options) *program {
 	return p
 }
 
-// Returns the program that runs a command. Once the repository's own bench has answered, this is the last program that bench built: bench itself
+// Returns the program that runs a command. After the repository's own bench has answered, this is the program that bench built last. For bench itself
 // takes as long as ten rounds to see that nothing has changed.
 func (p *program) at(command string) string {
 	path, newest := p.path, time.Time{}
@@ -1671,7 +1671,7 @@ func (p *program) at(command string) string {
 	return path
 }
 
-// The verdict: once more at ten times the budget where it is undecided.
+// The verdict; if it is undecided, it is asked again at ten times the budget.
 func (p *program) judge(text string) int {
 	status, _ := p.askTwice("judge", text)
 	return status
@@ -1685,7 +1685,7 @@ func (p *program) askTwice(command, text string) (int, string) {
 	return status, report
 }
 
-// What is answered to a question, or why nothing is.
+// The answer to a question, or why there is none.
 func (p *program) tried(command, text string) (report string, wrong *stop) {
 	defer func() {
 		if met := recover(); met != nil {
@@ -1700,7 +1700,7 @@ func (p *program) tried(command, text string) (report string, wrong *stop) {
 	return report, nil
 }
 
-// The budget of what is asked again.
+// The budget of a question that is asked again.
 func (p *program) more() uint64 {
 	if p.budget > 100000 {
 		return 1000000
@@ -1715,7 +1715,7 @@ func (p *program) ask(command, text string, budget uint64) (int, string) {
 	return p.checked(command, asked.Run(), asked, out.String()), out.String()
 }
 
-// The status, where the program has ended with a report.
+// The status, if the program has ended with a report.
 func (p *program) checked(command string, err error, asked *exec.Cmd, answer string) int {
 	var ended *exec.ExitError
 	if err != nil && !errors.As(err, &ended) {
@@ -1739,8 +1739,7 @@ func (p *program) checked(command string, err error, asked *exec.Cmd, answer str
 
 // A run
 
-// A run is of rounds at a new map, each of which begins with what the one before has left: the pairs, and calls without an answer that may
-// still come.
+// A run has rounds at a new map. Each begins with what the one before has left: the pairs, and calls without an answer that may still take effect.
 type run struct {
 	counts
 	options                        *options
@@ -1866,7 +1865,7 @@ func (r *run) follow(c *crew) {
 	r.conclude(s)
 }
 
-// What the verdict on a stream says. One that was cut off has no yes.
+// What the verdict on a stream says. A stream that was cut off gets no yes.
 func (r *run) conclude(s *stream) {
 	r.report, r.kept, r.notes = s.answer.String(), s.kept, s.notes
 	isCut := s.state.Load() == failed
@@ -1924,7 +1923,7 @@ func (r *run) take(one *round, workers []*worker) {
 	}
 }
 
-// Judges the rounds that wait: all at once, and each on its own where that is not a yes. Of a no, what was counted is that up to its end.
+// Judges the rounds that wait: first all together, and each on its own if that is not a yes. After a no, only what was counted up to its end counts.
 func (r *run) judgeWaiting() {
 	all := r.waiting
 	r.waiting = nil
@@ -1951,7 +1950,7 @@ func (r *run) isOver() bool {
 	return r.rounds > 0 && (o.rounds > 0 && r.rounds >= o.rounds || time.Since(r.began).Seconds() >= float64(o.seconds))
 }
 
-// Each second a line on a terminal says how far this is.
+// Each second a line on a terminal says how far the run is.
 func (r *run) progress() {
 	o, seconds := r.options, time.Since(r.began).Seconds()
 	if o.shows && time.Since(o.shown) > time.Second && r.calls > 0 {
@@ -1966,7 +1965,7 @@ func (r *run) progress() {
 	}
 }
 
-// So many of a noun.
+// A number with its noun.
 func counted(count uint64, noun string) string {
 	if count == 1 {
 		return "1 " + noun
@@ -1977,7 +1976,7 @@ func counted(count uint64, noun string) string {
 	return fmt.Sprintf("%d %ss", count, noun)
 }
 
-// The verdict, and what it rests on.
+// The verdict, and the counts on which it is based.
 func (r *run) summary(verdict string) string {
 	said := []string{}
 	for _, word := range sayings {
@@ -2048,8 +2047,8 @@ func grouped(number uint64) string {
 	return text
 }
 
-// The smallest run that failed, of some tries with half of the calls or keys, or a thread less. Threads interleave as they will. Where calls
-// have no answer none is tried, since they may still come.
+// The smallest run that failed, of some tries with half of the calls or keys, or a thread less. Threads interleave as they will. If calls have no
+// answer, nothing smaller is tried, since they may still take effect.
 func (r *run) smaller() *run {
 	best, until, tries := r, time.Now().Add(5*time.Second), 0
 	if r.sayings["unknown"] > 0 {
@@ -2133,7 +2132,7 @@ func (c *call) list() []interface{} {
 
 func (c *call) said() string { return saidCall(c.list()) }
 
-// The call of an event as it was made, where a history has another one.
+// The call of an event as it was made, if the history has another one.
 func (r *round) noteOf(number int64) string {
 	if int(number) < len(r.events) {
 		return r.events[number].note
@@ -2150,7 +2149,7 @@ func saidMade(r *round, number int64, call interface{}) string {
 	return saidCall(call)
 }
 
-// The event of a call's answer, or the end where it has none.
+// The event of a call's answer, or the end if it has none.
 func (r *round) lastEvent(invoked int) int {
 	for i := invoked + 1; i < len(r.events); i++ {
 		if r.events[i].process == r.events[invoked].process {
@@ -2197,7 +2196,7 @@ func saidOpen(r *round, shown map[int]bool, numbers []int) []string {
 	return []string{"  also open on the same keys meanwhile: " + strings.Join(said, ", ")}
 }
 
-// The events of a call: that of its invocation by a process, and that of its answer, where it has one.
+// The events of a call: that of its invocation by a process, and that of its answer if it has one.
 func saidEvents(r *round, invoked, process int64) string {
 	for i := int(invoked) + 1; i < len(r.events); i++ {
 		if r.events[i].process == int(process) {
@@ -2226,7 +2225,7 @@ func saidWriter(r *round, answer interface{}) string {
 	return fmt.Sprintf("; %v is what %s put", value, r.nobody)
 }
 
-// A line of a report: what it is of is seen by its members.
+// A line of a report; its members show which kind it is.
 type reported struct {
 	Answer, Would, Start, Call interface{}
 	Front, Holds               []interface{}
@@ -2252,7 +2251,7 @@ func saidOrigin(r *round, line reported) string {
 	return fmt.Sprintf("  %v at %v is %s", line.Value, line.Key, strings.Join(who, ", "))
 }
 
-// From which value of a key the few calls have no order. Only an undecided report has such lines.
+// The value of a key from which the few calls have no order. Only an undecided report has such lines.
 func saidFrom(line reported) string {
 	if line.From == "" {
 		return fmt.Sprintf("  from key %v holding nothing", line.Key)
@@ -2274,8 +2273,8 @@ func saidMissed(r *round, line reported) string {
 	return said
 }
 
-// A report of explain in words, and the line that is the few calls' history, if it is there. After an undecided, locate has a line, which is
-// passed over.
+// A report of explain in words, and the line with the few calls' history, if there is one. After an undecided there is a line of locate, which is
+// skipped.
 func saidReport(report string, r *round) (said []string, few string) {
 	lines := strings.Split(strings.TrimSpace(report), "\n")
 	said = append(said, saidVerdict(lines[0]))
@@ -2328,7 +2327,7 @@ func saidReport(report string, r *round) (said []string, few string) {
 	return append(said, saidOpen(r, shown, next)...), few
 }
 
-// A line of a report, without the values that replaces of a cache put which said that they changed nothing.
+// A line of a report, without the values that some replaces of a cache put: those that said that they changed nothing.
 func unmarked(line string) string {
 	return regexp.MustCompile(`[0-9]{19,20}`).ReplaceAllStringFunc(line, func(found string) string {
 		value, err := strconv.ParseUint(found, 10, 64)
@@ -2339,7 +2338,7 @@ func unmarked(line string) string {
 	})
 }
 
-// Writes a file of a round, or of a stream, and says how it is called.
+// Writes a file of a round, or of a stream, and says its name.
 func (r *run) keep(ending, text string) string {
 	number := r.rounds
 	if number > 0 {
@@ -2352,7 +2351,7 @@ func (r *run) keep(ending, text string) string {
 	return "  file: " + path
 }
 
-// Keeps the file that the program makes of a history, or says why there is none.
+// Saves the file that the program makes of a history, or says why there is none.
 func (r *run) keepMade(command, ending, text string) string {
 	made, wrong := r.program.tried(command, text)
 	if wrong != nil {
@@ -2361,8 +2360,8 @@ func (r *run) keepMade(command, ending, text string) string {
 	return r.keep(ending, made)
 }
 
-// Reports a stream that has no order. If the calls that are left show the fault, their history is explained; else a line says why not. The stream
-// so far is saved, unless it is long. The report is saved if it is not shown whole, or if nothing else is saved.
+// Reports a stream that has no order. If the calls that are left show the fault, their history is explained; otherwise a line says why not. The
+// stream so far is saved, unless it is long. The report is saved if it is not shown whole, or if nothing else is saved.
 func (r *run) refutedStream() []string {
 	report, left, _ := strings.Cut(r.report, "\n")
 	said, isWhole := []string{report}, len(report) <= reportShown
@@ -2372,12 +2371,12 @@ func (r *run) refutedStream() []string {
 	if left != "" {
 		said = append(said, r.shownLeft(left)...)
 	} else {
-		said = append(said, "few calls are not shown: "+whyNotFew(report))
+		said = append(said, "the few calls are not shown: "+whyNotFew(report))
 	}
 	if r.kept != nil {
 		said = append(said, r.keep(".jsonl", string(r.kept)))
 	} else {
-		said = append(said, fmt.Sprintf("the stream is not kept, since it is longer than %d bytes", mostKept))
+		said = append(said, fmt.Sprintf("the stream is not saved, since it is longer than %d bytes", mostKept))
 	}
 	if !isWhole || left == "" && r.kept == nil {
 		said = append(said, r.keep("-report.json", report+"\n"))
@@ -2389,10 +2388,10 @@ func (r *run) refutedStream() []string {
 func (r *run) shownLeft(left string) []string {
 	explained, wrong := r.program.tried("explain", left)
 	if wrong != nil {
-		return []string{"few calls are not shown: " + wrong.line, r.keep(".json", left)}
+		return []string{"the few calls are not shown: " + wrong.line, r.keep(".json", left)}
 	}
 	if !strings.Contains(explained, "\n{\"answer\":") {
-		return []string{fmt.Sprintf("few calls are not shown: they are not found within a budget of %d", r.program.more()), r.keep(".json", left)}
+		return []string{fmt.Sprintf("the few calls are not shown: they are not found within a budget of %d", r.program.more()), r.keep(".json", left)}
 	}
 	return append([]string{saidRenumbered}, r.shown(left, explained, r.noted(roundOf(left)))...)
 }
@@ -2451,7 +2450,7 @@ func whyNotFew(report string) string {
 	case most == 0:
 		return "the call had taken effect by then, and its answer contradicts what it found"
 	case most > 1:
-		return "a key may have had each of these values before the calls \"invoked\""
+		return "a key may have had any of the listed values before the calls \"invoked\""
 	}
 	return "the calls \"invoked\" may have taken effect in several ways, or they fit no history: they are too many, or too many are open at once"
 }
@@ -2487,7 +2486,7 @@ func (r *run) refuted() []string {
 	kept := r.keep(".json", text) // before: the part that explains may be built first
 	report, wrong := r.program.tried("explain", text)
 	if wrong != nil {
-		return append(said, kept, "few calls are not shown: "+wrong.line, saidAgain+r.options.again(r.rounds))
+		return append(said, kept, "the few calls are not shown: "+wrong.line, saidAgain+r.options.again(r.rounds))
 	}
 	return append(append(said, r.shown(text, report, least.failed)...), saidAgain+r.options.again(r.rounds))
 }
@@ -2501,7 +2500,7 @@ const usage = `  --seconds N       how long (10, or as long as --rounds take)
   --hot N           nine calls in ten use one of the first N keys
   --calls N         calls of each thread in a round, or in a stream (200; no limit)
   --seed N          what the calls are drawn from (the clock)
-  --mix LIST        shares, as get=50,put=30,del=10,scan=10; also replace, put_if_absent, floor, ceiling, pop_first
+  --mix LIST        shares, such as get=50,put=30,del=10,scan=10; also replace, put_if_absent, floor, ceiling, pop_first
   --void HOW        done: a put or del may answer done; told: it must say the value before; own: one writer for each key remembers
                     what it put; lock: a lock for each key around a get and the put after it (done)
   --scan HOW        snapshot: a scan is of one moment; steps: steps of ceiling (snapshot)
@@ -2531,7 +2530,7 @@ func (o *options) total() (sum uint64) {
 	return sum
 }
 
-// Half of the calls or the keys, or a thread less; none where there are none.
+// Options with half of the calls or of the keys, or one thread less; none if that is not possible.
 func (o *options) less(how int) *options {
 	less := *o
 	less.rounds, less.shows = 1, false
@@ -2552,7 +2551,7 @@ func (o *options) less(how int) *options {
 const saidRenumbered = "here and in the files, events and processes have new numbers. The calls are those \"invoked\" above, by rising event:"
 const saidAgain = "  again (draws the same calls; threads may interleave otherwise): "
 
-// The words that repeat the draws of a run of so many rounds.
+// The options that repeat the draws of a run of this many rounds.
 func (o *options) again(rounds uint64) string {
 	mix := []string{}
 	for _, kind := range kinds {
@@ -2609,7 +2608,7 @@ func readWords(name string, words []string) *options {
 				o.cache = next
 				i++
 			} else if next != "" && !strings.HasPrefix(next, "--") {
-				fail(badWords, "--cache: late, or nothing")
+				fail(badWords, "--cache: only late may follow")
 			}
 		default:
 			o.read(words[i], next)
@@ -2643,7 +2642,7 @@ func (o *options) read(word, text string) {
 		"--void": {"done", "told", "own", "lock"}, "--scan": {"snapshot", "steps"}, "--break": append([]string{"all"}, breaks...),
 	}
 	if names, is := named[word]; is && !isOneOf(text, names...) {
-		fail(badWords, "%s: none of its names; --help has them", word)
+		fail(badWords, "%s: not one of its names; see --help", word)
 	}
 	to := map[string]*string{"--void": &o.void, "--scan": &o.scan, "--break": &o.broken, "--out": &o.out, "--bench": &o.bench}[word]
 	switch {
@@ -2653,7 +2652,7 @@ func (o *options) read(word, text string) {
 	case word == "--mix":
 		o.shares = readMix(text)
 	default:
-		fail(badWords, "%s: no such word; --help has them", word)
+		fail(badWords, "%s: no such option; see --help", word)
 	}
 }
 
@@ -2663,14 +2662,14 @@ func readMix(text string) map[string]uint64 {
 		pair := strings.Split(part+"=", "=")
 		share, err := strconv.ParseUint(pair[1], 10, 20)
 		if !isOneOf(pair[0], kinds...) || len(pair) != 3 || err != nil {
-			fail(badWords, "--mix: shares, as get=50,put=30,del=10,scan=10")
+			fail(badWords, "--mix: shares, such as get=50,put=30,del=10,scan=10")
 		}
 		mix[pair[0]] = share
 	}
 	return mix
 }
 
-// Whether what a broken map makes wrong is called; of all of them, whether what one of them does is.
+// Whether the functions that a broken map makes wrong are called; for `all`, whether those of one kind are.
 func (o *options) isCalled(how string) bool {
 	for _, one := range breaks {
 		if (how == one || how == "all") && o.shares[broken[one]] > 0 && !(one == "torn" && o.scan == "steps") {
@@ -2680,7 +2679,7 @@ func (o *options) isCalled(how string) bool {
 	return false
 }
 
-// The words together, and with what the map has.
+// Tests that the options fit each other and the functions of the map.
 func (o *options) fit(has functions, canReopen bool) {
 	isApart, isUsual := o.void == "own" || o.void == "lock", o.shares == nil
 	if isUsual {
@@ -2721,9 +2720,9 @@ func (o *options) fit(has functions, canReopen bool) {
 	case o.total() == 0:
 		fail(badWords, "--mix: no share")
 	case o.shares["pop_first"] > 0 && isApart:
-		fail(badWords, "pop_first: takes keys of others, so not with --void own or lock")
+		fail(badWords, "pop_first: takes keys of other threads, so not with --void own or lock")
 	case o.broken != "" && !o.isCalled(o.broken):
-		fail(badWords, "--break: what it makes wrong is not called")
+		fail(badWords, "--break: no call that it would break is made")
 	case o.hot > o.keys:
 		fail(badWords, "--hot: more than there are keys")
 	case o.void == "own" && o.keys < o.threads:
@@ -2737,7 +2736,7 @@ func (o *options) fit(has functions, canReopen bool) {
 	case o.isReopened && !canReopen:
 		fail(badWords, "--reopen: the map has no function Reopen")
 	case o.isStream && o.rounds > 0:
-		fail(badWords, "--rounds: a stream has none; --seconds, or --calls of each thread")
+		fail(badWords, "--rounds: a stream has no rounds; use --seconds, or --calls for each thread")
 	case !o.isStream && o.threads >= processes:
 		fail(badWords, "--threads: at most 63 in rounds; --stream has no such limit")
 	case !o.isStream && o.keys > most:
@@ -2752,7 +2751,7 @@ func (o *options) fit(has functions, canReopen bool) {
 	o.checkOut()
 }
 
-// Whether a file can be put into the folder for files: one is put there, and taken away.
+// Tests whether a file can be written into the folder for files: one is written there, and removed.
 func (o *options) checkOut() {
 	if o.out == "-" {
 		return
@@ -2768,7 +2767,7 @@ func (o *options) checkOut() {
 			err = cause.Err
 		}
 		said := err.Error()
-		fail(badFile, "--out: no file can be put into %s: %s", o.out, strings.ToUpper(said[:1])+said[1:])
+		fail(badFile, "--out: no file can be written into %s: %s", o.out, strings.ToUpper(said[:1])+said[1:])
 	}
 }
 
@@ -2835,12 +2834,12 @@ func tested(name string, make func() Map, words []string) (status int, said []st
 	return status, append(r.cut, calls), r.summary(verdicts[status]), nil
 }
 
-// Each way to go wrong that the drawn calls can show has to be refuted: then the status is that of a no.
+// Each kind of bug that the drawn calls can show has to be refuted. Then the status is that of a no.
 func allBroken(o *options, make func() Map, p *program, has functions) (int, []string, string) {
 	said, missed, called := []string{}, 0, map[string]uint64{}
 	for _, how := range breaks {
 		if o.broken = how; !o.isCalled(how) {
-			said = append(said, how+": what it makes wrong is not called")
+			said = append(said, how+": no call that it would break is made")
 			continue
 		}
 		r, verdict := newRun(o, make, p, 0), "no"
@@ -2848,7 +2847,7 @@ func allBroken(o *options, make func() Map, p *program, has functions) (int, []s
 			verdict = "yes"
 			missed++
 		} else if r.wrongTimes == 0 {
-			verdict = "no of the map as it is"
+			verdict = "no of the map itself"
 			missed++
 		}
 		said = append(said, how+": "+r.summary(verdict))
@@ -2864,7 +2863,7 @@ func allBroken(o *options, make func() Map, p *program, has functions) (int, []s
 	return no, said, "no: each broken map was refuted"
 }
 
-// Run is a whole program: it says how it went, and answers the status. `make` makes a new and empty map, for each run.
+// Run is a whole program: it reports how the run went, and returns the status. `make` makes a new and empty map for each run.
 func Run(name string, make func() Map, words ...string) int {
 	if isOneOf("--help", words...) || isOneOf("-h", words...) {
 		return printed(yes, fmt.Sprintf("usage: %s [OPTIONS]\n%s", name, usage))
@@ -2883,7 +2882,7 @@ func Run(name string, make func() Map, words ...string) int {
 	return printed(status, last)
 }
 
-// Prints a text, and answers the status: where standard output has no room that of a yes is another one.
+// Prints a text, and returns the status. If standard output has no room, a yes gets another status.
 func printed(status int, text string) int {
 	if _, err := fmt.Println(text); err != nil {
 		fmt.Fprintln(os.Stderr, "standard output: not written")
@@ -2894,7 +2893,7 @@ func printed(status int, text string) int {
 	return status
 }
 
-// Check is to be called from a test: the error has the explanation where the verdict is no yes.
+// Check is for a test: the error has the explanation if the verdict is not yes.
 func Check(name string, make func() Map, words ...string) error {
 	status, said, last, wrong := tested(name, make, words)
 	if wrong != nil {

@@ -43,8 +43,8 @@ import java.util.regex.Pattern;
 import java.util.stream.Collectors;
 
 /**
- * Tests an ordered map of one's own: threads call its functions, what they do is recorded, and the program {@code bench} judges each
- * recording, or follows one stream of it. Copy this file: Java 17 and the program are all that it needs.
+ * Tests an ordered map of your own. Threads call its functions, and what they do is recorded. The program {@code bench} judges each recording, or
+ * follows one stream. Copy this file: it needs only Java 17 and the program.
  *
  * <pre>
  * public static void main(String[] words) {
@@ -56,16 +56,16 @@ import java.util.stream.Collectors;
  */
 public final class Potzendai {
     /**
-     * A map of numbers. Any function but {@code get} and {@code put} may be left as it is: it is not called then. A function answers what
-     * {@link Said} has; an {@link IOException}, {@link UncheckedIOException} or {@link TimeoutException} means that nobody knows whether it
-     * was done. Nothing else changes the map.
+     * A map of numbers. Any function except {@code get} and {@code put} may be left as it is; then it is not called. A function answers what
+     * {@link Said} has. An {@link IOException}, {@link UncheckedIOException} or {@link TimeoutException} means that nobody knows whether it was done.
+     * Nothing else changes the map.
      */
     public interface Index {
-        /** What one thread calls in the place of the map. It is closed at the end of a run. */
+        /** What one thread calls instead of the map. It is closed at the end of a run. */
         default Index connection() { return this; }
-        /** Of a connection at the end of a run, and of a map once it is used no more. */
+        /** Closes a connection at the end of a run, and a map after its last use. */
         default void close() { }
-        /** For {@code --reopen}: closes the map at rest, and answers it opened again, with what it held. */
+        /** For {@code --reopen}: closes the map at rest, and returns it opened again, with what it held. */
         default Index reopen() throws Exception { throw new UnsupportedOperationException(); }
         /** The value. */
         Said get(long key) throws Exception;
@@ -75,19 +75,19 @@ public final class Potzendai {
         default Said del(long key) throws Exception { throw new UnsupportedOperationException(); }
         /** The pairs of one moment, both ends included, by rising keys. */
         default Said scan(long low, long high) throws Exception { throw new UnsupportedOperationException(); }
-        /** The value found; or DONE where it was replaced, OTHER where it was not. */
+        /** The value found; or DONE if it was replaced, OTHER if it was not. */
         default Said replace(long key, long old, long value) throws Exception { throw new UnsupportedOperationException(); }
-        /** NONE where it was put; else the value found. */
+        /** NONE if it was put, otherwise the value found. */
         default Said putIfAbsent(long key, long value) throws Exception { throw new UnsupportedOperationException(); }
         /** The greatest pair up to the key. */
         default Said floor(long key) throws Exception { throw new UnsupportedOperationException(); }
         /** The least pair from the key on. */
         default Said ceiling(long key) throws Exception { throw new UnsupportedOperationException(); }
-        /** The least pair, which is taken. */
+        /** The least pair, which is removed. */
         default Said popFirst() throws Exception { throw new UnsupportedOperationException(); }
     }
 
-    /** Words that a function may answer: of FOUND the value is not reported, UNKNOWN leaves the call open. */
+    /** The words that a function may answer. FOUND does not report the value, and UNKNOWN leaves the call open. */
     public enum Word { TOLD, NONE, DONE, FOUND, OTHER, REFUSED, UNKNOWN }
 
     /** What a function of the map answers. */
@@ -122,7 +122,7 @@ public final class Potzendai {
         @Override public Said putIfAbsent(long key, long value) { return Said.told(map.putIfAbsent(key, value)); }
     }
 
-    /** Its ranges promise no moment, so that they are no scans; their steps are. */
+    /** The map does not promise that a range is of one moment, so ranges are no scans; steps are. */
     private static class OfNavigableMap extends OfMap {
         final ConcurrentNavigableMap<Long, Long> map;
         OfNavigableMap(ConcurrentNavigableMap<Long, Long> map) { super(map); this.map = map; }
@@ -162,12 +162,12 @@ public final class Potzendai {
     private static final int YES = 0, NO = 1, UNDECIDED = 2, MEMORY = 4, WORDS = 5, FILE = 6;
     private static final List<String> VERDICTS = List.of("yes", "no", "undecided");
     private static final int PROCESSES = 64, CALLS = 4096, SPAN = 16, SELDOM = 20;
-    /** Limits of a stream and of its keys; how many stamps a thread may be ahead of what is handed over; how many characters are at once. */
+    /** The limits of a stream and of its keys; how many stamps a thread may be ahead of what is written; how many characters are written at once. */
     private static final int STREAM_PROCESSES = 65536, STREAM_KEYS = 16384, AHEAD = 8192, BATCH = 65536;
     private static final int RUNNING = 0, OVER = 1, FAILED = 2;
     private static final int REPORT_SHOWN = 1000, KEPT = 1 << 26; // of a report the characters shown, of a stream the bytes kept for a file
     private static final long OWN_VALUES = Long.MIN_VALUE; // under --cache, values from here on are the driver's own
-    /** How many calls a stream has on behalf of one; of how many of its events the notes are kept; how many other open calls are shown. */
+    /** How many calls a stream may have on behalf of one call; how many of its last events keep their notes; how many other open calls are shown. */
     private static final int BESIDE = 32, NOTES = 1000000, OPEN_SHOWN = 6;
     private static final int BATCH_ROUNDS = 64, BATCH_CALLS = 256; // so many rounds are judged together, of so many calls
     private static final String RENUMBERED =
@@ -215,14 +215,14 @@ public final class Potzendai {
     private static volatile long yields;
     private static volatile boolean hasPoints;
 
-    /** To be called by a map's functions where another thread should get in between: under {@code --yield} it sometimes does. */
+    /** A map's functions may call this at each place where another thread should be able to run: under {@code --yield} it sometimes does. */
     public static void point() {
         if (!hasPoints)
             hasPoints = true;
         giveWay();
     }
 
-    /** To be called by a map's read once its snapshot is taken: the read counts as answered at this moment, and its pairs may be read later. */
+    /** A map's read may call this when it has its snapshot. The read counts as answered at that moment, and may read its pairs later. */
     public static void taken() {
         Worker worker = WORKER.get();
         if (worker != null)
@@ -252,7 +252,7 @@ public final class Potzendai {
                 text.append(',').append(Long.toUnsignedString(word));
             return text.append(']').toString();
         }
-        /** The call at keys that are moved up. A range ends at the last of so many keys. */
+        /** The call with its keys moved up. A range ends at the last of this many keys. */
         Call moved(long by, long keys) {
             long[] moved = words.clone();
             moved[0] += by;
@@ -269,14 +269,14 @@ public final class Potzendai {
             return list;
         }
 
-        /** Whether an answer reports what this call puts: then it was done. */
+        /** Whether an answer reports what this call puts. Then the call was done. */
         boolean isToldBy(String answer) {
             String value = Long.toUnsignedString(words[words.length - 1]);
             return !name.equals("remove") && answer != null && (answer.equals(value) || answer.contains("," + value + "]"));
         }
     }
 
-    /** A call with its answer as a text, null where it has none; a note of the call as it was made, where that is another one; and further calls of
+    /** A call with its answer as a text, null if it has none. Also a note of the call as it was made, if that is another one, and further calls of
      * the same interval, each by a process of its own. */
     private record Noted(Call call, String answer, String note, List<Noted> beside) {
         Noted(Call call, String answer) { this(call, answer, null, List.of()); }
@@ -353,8 +353,8 @@ public final class Potzendai {
         return new Noted(new Call(kind.call, words), answerText(said));
     }
 
-    /** The same for a cache, which may lose any key at any time: of a miss, that the key is gone from then on. So this history has an order if and
-     * only if the cache's own has one in which keys may be lost. Late: a miss says nothing. */
+    /** What a history has of a call of a cache, which may lose any key at any time. A miss is recorded so that the key has no value from then on. So
+     * this history has an order if and only if the cache's own has one in which keys may be lost. Late: a miss says nothing. */
     private static Noted recorded(Options options, Kind kind, long[] words, Said said, Supplier<Long> fresh) {
         Noted plain = noted(kind, words, said);
         boolean isNone = said.word == Word.NONE, isLate = "late".equals(options.cache), isPut = kind == Kind.PUT || kind == Kind.PUT_IF_ABSENT;
@@ -438,7 +438,7 @@ public final class Potzendai {
 
         private boolean goesWrong(String name) { return how.equals(name) && draws.below(SELDOM) == 0; }
 
-        /** Does the put that still comes, soon. */
+        /** Makes a put that is still to come, soon. */
         private Index caughtUp() throws Exception {
             if (late != null && draws.below(2) == 1) {
                 long[] now = late;
@@ -449,7 +449,7 @@ public final class Potzendai {
             return truly;
         }
 
-        /** What the put of the map would say where a get says this. */
+        /** What the put of the map would say if a get says this. */
         private Said inStyle(Said got) {
             return style == Word.DONE ? Said.DONE : style == Word.FOUND && got.word == Word.TOLD ? Said.FOUND : got;
         }
@@ -468,8 +468,8 @@ public final class Potzendai {
             return said;
         }
 
-        /** Makes a get and then a put, as if they were one call. If the put reports what it found, the get is of the same key. Else it is of the
-         * key next to it, which is put back as it was got. */
+        /** Makes a get and then a put, as if they were one call. If the put reports what it found, the get is of the same key. Otherwise the get is
+         * of the key next to it, and what it got is put back. */
         private Said race(long key, long value) throws Exception {
             long beside = style == Word.TOLD || (key ^ 1) >= keys ? key : key ^ 1;
             Said got = truly.get(beside);
@@ -543,12 +543,12 @@ public final class Potzendai {
 
     // Threads and what they record
 
-    /** An event: the invocation of a call, with the note of that, or an answer where that is null; of which function it is, unless no thread called
-     * one, and what that said, once it is over. */
+    /** An event: the invocation of a call with its note, or an answer if the call is null. It names the function, unless no thread called one, and
+     * what the function said, when the call is over. */
     private record Event(long stamp, int thread, int life, Call call, String answer, String note, String kind, Word said, List<Noted> beside) {
         Event(int process, Call call, String answer, String note) { this(0, process, 0, call, answer, note, null, null, List.of()); }
 
-        /** The two of a call, of which the second is none where the call stays open. */
+        /** The two events of a call; there is no second one if the call stays open. */
         static List<Event> of(long begin, long end, int thread, int life, String kind, Word said, Noted noted) {
             Event first = new Event(begin, thread, life, noted.call, null, noted.note, kind, null, noted.beside);
             return noted.answer == null ? List.of(first)
@@ -563,10 +563,11 @@ public final class Potzendai {
         return kind != null && (kind.equals("put") || kind.equals("del") || kind.equals("replace") || kind.equals("put_if_absent"));
     }
 
-    /** The number of the round, as how many processes a thread may go on, what the map holds, and keys at which calls have no answer. */
+    /** The number of the round, how many processes a thread may be in turn, what the map holds, and the keys at which calls have no answer. */
     private record Task(long round, int lives, Map<Long, Long> start, Set<Long> doubtful, long valuesFrom) { }
 
-    /** The lock of a key; and whether a call that writes it has no answer, and so may still come between a get and the put after it. */
+    /** The lock of a key, and whether a call that writes the key has no answer. Such a call may still take effect between a get and the put after
+     * it. */
     private static final class KeyLock extends ReentrantLock {
         private static final long serialVersionUID = 1;
         boolean isDoubtful;
@@ -612,7 +613,7 @@ public final class Potzendai {
 
         long wrongTimes() { return wrongTimes + (broken == null ? 0 : broken.times); }
 
-        /** Takes this moment as the answer of the open call, if that only reads. Of several such moments the last one counts. */
+        /** Takes this moment as that of the answer of the open call, if the call only reads. Of several such moments the last one counts. */
         void take() {
             if (!isReading)
                 return;
@@ -643,7 +644,7 @@ public final class Potzendai {
             return log;
         }
 
-        /** Whether it may make one call more. */
+        /** Whether it may make one more call. */
         private boolean goesOn() {
             boolean isRunning = stream == null || stream.state.get() == RUNNING && process < STREAM_PROCESSES;
             return isRunning && life < lives && (made < options.calls || options.calls == 0);
@@ -781,20 +782,20 @@ public final class Potzendai {
         }
     }
 
-    /** A part of what a stamp of a stream has: a call of a process with its note, or its answer, or null if it stays open. */
+    /** A part of what a stamp of a stream has: a call of a process with its note, or its answer, or null if the call stays open. */
     private record Part(int process, Call call, String answer, String note) { }
 
-    /** What a stamp of a stream has: first the event of a thread, then those on behalf of it; of which function they are; and what the map said,
-     * if this ends a call. */
+    /** What a stamp of a stream has: first the event of a thread, then the events on its behalf; their function; and what the map said, if this ends
+     * a call. */
     private record Happening(List<Part> parts, String kind, Word said, boolean isLeftOut) { }
 
     /** A call that is open, and when it began. */
     private record Opened(Call call, long stored) { }
 
     /**
-     * A stream of events, which a thread of its own hands on while others record. Stamps are numbers without a gap, and each has its slot. Who
-     * is too far ahead of what is handed over waits, so that memory does not grow. Between its two stamps nobody waits except for lower stamps,
-     * so the event of the least stamp always comes.
+     * A stream of events, which a thread of its own writes to the program while others record. Stamps are numbers without a gap, and each has its
+     * slot. A thread that is too far ahead of what is written waits, so that memory does not grow. Between its two stamps a thread waits only for
+     * lower stamps, so the event of the least stamp always comes.
      */
     private static final class Stream implements Runnable, AutoCloseable {
         final AtomicReferenceArray<Happening> slots = new AtomicReferenceArray<>(AHEAD);
@@ -839,7 +840,7 @@ public final class Potzendai {
             slots.set((int) (stamp % AHEAD), what);
         }
 
-        /** Lets others go on: most times at once, sometimes for some time. */
+        /** Lets other threads run: most times once, sometimes for some time. */
         private static void rest(int times) {
             if (times % 64 != 0)
                 Thread.yield();
@@ -847,7 +848,7 @@ public final class Potzendai {
                 LockSupport.parkNanos(100000);
         }
 
-        /** Hands over each event in its turn, and asks for the verdict at the end. */
+        /** Writes each event in its turn, and asks for the verdict at the end. */
         @Override public void run() {
             try {
                 if (run.program == null) {
@@ -876,7 +877,7 @@ public final class Potzendai {
             }
         }
 
-        /** The program writes once it has a verdict, and may do so while the stream is still running: then the run is over. */
+        /** The program prints its verdict when it has one, which may be while the stream is still running. Then the run is over. */
         private void read() {
             try {
                 report = process.getInputStream().readAllBytes();
@@ -920,8 +921,8 @@ public final class Potzendai {
             run.progress();
         }
 
-        /** The lines of events, and what is counted: as of a round, but nothing is stored of calls that are over. A call without an answer is over
-         * too: nobody waits for it. */
+        /** The lines of events, and the counts, as for a round. But nothing is stored of calls that are over. A call without an answer is over too:
+         * nobody waits for it. */
         private void take(Happening what) {
             for (Part part : what.parts) {
                 if (part.call == null && part.answer == null)
@@ -958,7 +959,7 @@ public final class Potzendai {
                 writers.computeIfPresent(key, (of, count) -> count > 1 ? count - 1 : null);
         }
 
-        /** No more is put. What comes of it is the status and the report, or what went wrong. */
+        /** Ends the stream. Returns the status and the report, or what went wrong. */
         @Override public void close() {
             timer.cancel();
             isEnded = true;
@@ -1020,7 +1021,7 @@ public final class Potzendai {
             connection = null;
         }
 
-        /** Closes the map, which is used no more. */
+        /** Closes the map after its last use. */
         void end() {
             closeConnections();
             if (map != null)
@@ -1039,13 +1040,13 @@ public final class Potzendai {
                 throw new Stop(WORDS, options.name + ": reopen: " + wrong);
             }
             if (opened == null)
-                throw new Stop(WORDS, options.name + ": reopen said nothing, where it has to return the map");
+                throw new Stop(WORDS, options.name + ": reopen returned nothing; it has to return the map");
             open(opened);
         }
 
         private interface Part { List<Event> of(Worker worker) throws Exception; }
 
-        /** Has each thread do its part. Where one goes wrong, the run ends. */
+        /** Lets each thread do its part. If one goes wrong, the run ends. */
         private List<Event> each(Part part) {
             List<Future<List<Event>>> futures = new ArrayList<>();
             for (Worker worker : workers)
@@ -1073,7 +1074,7 @@ public final class Potzendai {
             throw (Error) wrong;
         }
 
-        /** A round: its events, with gets of all keys after those of the threads. What these gets report is `contents` then. */
+        /** A round: its events, with gets of all keys after those of the threads. Then `contents` is what these gets report. */
         List<Event> round(Task task) {
             AtomicInteger missing = new AtomicInteger(workers.size());
             List<Event> events = each(worker -> {
@@ -1117,7 +1118,7 @@ public final class Potzendai {
             return events;
         }
 
-        /** The function by which is known what a key holds: a put of a new value or, at each second key, a del. Of a cache, a del. */
+        /** The function after which it is known what a key holds: a put of a new value or, at each second key, a del. For a cache it is a del. */
         private Kind writer(long key, long round) {
             return options.hasDel && (options.cache != null || (key + round) % 2 == 1) ? Kind.DEL : Kind.PUT;
         }
@@ -1159,7 +1160,7 @@ public final class Potzendai {
         String atStart = "at the start", nobody = "nobody";
         long calls, overlap, leftOut;
 
-        /** A history of what a follower still had, as far as what is said of it needs that. */
+        /** A history of what a follower still had, as far as the report needs it. */
         Round(String history) {
             Map<?, ?> whole = (Map<?, ?>) Json.of(history);
             start = new TreeMap<>();
@@ -1176,7 +1177,7 @@ public final class Potzendai {
             }
         }
 
-        /** The same calls, with the notes that a stream had of them: those of the calls "invoked" of its report, by rising event. */
+        /** These calls, which the report lists under "invoked", by rising event, with the notes that the stream had of them. */
         void note(List<Long> invoked, Map<Long, String> notes) {
             List<Integer> calls = new ArrayList<>();
             for (int i = 0; i < events.size(); i++)
@@ -1186,8 +1187,8 @@ public final class Potzendai {
                 events.set(calls.get(i), new Event(events.get(calls.get(i)).thread, events.get(calls.get(i)).call, null, notes.get(invoked.get(i))));
         }
 
-        /** Each thread, and each of its lives, becomes a process. So does who makes further calls on behalf of one. Calls from before that have no
-         * answer are the first processes. */
+        /** Each thread, and each of its lives, becomes a process. Further calls on behalf of a call get a process of their own. Calls from earlier
+         * rounds that have no answer are the first processes. */
         Round(List<Event> noted, Map<Long, Long> start, List<Call> before, Tally tally) {
             this.start = start;
             this.before = before.size();
@@ -1202,8 +1203,8 @@ public final class Potzendai {
             return numbers.computeIfAbsent(who, is -> before + numbers.size());
         }
 
-        /** The events of the threads. Further calls of one are made by processes that are free; where there are none, or too many calls, it is left
-         * out with them. */
+        /** The events of the threads. The further calls of a call get processes that are free. If there are none, or too many calls, the call is left
+         * out with its further calls. */
         private void order(List<Event> noted) {
             Set<List<Integer>> own = new HashSet<>(), left = new HashSet<>();
             noted.forEach(event -> own.add(event.who()));
@@ -1240,8 +1241,8 @@ public final class Potzendai {
             }
         }
 
-        /** How many calls were open where another began, at which keys two writers met, and which changes may still come. A call without an answer
-         * is none that others overlap. */
+        /** How many calls were open when another began, at which keys two writers met, and which changes may still come. A call without an answer
+         * does not count as overlapped. */
         private List<Call> measure(Tally tally) {
             Set<Event> answered = java.util.Collections.newSetFromMap(new java.util.IdentityHashMap<>());
             Map<Integer, Event> open = new LinkedHashMap<>();
@@ -1272,7 +1273,7 @@ public final class Potzendai {
             return open.values().stream().map(Event::call).filter(call -> events.stream().noneMatch(event -> call.isToldBy(event.answer))).toList();
         }
 
-        /** The pairs that an answer has, or none where it is no list of them. */
+        /** The pairs of an answer, or none if it is not a list of pairs. */
         private static List<long[]> pairs(String answer) {
             List<long[]> pairs = new ArrayList<>();
             if (answer != null && answer.startsWith("[["))
@@ -1281,7 +1282,7 @@ public final class Potzendai {
             return pairs;
         }
 
-        /** Whether all its keys are below `keys` and all its calls have answers: then it may be judged together with others. */
+        /** Whether all its keys are below `keys` and all its calls have answers. Then it may be judged together with other rounds. */
         boolean isApart(long keys) {
             long count = 0;
             for (Event event : events) {
@@ -1328,10 +1329,11 @@ public final class Potzendai {
             + ",\"process\":" + process + "}";
     }
 
-    /** How often gets found a value; and how often a key was lost, so that nothing was found where a put was answered and no delete begun since. */
+    /** How often gets found a value, and how often a key was lost. A key is lost if nothing is found although a put of it was answered, and no delete
+     * has begun since. */
     private static final class Tally {
         long hits, misses, losses, clock;
-        /** When a put ended; open deletes; when a delete began or ended last. */
+        /** When a put ended, how many deletes are open, and when a delete began or ended last. */
         private final Map<Long, Long> stored = new HashMap<>(), deletes = new HashMap<>(), deleted = new HashMap<>();
 
         private static boolean deletes(String kind) { return kind.equals("del") || kind.equals("pop_first"); }
@@ -1385,7 +1387,7 @@ public final class Potzendai {
             return program;
         }
 
-        /** Returns the program that runs a command. Once the repository's own `bench` has answered, this is the last program that `bench` built:
+        /** Returns the program that runs a command. After the repository's own `bench` has answered, this is the program that `bench` built last. For
          * `bench` itself takes as long as ten rounds to see that nothing has changed. */
         String at(String command) {
             if (!answered.contains(command.equals("judge")) || !path.endsWith("/bench")) return path;
@@ -1397,13 +1399,13 @@ public final class Potzendai {
 
         record Answer(int status, String text) { }
 
-        /** Asks once more at ten times the budget where the verdict is undecided. */
+        /** If the verdict is undecided, it is asked again at ten times the budget. */
         Answer askTwice(String command, String text) {
             Answer answer = ask(command, text, budget);
             return answer.status == UNDECIDED ? ask(command, text, more()) : answer;
         }
 
-        /** The budget of what is asked again. */
+        /** The budget of a question that is asked again. */
         long more() { return Math.min(10 * budget, 1000000); }
 
         Answer ask(String command, String text, long budget) {
@@ -1413,7 +1415,7 @@ public final class Potzendai {
                 try (var in = process.getOutputStream()) {
                     in.write(text.getBytes(StandardCharsets.UTF_8));
                 } catch (IOException broken) {
-                    // It has ended before it read all: its status says why.
+                    // The program has ended before it read everything; its status says why.
                 }
                 String answer = new String(process.getInputStream().readAllBytes(), StandardCharsets.UTF_8);
                 return checked(command, process.waitFor(), answer);
@@ -1422,7 +1424,7 @@ public final class Potzendai {
             }
         }
 
-        /** The status with its report, where the program has given one. */
+        /** The status with its report, if the program has given one. */
         Answer checked(String command, int status, String answer) {
             if (status > UNDECIDED)
                 throw new Stop(status <= FILE ? status : FILE, path + " " + command + ": status " + status);
@@ -1436,8 +1438,7 @@ public final class Potzendai {
 
     // A run
 
-    /** Rounds at a new map, each of which begins with what the one before has left: the pairs, and calls without an answer that may still
-     * come. */
+    /** Rounds at a new map. Each begins with what the one before has left: the pairs, and calls without an answer that may still take effect. */
     private static final class Run {
         final Options options;
         final Supplier<? extends Index> make;
@@ -1544,7 +1545,7 @@ public final class Potzendai {
             conclude(stream);
         }
 
-        /** What the verdict on a stream says. One that was cut off has no yes. */
+        /** What the verdict on a stream says. A stream that was cut off gets no yes. */
         private void conclude(Stream stream) {
             boolean isCut = stream.state.get() == FAILED || program != null && !stream.answer.startsWith("{\"calls\":" + (calls + helped) + ",");
             if (stream.status == YES && isCut)
@@ -1590,7 +1591,8 @@ public final class Potzendai {
                 judgeWaiting();
         }
 
-        /** Judges the rounds that wait: all at once, and each on its own where that is not a yes. Of a no, what was counted is that up to its end. */
+        /** Judges the rounds that wait: first all together, and each on its own if that is not a yes. After a no, only what was counted up to its end
+         * counts. */
         private void judgeWaiting() {
             List<Waiting> all = List.copyOf(waiting);
             waiting.clear();
@@ -1620,7 +1622,7 @@ public final class Potzendai {
 
         double seconds() { return (System.nanoTime() - began) / 1e9; }
 
-        /** So many of a noun. */
+        /** A number with its noun. */
         private static String counted(long count, String noun) { return count + " " + noun + (count == 1 ? "" : noun.endsWith("s") ? "es" : "s"); }
 
         /** At least one round is made. */
@@ -1629,7 +1631,7 @@ public final class Potzendai {
             return rounds > 0 && (options.rounds > 0 && rounds >= options.rounds || seconds() >= options.seconds);
         }
 
-        /** Each second a line on a terminal says how far this is. */
+        /** Each second a line on a terminal says how far the run is. */
         void progress() {
             if (options.shows && System.nanoTime() - options.shown > 1000000000L && calls > 0) {
                 options.shown = System.nanoTime();
@@ -1640,7 +1642,7 @@ public final class Potzendai {
             }
         }
 
-        /** The verdict, and what it rests on. */
+        /** The verdict, and the counts on which it is based. */
         String summary(String verdict) {
             String said = sayings.entrySet().stream().map(one -> one.getValue() + " " + one.getKey().name().toLowerCase())
                 .collect(Collectors.joining(", "));
@@ -1683,8 +1685,8 @@ public final class Potzendai {
             return said;
         }
 
-        /** The smallest run that failed, of some tries with half of the calls or keys, or a thread less. Threads interleave as they will. Where
-         * calls have no answer none is tried, since they may still come. */
+        /** The smallest run that failed, of some tries with half of the calls or keys, or a thread less. Threads interleave as they will. If calls
+         * have no answer, nothing smaller is tried, since they may still take effect. */
         Run smaller() {
             Run best = this;
             long until = System.nanoTime() + 5000000000L;
@@ -1797,7 +1799,7 @@ public final class Potzendai {
 
     private static String saidCall(Call call) { return saidCall(call.list()); }
 
-    /** The call of an event as it was made, where a history has another one; else null. */
+    /** The call of an event as it was made, if the history has another one; otherwise null. */
     private static String noteOf(Round round, long number) {
         return number < round.events.size() ? round.events.get((int) number).note : null;
     }
@@ -1808,7 +1810,7 @@ public final class Potzendai {
         return note != null ? note.split(":")[0].replace("answered none", "which found none") + "," : saidCall(call);
     }
 
-    /** The event of a call's answer, or the end where it has none. */
+    /** The event of a call's answer, or the end if it has none. */
     private static int lastEvent(Round round, int invoked) {
         for (int i = invoked + 1; i < round.events.size(); i++)
             if (round.events.get(i).thread == round.events.get(invoked).thread)
@@ -1839,7 +1841,7 @@ public final class Potzendai {
         return said.isEmpty() ? List.of() : List.of("  also open on the same keys meanwhile: " + String.join(", ", first));
     }
 
-    /** The events of a call: that of its invocation by a process, and that of its answer, where it has one. */
+    /** The events of a call: that of its invocation by a process, and that of its answer if it has one. */
     private static String saidEvents(Round round, long invoked, long process) {
         for (int i = (int) invoked + 1; i < round.events.size(); i++)
             if (round.events.get(i).thread == process)
@@ -1870,7 +1872,7 @@ public final class Potzendai {
             + (who.isEmpty() ? "what " + round.nobody + " put" : String.join(", ", who));
     }
 
-    /** From which value of a key the few calls have no order. Only an undecided report has such lines. */
+    /** The value of a key from which the few calls have no order. Only an undecided report has such lines. */
     private static String saidFrom(Map<?, ?> line) {
         String begin = "  from key " + saidAnswer(line.get("key")) + " holding ";
         if (line.get("from") == null)
@@ -1890,7 +1892,7 @@ public final class Potzendai {
         return said.toString();
     }
 
-    /** A report of `explain` in words. After an undecided, `locate` has a line, which is passed over. */
+    /** A report of `explain` in words. After an undecided there is a line of `locate`, which is skipped. */
     private static List<String> saidReport(List<String> report, Round round) {
         List<String> said = new ArrayList<>(List.of(saidVerdict(report.get(0))));
         List<Map<?, ?>> lines = new ArrayList<>();
@@ -1928,7 +1930,7 @@ public final class Potzendai {
         return said;
     }
 
-    /** A line of a report, without the values that replaces of a cache put which said that they changed nothing. */
+    /** A line of a report, without the values that some replaces of a cache put: those that said that they changed nothing. */
     private static String unmarked(String line) {
         return Pattern.compile("[0-9]{19,20}").matcher(line).replaceAll(found -> {
             long value = Long.parseUnsignedLong(found.group());
@@ -1936,7 +1938,7 @@ public final class Potzendai {
         });
     }
 
-    /** Writes a file of a round, or of a stream, and says how it is called. */
+    /** Writes a file of a round, or of a stream, and says its name. */
     private static String keep(Run run, String ending, byte[] text) {
         long round = Math.max(run.rounds - 1, 0);
         Path path = Path.of(run.options.out, run.options.name + "-" + Long.toUnsignedString(run.options.seed) + "-" + round + ending);
@@ -1952,7 +1954,7 @@ public final class Potzendai {
         return keep(run, ending, text.getBytes(StandardCharsets.UTF_8));
     }
 
-    /** Keeps the file that the program makes of a history, or says why there is none. */
+    /** Saves the file that the program makes of a history, or says why there is none. */
     private static String keepMade(Run run, String command, String ending, String text) {
         try {
             return keep(run, ending, run.program.askTwice(command, text).text);
@@ -1961,7 +1963,7 @@ public final class Potzendai {
         }
     }
 
-    /** Reports a stream that has no order. If the calls that are left show the fault, their history is explained; else a line says why not. The
+    /** Reports a stream that has no order. If the calls that are left show the fault, their history is explained; otherwise a line says why not. The
      * stream so far is saved, unless it is long. The report is saved if it is not shown whole, or if nothing else is saved. */
     private static List<String> refutedStream(Run run) {
         List<String> lines = run.report.lines().toList(), said = new ArrayList<>();
@@ -1971,8 +1973,8 @@ public final class Potzendai {
         if (left != null)
             said.addAll(shownLeft(run, left));
         else
-            said.add("few calls are not shown: " + whyNotFew(report));
-        said.add(run.kept == null ? "the stream is not kept, since it is longer than " + KEPT + " bytes"
+            said.add("the few calls are not shown: " + whyNotFew(report));
+        said.add(run.kept == null ? "the stream is not saved, since it is longer than " + KEPT + " bytes"
             : keep(run, ".jsonl", run.kept.toByteArray()));
         if (!isWhole || left == null && run.kept == null)
             said.add(keep(run, "-report.json", report + "\n"));
@@ -1987,10 +1989,10 @@ public final class Potzendai {
         try {
             explained = run.program.askTwice("explain", left).text;
         } catch (Stop stop) {
-            return List.of("few calls are not shown: " + stop.getMessage(), keep(run, ".json", left));
+            return List.of("the few calls are not shown: " + stop.getMessage(), keep(run, ".json", left));
         }
         if (!explained.contains("\n{\"answer\":"))
-            return List.of("few calls are not shown: they are not found within a budget of " + run.program.more(), keep(run, ".json", left));
+            return List.of("the few calls are not shown: they are not found within a budget of " + run.program.more(), keep(run, ".json", left));
         List<String> said = new ArrayList<>(List.of(RENUMBERED));
         Round round = new Round(left);
         TreeSet<Long> invoked = new TreeSet<>();
@@ -2012,7 +2014,7 @@ public final class Potzendai {
             case 0 -> "the call had taken effect by then, and its answer contradicts what it found";
             case 1 -> "the calls \"invoked\" may have taken effect in several ways, or they fit no history: they are too many, or too many are open "
                 + "at once";
-            default -> "a key may have had each of these values before the calls \"invoked\"";
+            default -> "a key may have had any of the listed values before the calls \"invoked\"";
         };
     }
 
@@ -2045,7 +2047,7 @@ public final class Potzendai {
         try {
             said.addAll(shown(run, text, run.program.askTwice("explain", text).text, least.failed));
         } catch (Stop stop) {
-            said.addAll(List.of(kept, "few calls are not shown: " + stop.getMessage()));
+            said.addAll(List.of(kept, "the few calls are not shown: " + stop.getMessage()));
         }
         said.add(AGAIN + run.options.again(run.rounds));
         return said;
@@ -2061,7 +2063,7 @@ public final class Potzendai {
         --hot N           nine calls in ten use one of the first N keys
         --calls N         calls of each thread in a round, or in a stream (200; no limit)
         --seed N          what the calls are drawn from (the clock)
-        --mix LIST        shares, as get=50,put=30,del=10,scan=10; also replace, put_if_absent, floor, ceiling, pop_first
+        --mix LIST        shares, such as get=50,put=30,del=10,scan=10; also replace, put_if_absent, floor, ceiling, pop_first
         --void HOW        done: a put or del may answer done; told: it must say the value before; own: one writer for each key remembers
                           what it put; lock: a lock for each key around a get and the put after it (done)
         --scan HOW        snapshot: a scan is of one moment; steps: steps of ceiling (snapshot)
@@ -2088,7 +2090,7 @@ public final class Potzendai {
 
         long total() { return shares.values().stream().mapToLong(Long::longValue).sum(); }
 
-        /** Half of the calls or the keys, or a thread less; null where there are none. */
+        /** Options with half of the calls or of the keys, or one thread less; null if that is not possible. */
         Options less(int how) {
             try {
                 Options less = (Options) clone();
@@ -2103,7 +2105,7 @@ public final class Potzendai {
             }
         }
 
-        /** The words that repeat the draws of a run of so many rounds. */
+        /** The options that repeat the draws of a run of this many rounds. */
         String again(long rounds) {
             String mix = shares.entrySet().stream().filter(one -> one.getValue() > 0).map(one -> one.getKey().name + "=" + one.getValue())
                 .collect(Collectors.joining(","));
@@ -2123,7 +2125,7 @@ public final class Potzendai {
                     case "--stream" -> isStream = true;
                     case "--reopen" -> isReopened = true;
                     case "--cache" -> {
-                        wrong(!next.isEmpty() && !next.startsWith("--") && !next.equals("late"), "--cache: late, or nothing");
+                        wrong(!next.isEmpty() && !next.startsWith("--") && !next.equals("late"), "--cache: only late may follow");
                         cache = next.equals("late") ? next : "now";
                         i += next.equals("late") ? 1 : 0;
                     }
@@ -2153,7 +2155,7 @@ public final class Potzendai {
                 case "--mix" -> shares = mix(text);
                 case "--out" -> out = text;
                 case "--bench" -> bench = text;
-                default -> throw new Stop(WORDS, word + ": no such word; --help has them");
+                default -> throw new Stop(WORDS, word + ": no such option; see --help");
             }
         }
 
@@ -2171,7 +2173,7 @@ public final class Potzendai {
         private static String named(String word, String text, List<String> names) {
             if (names.contains(text))
                 return text;
-            throw new Stop(WORDS, word + ": none of its names; --help has them");
+            throw new Stop(WORDS, word + ": not one of its names; see --help");
         }
 
         private static EnumMap<Kind, Long> mix(String text) {
@@ -2182,7 +2184,7 @@ public final class Potzendai {
                 String[] pair = part.split("=", -1);
                 Kind kind = Kind.named(pair[0]);
                 if (kind == null || pair.length != 2 || !pair[1].matches("[0-9]{1,6}"))
-                    throw new Stop(WORDS, "--mix: shares, as get=50,put=30,del=10,scan=10");
+                    throw new Stop(WORDS, "--mix: shares, such as get=50,put=30,del=10,scan=10");
                 shares.put(kind, Long.parseLong(pair[1]));
             }
             return shares;
@@ -2193,13 +2195,13 @@ public final class Potzendai {
                 throw new Stop(WORDS, line);
         }
 
-        /** Whether what a broken map makes wrong is called; of all of them, whether what one of them does is. */
+        /** Whether the functions that a broken map makes wrong are called; for `all`, whether those of one kind are. */
         boolean isCalled(String how) {
             return BREAKS.entrySet().stream().anyMatch(one -> (how.equals("all") || how.equals(one.getKey()))
                 && shares.get(one.getValue()) > 0 && !(one.getKey().equals("torn") && isSteps));
         }
 
-        /** The words together, and with what the map has. */
+        /** Tests that the options fit each other and the functions of the map. */
         void fit(Set<Kind> has, boolean canReopen) {
             boolean isApart = isVoid("own") || isVoid("lock"), isUsual = shares == null;
             keys = keys > 0 ? keys : isStream ? 1000 : 16;
@@ -2212,8 +2214,8 @@ public final class Potzendai {
                 wrong(shares.get(kind) > 0 && !isThere, kind.name + ": no such function of the map");
             }
             wrong(total() == 0, "--mix: no share");
-            wrong(shares.get(Kind.POP_FIRST) > 0 && isApart, "pop_first: takes keys of others, so not with --void own or lock");
-            wrong(broken != null && !isCalled(broken), "--break: what it makes wrong is not called");
+            wrong(shares.get(Kind.POP_FIRST) > 0 && isApart, "pop_first: takes keys of other threads, so not with --void own or lock");
+            wrong(broken != null && !isCalled(broken), "--break: no call that it would break is made");
             wrong(hot > keys, "--hot: more than there are keys");
             wrong(isVoid("own") && keys < threads, "--void: own: each thread needs a key");
             wrong(cache != null && isVoid("own"), "--cache: not with --void own, since the writer of a key does not see that the key was lost");
@@ -2222,7 +2224,7 @@ public final class Potzendai {
             wrong(isReopened && !canReopen, "--reopen: the map has no function reopen");
             calls = calls > 0 || isStream ? calls : Math.min(CALLS / (threads + 2), 200);
             seconds = seconds > 0 ? seconds : rounds > 0 ? 1000000000 : 10;
-            wrong(isStream && rounds > 0, "--rounds: a stream has none; --seconds, or --calls of each thread");
+            wrong(isStream && rounds > 0, "--rounds: a stream has no rounds; use --seconds, or --calls for each thread");
             long most = CALLS / (threads + 1);
             String size = "at most " + most + " with " + threads + " threads, since a round has at most " + CALLS + " calls";
             wrong(!isStream && threads >= PROCESSES, "--threads: at most 63 in rounds; --stream has no such limit");
@@ -2234,14 +2236,14 @@ public final class Potzendai {
             checkOut();
         }
 
-        /** Whether a file can be put into the folder for files: one is put there, and taken away. */
+        /** Tests whether a file can be written into the folder for files: one is written there, and removed. */
         private void checkOut() {
             if (out.equals("-"))
                 return;
             try {
                 Files.delete(Files.createTempFile(Path.of(out), ".potzendai-", ""));
             } catch (IOException | InvalidPathException error) {
-                throw new Stop(FILE, "--out: no file can be put into " + out + ": " + cause(error));
+                throw new Stop(FILE, "--out: no file can be written into " + out + ": " + cause(error));
             }
         }
 
@@ -2256,7 +2258,7 @@ public final class Potzendai {
         }
     }
 
-    /** Which functions a map has: those that it does not leave as they are. */
+    /** Which functions a map has: those that it overrides. */
     private static Set<Kind> functions(Index map) {
         Index connection = map.connection();
         Set<Kind> has = new HashSet<>(Set.of(Kind.GET, Kind.PUT));
@@ -2317,7 +2319,7 @@ public final class Potzendai {
         return new Outcome(status, run.cut, "");
     }
 
-    /** Each way to go wrong that the drawn calls can show has to be refuted: then the status is that of a no. */
+    /** Each kind of bug that the drawn calls can show has to be refuted. Then the status is that of a no. */
     private static Outcome allBroken(Options options, Supplier<? extends Index> make, Program program, Set<Kind> has) {
         List<String> said = new ArrayList<>();
         EnumMap<Kind, Long> called = new EnumMap<>(Kind.class);
@@ -2328,8 +2330,8 @@ public final class Potzendai {
             if (run != null)
                 run.called.forEach((kind, count) -> called.merge(kind, count, Long::sum));
             missed += run != null && (run.failed == null || run.wrongTimes == 0) ? 1 : 0;
-            String verdict = run == null || run.failed == null ? "yes" : run.wrongTimes > 0 ? "no" : "no of the map as it is";
-            said.add(how + ": " + (run == null ? "what it makes wrong is not called" : run.summary(verdict)));
+            String verdict = run == null || run.failed == null ? "yes" : run.wrongTimes > 0 ? "no" : "no of the map itself";
+            said.add(how + ": " + (run == null ? "no call that it would break is made" : run.summary(verdict)));
         }
         said.add(saidCalls(has, called));
         said.add("this shows that calls and answers reach the judge; it does not show that threads meet: see the overlap");
@@ -2337,7 +2339,7 @@ public final class Potzendai {
             : new Outcome(NO, said, "no: each broken map was refuted");
     }
 
-    /** Prints a text, and answers the status: where standard output has no room that of a yes is another one. */
+    /** Prints a text, and returns the status. If standard output has no room, a yes gets another status. */
     private static int printed(int status, String text) {
         System.out.println(text);
         if (!System.out.checkError())
@@ -2346,7 +2348,7 @@ public final class Potzendai {
         return status == YES ? FILE : status;
     }
 
-    /** A whole program: says how it went, and answers the status. `make` makes a new and empty map, for each run. */
+    /** A whole program: it reports how the run went, and returns the status. `make` makes a new and empty map for each run. */
     public static int run(String name, Supplier<? extends Index> make, String... words) {
         try {
             if (List.of(words).contains("--help") || List.of(words).contains("-h"))
@@ -2366,7 +2368,7 @@ public final class Potzendai {
         }
     }
 
-    /** To be called from a test: throws with the explanation where the verdict is no yes. */
+    /** For a test: throws with the explanation if the verdict is not yes. */
     public static void check(String name, Supplier<? extends Index> make, String... words) {
         Outcome outcome = tested(name, make, words);
         if (outcome.status != YES)

@@ -65,17 +65,17 @@ def options_of(words):
                     description="Kills a store's process again and again, and has each life judged.")
     parser.add_argument("--bench", metavar="PATH", help="the program [the repository's, or on PATH]")
     parser.add_argument("--lives", metavar="N", type=positive(int), default=40, help="how many lives [40]")
-    parser.add_argument("--seconds", metavar="S", type=positive(float), help="begin no life after so long [no limit]")
+    parser.add_argument("--seconds", metavar="S", type=positive(float), help="begin no life after this time [no limit]")
     parser.add_argument("--keys", metavar="N", type=positive(int), default=16, help="keys are from 0 to N - 1 [16]")
     parser.add_argument("--kill", metavar="SECONDS", type=positive(float),
-                        help="kill 0.5 to 1.5 times as long after the first call [0.2]")
-    parser.add_argument("--kill-at-write", action="store_true", help="kill before a drawn write of the store")
+                        help="kill 0.5 to 1.5 times this long after the first call [0.2]")
+    parser.add_argument("--kill-at-write", action="store_true", help="kill before a random write of the store")
     parser.add_argument("--power", action="store_true", help="after a kill a file holds what was synced")
     parser.add_argument("--stop", action="store_true", help="SIGTERM, not SIGKILL: the child closes the store")
     parser.add_argument("--open", metavar="SECONDS", type=positive(float), default=60, help="how long opening or reading may take [60]")
-    parser.add_argument("--seed", metavar="N", type=int, default=1, help="what is drawn, in the children too [1]")
+    parser.add_argument("--seed", metavar="N", type=int, default=1, help="seed of the run and of its children [1]")
     parser.add_argument("--budget", metavar="N", type=positive(int), default=100000, help="the program's budget [100000]")
-    parser.add_argument("--keep", metavar="FOLDER", default=".", help="where the run's folder is made [.]")
+    parser.add_argument("--keep", metavar="FOLDER", default=".", help="folder in which the run's folder is made [.]")
     if "--" in words:
         words, command = words[:words.index("--")], words[words.index("--") + 1:]
     elif any(word in ("-h", "--help") for word in words):
@@ -258,14 +258,14 @@ class Run:
         try:
             while True:
                 if not select.select([child.stdout], [], [], max(0, due - time.monotonic()))[0]:
-                    return None, "no end of the reading within %g seconds" % self.options.open
+                    return None, "the reading did not end within %g seconds" % self.options.open
                 text = os.read(child.stdout.fileno(), 1 << 16)
                 if not text:
                     break
                 text, _, rest = (rest + text).rpartition(b"\n")
                 events.take(text)
             if not self.is_over(child, due):
-                return None, "no end of the reading within %g seconds" % self.options.open
+                return None, "the reading did not end within %g seconds" % self.options.open
         finally:
             self.kill(child)
             status = child.wait()
@@ -488,7 +488,7 @@ class Run:
     def verdict(self, status):
         parts = ["%d lives" % self.lives if self.lives != 1 else "1 life", "%d calls in %.1f seconds" % (self.calls, time.monotonic() - self.begun),
                  "%d open at a %s" % (self.open_at_kill, "stop" if self.options.stop else "kill"),
-                 "%d lives with none open" % self.full]
+                 "%d lives without an open call" % self.full]
         if self.empty:
             parts.append("%d without a call" % self.empty)
         if self.options.kill_at_write:

@@ -10,7 +10,7 @@ recording, or follows one stream of it. Copy this file: it needs only Python 3.8
 
 A function answers a value, a pair or pairs if it reports them, or one of the words in brackets. Any but get and put may be missing.
 
-    connection(self)                 what one thread calls in the place of the map, as a cursor; it may have close(self)
+    connection(self)                 what one thread calls instead of the map, as a cursor; it may have close(self)
     get(self, key)                   the value [NONE or None, DONE, FOUND, REFUSED, UNKNOWN]
     put(self, key, value)            the value before [NONE, DONE, FOUND, REFUSED, UNKNOWN]
     delete(self, key)                the value before [NONE, DONE, FOUND, REFUSED, UNKNOWN]
@@ -18,9 +18,9 @@ A function answers a value, a pair or pairs if it reports them, or one of the wo
     replace(self, key, old, new)     the value found [NONE, DONE: it was replaced, OTHER: it was not, FOUND, REFUSED, UNKNOWN]
     put_if_absent(self, key, value)  the value found [NONE: it was put, FOUND: it was not, REFUSED, UNKNOWN]
     floor, ceiling(self, key)        the greatest pair up to the key, the least one from it on [NONE or None, DONE, REFUSED, UNKNOWN]
-    pop_first(self)                  the least pair, which is taken [NONE or None, REFUSED]
+    pop_first(self)                  the least pair, which is removed [NONE or None, REFUSED]
     reopen(self)                     for --reopen: closes the map at rest, and returns it opened again, with what it held
-    close(self)                      called once the map is used no more
+    close(self)                      called after the last use of the map
 
 NONE: there was no value. DONE: it was done, and nothing is reported. FOUND: there was a value, which is not reported; of a pair the value may
 be FOUND. OTHER: the old value was not there. REFUSED: nothing has changed. UNKNOWN, or an OSError that is raised, as of a timeout or a lost
@@ -69,12 +69,12 @@ class Stop(Exception):
 
 
 def told(value):
-    """The answer of a function that got this value of what was there before: NONE where it is None."""
+    """The answer of a function that found this value before: NONE if it is None."""
     return NONE if value is None else value
 
 
 def word(kind):
-    """The name of a function in words: `del` is none that Python has."""
+    """The name of a function in words; `del` cannot be a name in Python."""
     return "del" if kind == "delete" else kind
 
 
@@ -104,7 +104,7 @@ _of_thread = threading.local()
 
 
 def point():
-    """To be called by a map's functions where another thread should get in between: under `--yield` it sometimes does."""
+    """A map's functions may call this at each place where another thread should be able to run: under `--yield` it sometimes does."""
     _of_thread.has_points = True
     give_way()
 
@@ -116,7 +116,7 @@ def give_way():
 
 
 def taken():
-    """To be called by a map's read once its snapshot is taken: the read counts as answered at this moment, and its pairs may be read later."""
+    """A map's read may call this when it has its snapshot. The read counts as answered at that moment, and may read its pairs later."""
     worker = getattr(_of_thread, "worker", None)
     if worker:
         worker.take()
@@ -158,7 +158,7 @@ ANSWERS = {
 
 
 def checked(kind, answer, cache=None):
-    """The answer, where the function may answer so."""
+    """The answer, if the function may give it."""
     if answer is None and kind in ("get", "floor", "ceiling", "pop_first"):
         return NONE
     _, tells, words = ANSWERS[kind]
@@ -199,8 +199,8 @@ def noted(kind, words, answer):
 
 
 def noted_by_cache(kind, words, answer, options, fresh):
-    """The same for a cache, which may lose any key at any time: of a miss, that the key is gone from then on. So this history has an order if
-    and only if the cache's own has one in which keys may be lost. Late: a miss says nothing."""
+    """What a history has of a call of a cache, which may lose any key at any time. A miss is recorded so that the key has no value from then on. So
+    this history has an order if and only if the cache's own has one in which keys may be lost. Late: a miss says nothing."""
     plain, is_late = noted(kind, words, answer), options.cache == "late"
     if plain is None or is_late and (answer == OTHER or answer == NONE and kind not in ("put", "delete", "put_if_absent")):
         return None
@@ -240,7 +240,7 @@ def noted_call(kind, words, answer):
 # A map that is wrong now and then, around one that may be right: a test of the test
 
 class Broken:
-    """A connection that goes wrong in one way, one call in so many."""
+    """A connection with one kind of bug, which shows in one of some calls."""
 
     def __init__(self, connection, how, draws, keys):
         self.connection, self.how, self.draws, self.keys, self.late, self.once, self.style = connection, how, draws, keys, None, {}, None
@@ -277,15 +277,15 @@ class Broken:
         time.sleep(0 if self.draws.below(4) else (1 + self.draws.below(50)) / 1e6)
 
     def in_style(self, got):
-        """What the put of the map would say where a get says this."""
+        """What the put of the map would say if a get says this."""
         return DONE if self.style == DONE else self.style if is_value(got) and self.style != "told" else got
 
     def drop_put(self, key, value):
         return self.in_style(told(self.connection.get(key))) if self.style else None
 
     def race_put(self, key, value):
-        """Makes a get and then a put, as if they were one call. If the put reports what it found, the get is of the same key. Else it is of the
-        key next to it, which is put back as it was got."""
+        """Makes a get and then a put, as if they were one call. If the put reports what it found, the get is of the same key. Otherwise the get is of
+        the key next to it, and what it got is put back."""
         if not self.style:
             return None
         beside = key if self.style == "told" or key ^ 1 >= self.keys else key ^ 1
@@ -343,7 +343,7 @@ class Worker:
             self.connection = Broken(self.connection, self.options.broken, Draws(self.options.seed, 0, self.number), self.options.keys)
 
     def run(self, number, lives, start, doubtful):
-        """The calls of a round, as at most so many processes: one whose answer is unknown makes no further call."""
+        """The calls of a round, as at most this many processes. A process whose answer is unknown makes no further call."""
         options = self.options
         if self.values_from is None:
             self.values_from = 1 + max(start.values(), default=0)  # each put has a value of its own, which was not in the map before
@@ -358,7 +358,7 @@ class Worker:
         return self.log, self.sayings, self.called, _of_thread.has_points, getattr(self.connection, "times", 0) - times
 
     def goes_on(self):
-        """Whether it may make one call more."""
+        """Whether it may make one more call."""
         if self.stream and (self.stream.state.value != RUNNING or self.process >= STREAM_PROCESSES):
             return False
         return self.life < self.lives and (self.made < self.options.calls or self.options.calls == 0)
@@ -410,7 +410,7 @@ class Worker:
             return UNKNOWN
 
     def take(self):
-        """Takes this moment as the answer of the open call, if that only reads. Of several such moments the last one counts."""
+        """Takes this moment as that of the answer of the open call, if the call only reads. Of several such moments the last one counts."""
         if self.is_reading:
             if self.stream and self.end is not None:
                 self.stream.put(self.end, ())
@@ -547,9 +547,9 @@ NOTES = 10 ** 6  # of so many events of a stream the notes are kept for the word
 
 
 class Stream:
-    """One stream of events, which a thread of its own hands on while others record. Stamps are numbers without a gap, so this thread delays what
-    comes early. A thread that is too far ahead waits, so that memory does not grow. Between its two stamps a thread waits only for threads with
-    lower stamps, so the event of the least stamp always comes."""
+    """One stream of events, which a thread of its own writes to the program while others record. Stamps are numbers without a gap, so this thread
+    delays what comes early. A thread that is too far ahead waits, so that memory does not grow. Between its two stamps a thread waits only for
+    threads with lower stamps, so the event of the least stamp always comes."""
 
     def __init__(self, options, pipe, stamp):
         shared = multiprocessing.get_context("fork").RawValue if options.processes else lambda kind: types.SimpleNamespace(value=0)
@@ -577,7 +577,7 @@ class Stream:
         self.writer.start()
 
     def write(self):
-        """Hands over each event in its turn, and asks for the verdict at the end. Where it cannot, what still comes is dropped."""
+        """Writes each event in its turn, and asks for the verdict at the end. If it cannot, later events are dropped."""
         events = iter(self.inbox.get, None)
         try:
             self.follower.open(self)
@@ -611,7 +611,7 @@ class Stream:
             pass
 
     def take(self, events, kind, saying):
-        """The lines of events, and what is counted: as of a round, but nothing is stored of calls that are over. A call without an answer is
+        """The lines of events, and the counts, as for a round. But nothing is stored of calls that are over. A call without an answer is
         over too: nobody waits for it."""
         run, opened, writers = self.run, self.opened, self.writers
         run.left_out += kind == LEFT_OUT
@@ -655,7 +655,7 @@ class Stream:
         self.run.progress()
 
     def end(self):
-        """No more is put. What comes of it is the status of the verdict and its report, or what went wrong."""
+        """Ends the stream. Returns the status of the verdict and its report, or what went wrong."""
         self.inbox.put(None)
         self.writer.join()
 
@@ -795,8 +795,8 @@ class Round:
         return self.numbers.setdefault(who, self.before + len(self.numbers))
 
     def order(self, lines):
-        """The events of the threads. Further calls of one are made by processes that are free; where there are none, or too many calls, it is
-        left out with them."""
+        """The events of the threads. The further calls of a call get processes that are free. If there are none, or too many calls, the call is left
+        out with its further calls."""
         room = PROCESSES - self.before - len({(line.thread, line.life) for line in lines})
         calls = CALLS - self.before - sum(line.saying is None for line in lines)
         free, helping, left_out, made_up = [], {}, set(), itertools.count()
@@ -824,8 +824,8 @@ class Round:
             free += helpers if line.saying is not None else []
 
     def measure(self, tally):
-        """How many calls were open where another began, at which keys two writers met, and which changes may still come: those that have no
-        answer, and of which no answer tells what they put. A call without an answer is none that others overlap."""
+        """How many calls were open when another began, at which keys two writers met, and which changes may still come: calls without an answer whose
+        value no answer reports. A call without an answer does not count as overlapped."""
         answered, opened, told_of, self.calls, self.overlap, self.met = set(), {}, set(), 0, 0, set()
         last = {}
         for number, event in enumerate(self.events):
@@ -850,7 +850,7 @@ class Round:
         self.pending = [call for _, call, _, _ in opened.values() if call[0] == "remove" or call[-1] not in told_of]
 
     def is_apart(self, keys):
-        """Whether all its keys are below `keys` and all its calls have answers: then it may be judged together with others."""
+        """Whether all its keys are below `keys` and all its calls have answers. Then it may be judged together with other rounds."""
         answers = [event["answer"] for event in self.events if type(event.get("answer")) is list]
         calls = [event["invoke"] for event in self.events if "invoke" in event]
         held = list(self.start) + [pair[0] for pairs in answers for pair in pairs] + [call[1] for call in calls]
@@ -886,7 +886,8 @@ def together(rounds, keys):
 
 
 class Tally:
-    """How often gets found a value; and how often a key was lost, so that nothing was found where a put was answered and no delete begun since."""
+    """How often gets found a value, and how often a key was lost. A key is lost if nothing is found although a put of it was answered, and no delete
+    has begun since."""
 
     def __init__(self):
         self.hits = self.misses = self.losses = self.clock = 0
@@ -925,11 +926,11 @@ class Judge:
     """Whoever judges."""
 
     def judge(self, text):
-        """The verdict: once more at ten times the budget where it is undecided."""
+        """The verdict; if it is undecided, it is asked again at ten times the budget."""
         return self.asked("judge", text)[0]
 
     def more(self):
-        """The budget of what is asked again."""
+        """The budget of a question that is asked again."""
         return min(10 * self.budget, 10 ** 6)
 
     def asked(self, command, text):
@@ -946,7 +947,7 @@ class Program(Judge):
         self.ask(*(("follow", "") if options.stream else ("judge", '{"events":[],"version":1}\n')), self.budget)
 
     def program(self, command):
-        """Returns the program that runs a command. Once the repository's own `bench` has answered, this is the last program that `bench` built:
+        """Returns the program that runs a command. After the repository's own `bench` has answered, this is the program that `bench` built last. For
         `bench` itself takes as long as ten rounds to see that nothing has changed."""
         folder, script = os.path.split(self.path)
         if (command == "judge") not in self.answered or not folder or script != "bench":
@@ -973,7 +974,7 @@ class Program(Judge):
         return self.checked(command, done.returncode, done.stdout)
 
     def checked(self, command, status, answer):
-        """The status with its report, where the program has given one."""
+        """The status with its report, if the program has given one."""
         if status not in (YES, NO, UNDECIDED):
             raise Stop(status if FAULTY <= status <= FILE else FILE, "%s %s: status %d" % (self.path, command, status))
         answer = answer.decode("utf-8", "replace")
@@ -1036,7 +1037,7 @@ class Library(Judge):
         return status, answer
 
     def told(self, name, *words):
-        """What a call answers, and its text: again with more room, where that needs more."""
+        """What a call answers, and its text. It is called again with more room if it needs more."""
         length = ctypes.c_size_t(32767)
         while True:
             room = ctypes.create_string_buffer(length.value + 1)
@@ -1093,8 +1094,7 @@ COUNTED = ("rounds", "calls", "overlap", "left_out", "sayings", "called", "wrong
 
 
 class Run:
-    """Rounds at a new map, each of which begins with what the one before has left: the pairs, and calls without an answer that may still
-    come."""
+    """Rounds at a new map. Each begins with what the one before has left: the pairs, and calls without an answer that may still take effect."""
 
     def __init__(self, options, make, program):
         self.options, self.make, self.program = options, make, program
@@ -1149,7 +1149,7 @@ class Run:
         except Exception:
             raise Stop(WORDS, "%s: reopen: %s" % (self.options.name, traceback.format_exc().rstrip()))
         if made is None:
-            raise Stop(WORDS, "%s: reopen said nothing, where it has to return the map" % self.options.name)
+            raise Stop(WORDS, "%s: reopen returned nothing; it has to return the map" % self.options.name)
         self.made, self.crew = made, Crew(self.options, made, stamp, self.top + 1)
 
     def round(self, number, lives):
@@ -1193,7 +1193,7 @@ class Run:
         return self
 
     def conclude(self, stream, status, report):
-        """What the verdict on a stream says. One that was cut off has no yes."""
+        """What the verdict on a stream says. A stream that was cut off gets no yes."""
         is_cut = stream.state.value == FAILED
         if report and status == YES:
             is_cut = is_cut or json.loads(report)["calls"] != self.calls + self.helped
@@ -1205,7 +1205,7 @@ class Run:
             self.cut = ["%s: calls without an answer leave no room for others" % self.options.name]
 
     def keep(self, lines):
-        """Keeps lines of the stream for a file, or nothing of it any more where they are too many."""
+        """Stores lines of the stream, for a file. If there are too many, nothing of the stream is stored any more."""
         if self.kept is not None:
             self.kept.append(lines)
             self.length += len(lines)
@@ -1247,7 +1247,8 @@ class Run:
             self.judge_waiting()
 
     def judge_waiting(self):
-        """Judges the rounds that wait: all at once, and each on its own where that is not a yes. Of a no, what was counted is that up to its end."""
+        """Judges the rounds that wait: first all together, and each on its own if that is not a yes. After a no, only what was counted up to its end
+        counts."""
         waiting, self.waiting = self.waiting, []
         all_rounds = together([one for one, _ in waiting], self.options.keys) if len(waiting) > 1 else None
         if all_rounds and self.program.ask("judge", all_rounds, self.program.budget)[0] == YES:
@@ -1267,7 +1268,7 @@ class Run:
         return self.rounds > 0 and (0 < options.rounds <= self.rounds or time.monotonic() - self.began >= options.seconds)
 
     def progress(self):
-        """Each second a line on a terminal says how far this is."""
+        """Each second a line on a terminal says how far the run is."""
         now, options = time.monotonic(), self.options
         if options.shows and now - options.shown >= 1 and self.calls:
             options.shown = now
@@ -1277,7 +1278,7 @@ class Run:
                 counted(options.keys, "key")), file=sys.stderr)
 
     def summary(self, verdict):
-        """The verdict, and what it rests on."""
+        """The verdict, and the counts on which it is based."""
         said = ", ".join("%d %s" % (count, said) for said, count in self.sayings.items() if count)
         rounds = "" if self.options.stream else counted(self.rounds, "round") + ", "
         return "%s: %s%s in %.1f seconds, overlap %.2f a call: %s%s%s" % (
@@ -1314,7 +1315,7 @@ class Run:
 
 
 def counted(count, noun):
-    """So many of a noun."""
+    """A number with its noun."""
     return "%d %s%s" % (count, noun, "" if count == 1 else "es" if noun.endswith("s") else "s")
 
 
@@ -1327,7 +1328,7 @@ def said_calls(has, runs):
 
 def smaller(run):
     """The smallest run that failed, of some tries with half of the calls or keys, or a thread less. Threads interleave as they will.
-    Where calls have no answer none is tried, since they may still come."""
+    If calls have no answer, nothing smaller is tried, since they may still take effect."""
     best, until, tries, names = run, time.monotonic() + 5, 60 if run.sayings[UNKNOWN] == 0 else 0, ["calls", "keys", "threads"]
     while names:
         options, found = copy.copy(best.options), None
@@ -1378,7 +1379,7 @@ def said_call(call):
 
 
 def said_events(one, invoked, process):
-    """The events of a call: that of its invocation by a process, and that of its answer, where it has one."""
+    """The events of a call: that of its invocation by a process, and that of its answer if it has one."""
     answer = next((number for number in range(invoked + 1, len(one.events)) if one.events[number]["process"] == process), None)
     return "event %d on" % invoked if answer is None else "events %d to %d" % (invoked, answer)
 
@@ -1402,7 +1403,7 @@ def said_origin(one, line):
 
 
 def said_from(line):
-    """From which value of a key the few calls have no order. Only an undecided report has such lines."""
+    """The value of a key from which the few calls have no order. Only an undecided report has such lines."""
     if line["from"] is None:
         return "  from key %d holding nothing" % line["key"]
     put = line["put"]
@@ -1417,7 +1418,7 @@ def said_missed(one, line):
 
 
 def note_of(one, number):
-    """The call of an event as it was made, where a history has another one."""
+    """The call of an event as it was made, if the history has another one."""
     return one.events[number].get("note") if number < len(one.events) else None
 
 
@@ -1428,7 +1429,7 @@ def said_made(one, number, call):
 
 
 def last_event(one, invoked):
-    """The event of a call's answer, or the end where it has none."""
+    """The event of a call's answer, or the end if it has none."""
     process = one.events[invoked]["process"]
     return next((number for number in range(invoked + 1, len(one.events)) if one.events[number]["process"] == process), len(one.events))
 
@@ -1483,12 +1484,12 @@ def said_report(report, one):
 
 
 def unmarked(line):
-    """A line of a report, without the values that replaces of a cache put which said that they changed nothing."""
+    """A line of a report, without the values that some replaces of a cache put: those that said that they changed nothing."""
     return re.sub("[0-9]{19,20}", lambda found: "a value that no call puts" if OWN <= int(found[0]) < GREATEST else found[0], line)
 
 
 def keep(options, ending, text):
-    """Writes a file of a round, or of a stream, and says how it is called."""
+    """Writes a file of a round, or of a stream, and says its name."""
     path = os.path.join(options.out, "%s-%d-%d%s" % (options.name, options.seed, options.round, ending))
     try:
         with open(path, "wb") as out:
@@ -1521,7 +1522,7 @@ def number(least, most):
 
 def late(text):
     if text != "late":
-        raise argparse.ArgumentTypeError("late, or nothing")
+        raise argparse.ArgumentTypeError("only late may follow")
     return text
 
 
@@ -1531,7 +1532,7 @@ def mix(text):
         name, _, share = part.partition("=")
         kind = {"del": "delete", "delete": ""}.get(name, name)
         if kind not in SHARES or not share.isdigit() or len(share) > 6:
-            raise argparse.ArgumentTypeError("shares, as get=50,put=30,del=10,scan=10")
+            raise argparse.ArgumentTypeError("shares, such as get=50,put=30,del=10,scan=10")
         shares[kind] = int(share)
     return {kind: shares.get(kind, 0) for kind in SHARES}
 
@@ -1550,7 +1551,7 @@ def words_of(argv):
             ("--hot", number(1, STREAM_KEYS), 0, "nine calls in ten use one of the first N keys"),
             ("--calls", number(1, GREATEST), 0, "calls of each thread in a round, or in a stream (200; no limit)"),
             ("--seed", number(0, GREATEST), time.time_ns() % 1000000007, "what the calls are drawn from (the clock)"),
-            ("--mix", mix, None, "shares, as get=50,put=30,del=10,scan=10; also replace, put_if_absent, floor, ceiling, pop_first"),
+            ("--mix", mix, None, "shares, such as get=50,put=30,del=10,scan=10; also replace, put_if_absent, floor, ceiling, pop_first"),
             ("--yield", number(0, 1000), 0, "of a thousand points in and between calls, N let another thread run (0)"),
             ("--out", str, ".", "where files are written (.); -: all histories, or the stream, on standard output, judged by nobody"),
             ("--fresh", number(1, GREATEST), 0, "a new map after each N rounds (one map)"),
@@ -1576,7 +1577,7 @@ def words_of(argv):
 
 
 def fit(options, has, can_reopen):
-    """The words together, and with what the map has."""
+    """Tests that the options fit each other and the functions of the map."""
     def wrong(name, what):
         raise Stop(WORDS, "%s: %s" % (name, what))
     options.has_void, options.void = options.void is not None, options.void or "done"
@@ -1596,7 +1597,7 @@ def fit(options, has, can_reopen):
     if not sum(options.shares.values()):
         wrong("--mix", "no share")
     if options.shares["pop_first"] and apart:
-        wrong("pop_first", "takes keys of others, so not with --void own or lock")
+        wrong("pop_first", "takes keys of other threads, so not with --void own or lock")
     if options.cache and options.void == "own":
         wrong("--cache", "not with --void own, since the writer of a key does not see that the key was lost")
     for name, is_asked in (("--fresh", options.fresh), ("--reopen", options.reopen)):
@@ -1606,9 +1607,9 @@ def fit(options, has, can_reopen):
         wrong("--reopen", "the map has no function reopen")
     options.shown_by = {how: options.shares[kind] > 0 and not (how == "torn" and options.scan == "steps") for how, kind in BREAKS.items()}
     if not options.shown_by.get(options.broken, not options.broken or any(options.shown_by.values())):
-        wrong("--break", "what it makes wrong is not called")
+        wrong("--break", "no call that it would break is made")
     if options.stream and options.rounds:
-        wrong("--rounds", "a stream has none; --seconds, or --calls of each thread")
+        wrong("--rounds", "a stream has no rounds; use --seconds, or --calls for each thread")
     if options.hot > options.keys:
         wrong("--hot", "more than there are keys")
     if options.void == "own" and options.keys < options.threads:
@@ -1631,12 +1632,12 @@ def fit(options, has, can_reopen):
         if options.out != "-":
             tempfile.TemporaryFile(dir=options.out).close()
     except OSError as error:
-        raise Stop(FILE, "--out: no file can be put into %s: %s" % (options.out, error.strerror))
+        raise Stop(FILE, "--out: no file can be written into %s: %s" % (options.out, error.strerror))
     return options
 
 
 def words_again(options, rounds):
-    """The words that repeat the draws of a run of so many rounds."""
+    """The options that repeat the draws of a run of this many rounds."""
     said = [os.path.basename(sys.argv[0]), *itertools.takewhile(lambda word: not word.startswith("--"), sys.argv[1:])]
     said += ["--seed", options.seed, "--threads", options.threads, "--keys", options.keys]
     said += ["--hot", options.hot] if options.hot else []
@@ -1687,13 +1688,13 @@ def tested(make, options):
 
 
 def refuted_stream(run):
-    """Reports a stream that has no order. If the calls that are left show the fault, their history is explained; else a line says why not. The
+    """Reports a stream that has no order. If the calls that are left show the fault, their history is explained; otherwise a line says why not. The
     stream so far is saved, unless it is long. The report is saved if it is not shown whole, or if nothing else is saved."""
     report, _, left = run.failed.partition("\n")
     run.options.round, is_whole = 0, len(report) <= REPORT_SHOWN
     said = [report if is_whole else report[:REPORT_SHOWN] + ".."]
-    said += shown_left(run, left) if left else ["few calls are not shown: " + why_not_few(json.loads(report)["keys"])]
-    said += ["the stream is not kept, since it is longer than %d bytes" % KEPT] if run.kept is None else [
+    said += shown_left(run, left) if left else ["the few calls are not shown: " + why_not_few(json.loads(report)["keys"])]
+    said += ["the stream is not saved, since it is longer than %d bytes" % KEPT] if run.kept is None else [
         keep(run.options, ".jsonl", b"".join(run.kept))]
     said += [keep(run.options, "-report.json", report + "\n")] if not is_whole or not left and run.kept is None else []
     return said + [AGAIN + words_again(run.options, 0)]
@@ -1705,9 +1706,9 @@ def shown_left(run, left):
     try:
         told_of = run.program.asked("explain", left)[1]
     except Stop as stop:
-        return ["few calls are not shown: " + stop.line, keep(run.options, ".json", left)]
+        return ["the few calls are not shown: " + stop.line, keep(run.options, ".json", left)]
     if "\n{\"answer\":" not in told_of:
-        return ["few calls are not shown: they are not found within a budget of %d" % run.program.more(), keep(run.options, ".json", left)]
+        return ["the few calls are not shown: they are not found within a budget of %d" % run.program.more(), keep(run.options, ".json", left)]
     whole = json.loads(left)
     keys, calls = json.loads(run.failed.partition("\n")[0])["keys"], [each for each in whole["events"] if "invoke" in each]
     invoked = sorted({number for key in keys for number in key["invoked"]})
@@ -1726,7 +1727,7 @@ def why_not_few(keys):
     if most == 0:
         return "the call had taken effect by then, and its answer contradicts what it found"
     if most > 1:
-        return "a key may have had each of these values before the calls \"invoked\""
+        return "a key may have had any of the listed values before the calls \"invoked\""
     return ("the calls \"invoked\" may have taken effect in several ways, or they fit no history: they are too many, or too many are open at "
             "once")
 
@@ -1741,7 +1742,7 @@ def shown(run, text, report, one):
 
 
 def keep_made(run, command, ending, text):
-    """Keeps the file that the program or the library makes of a history, or says why there is none."""
+    """Saves the file that the program or the library makes of a history, or says why there is none."""
     try:
         return keep(run.options, ending, run.program.asked(command, text)[1])
     except Stop as stop:
@@ -1762,27 +1763,27 @@ def refuted(run):
     try:
         said += shown(run, text, run.program.asked("explain", text)[1], least.failed)
     except Stop as stop:
-        said += [kept, "few calls are not shown: " + stop.line]
+        said += [kept, "the few calls are not shown: " + stop.line]
     return said + [AGAIN + words_again(options, run.rounds)]
 
 
 def all_broken(make, options, program, has):
-    """Each way to go wrong that the drawn calls can show has to be refuted: then the status is that of a no."""
+    """Each kind of bug that the drawn calls can show has to be refuted. Then the status is that of a no."""
     said, missed, runs = [], 0, []
     for how, is_called in options.shown_by.items():
         options.broken = how
         run = Run(options, make, program).go() if is_called else None
         runs += [run] if run else []
         missed += run is not None and not (run.failed and run.wrong_times)
-        verdict = "no" if run and run.failed and run.wrong_times else "no of the map as it is" if run and run.failed else "yes"
-        said.append("%s: %s" % (how, run.summary(verdict) if run else "what it makes wrong is not called"))
+        verdict = "no" if run and run.failed and run.wrong_times else "no of the map itself" if run and run.failed else "yes"
+        said.append("%s: %s" % (how, run.summary(verdict) if run else "no call that it would break is made"))
     said += [said_calls(has, runs), "this shows that calls and answers reach the judge; it does not show that threads meet: see the overlap"]
     return (YES, said, "yes: %d of the broken maps were not refuted" % missed) if missed else (NO, said, "no: each broken map was refuted")
 
 
 def check(make, *argv):
-    """To be called from a test: raises an AssertionError with the explanation where the verdict is no yes. The words are those of the
-    command line, as in check(Map, "--seconds", "2")."""
+    """For a test: raises an AssertionError with the explanation if the verdict is not yes. The arguments are those of the command line, as in
+    check(Map, "--seconds", "2")."""
     status, said, last = tested(make, words_of([str(one) for one in argv]))
     assert status == YES, "\n".join(said + [last])
 

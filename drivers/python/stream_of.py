@@ -28,7 +28,7 @@ def main():
     except BrokenPipeError:
         os.dup2(os.open(os.devnull, os.O_WRONLY), 1)  # who reads it has its verdict
     except (ValueError, KeyError, TypeError):
-        print("history: no JSON with a list of events", file=sys.stderr)
+        print("history: this is not JSON with a list of events", file=sys.stderr)
         sys.exit(3)
 
 

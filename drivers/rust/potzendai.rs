@@ -1,13 +1,13 @@
-//! Tests an ordered map of one's own: threads call its functions, what they do is recorded, and the program `bench` judges each recording, or
-//! follows one stream of it. Copy this file next to a source that says `mod potzendai;`: Rust 1.70 and the program are all that it needs.
+//! Tests an ordered map of your own. Threads call its functions, and what they do is recorded. The program `bench` judges each recording, or follows
+//! one stream. Copy this file next to a source that says `mod potzendai;`. It needs only Rust 1.70 and the program.
 //!
 //!     fn main() {
 //!         std::process::exit(potzendai::run("mine", || Mine::new(), std::env::args().skip(1)));
 //!     }
 //!
-//! From any test, `potzendai::check("mine", || Mine::new(), &["--seconds", "5"])` panics with the explanation.
+//! In a test, `potzendai::check("mine", || Mine::new(), &["--seconds", "5"])` panics with the explanation.
 //!
-//! With `--cfg potzendai_library` it calls the library in the place of the program: `-L FOLDER -l static=potzendai` links it.
+//! With `--cfg potzendai_library` it calls the library instead of the program: `-L FOLDER -l static=potzendai` links it.
 #![allow(dead_code, unused_imports, unknown_lints, unexpected_cfgs)]
 
 use std::cell::RefCell;
@@ -31,14 +31,14 @@ pub enum Said {
     None,
     /// It was done, and nothing is reported.
     Done,
-    /// There was a value, which is not reported; or a pair, of which only the key is.
+    /// There was a value, which is not reported; or a pair, of which only the key is reported.
     Found,
     FoundKey(u64),
     /// The old value was not there, and nothing has changed.
     Other,
-    /// Nothing has changed, as of a transaction that was rolled back.
+    /// Nothing has changed, as after a transaction that was rolled back.
     Refused,
-    /// Nobody knows whether it was done, as of a request that timed out.
+    /// Nobody knows whether it was done, for example after a request that timed out.
     Unknown,
     /// The map has no such function.
     Missing,
@@ -69,7 +69,7 @@ impl Said {
     }
 }
 
-/// What one thread calls, as a reference to the map: any function but `get` and `put` may be left out. Nothing else changes the map.
+/// What one thread calls, as a reference to the map: any function except `get` and `put` may be left out. Nothing else changes the map.
 pub trait Connection {
     /// The value.
     fn get(&mut self, key: u64) -> Said;
@@ -83,11 +83,11 @@ pub trait Connection {
     fn scan(&mut self, _low: u64, _high: u64) -> Said {
         Said::Missing
     }
-    /// The value found; or Done where it was replaced, Other where it was not.
+    /// The value found; or Done if it was replaced, Other if it was not.
     fn replace(&mut self, _key: u64, _old: u64, _value: u64) -> Said {
         Said::Missing
     }
-    /// None where it was put; else the value found.
+    /// None if it was put, otherwise the value found.
     fn put_if_absent(&mut self, _key: u64, _value: u64) -> Said {
         Said::Missing
     }
@@ -99,7 +99,7 @@ pub trait Connection {
     fn ceiling(&mut self, _key: u64) -> Said {
         Said::Missing
     }
-    /// The least pair, which is taken.
+    /// The least pair, which is removed.
     fn pop_first(&mut self) -> Said {
         Said::Missing
     }
@@ -129,19 +129,19 @@ const PROCESSES: usize = 64;
 const CALLS: u64 = 4096;
 const SPAN: u64 = 16;
 const SELDOM: u64 = 20;
-/// Limits of a stream and of its keys; how many stamps a thread may be ahead of what is handed over; how many bytes are at once.
+/// The limits of a stream and of its keys; how many stamps a thread may be ahead of what is written; how many bytes are written at once.
 const STREAM_PROCESSES: usize = 65536;
 const STREAM_KEYS: u64 = 16384;
-/// Bytes of the report of a stream without order that are shown, and of a stream that are kept for a file.
+/// How many bytes are shown of the report of a stream without order, and how many of a stream are stored for a file.
 const REPORT_SHOWN: usize = 1000;
 const KEPT: usize = 1 << 26;
 /// Under `--cache`, values from here on are the driver's own.
 const OWN_VALUES: u64 = 1 << 63;
-/// How many calls a stream has on behalf of one; of how many of its events the notes are kept; how many other open calls are shown.
+/// How many calls a stream may have on behalf of one call; how many of its last events keep their notes; how many other open calls are shown.
 const BESIDE: usize = 32;
 const NOTES: u64 = 1_000_000;
 const OPEN_SHOWN: usize = 6;
-/// So many rounds are judged together, of so many calls.
+/// This many rounds are judged together, with this many calls.
 const BATCH_ROUNDS: usize = 64;
 const BATCH_CALLS: usize = 256;
 const AGAIN: &str = "  again (draws the same calls; threads may interleave otherwise): ";
@@ -188,7 +188,7 @@ impl Kind {
         options.cache.is_some() || matches!(self, PutIfAbsent | Floor | Ceiling | PopFirst)
     }
 
-    /// Its call in a history, as far as that is known before the answer.
+    /// The call in a history, as far as it is known before the answer.
     fn call(self) -> &'static str {
         ["get", "insert", "remove", "scan", "replace", "insert", "scan", "scan", "remove"][self as usize]
     }
@@ -258,7 +258,7 @@ thread_local! {
 
 static HAS_POINTS: AtomicBool = AtomicBool::new(false);
 
-/// To be called by a map's functions where another thread should get in between: under `--yield` it sometimes does.
+/// A map's functions may call this at each place where another thread should be able to run: under `--yield` it sometimes does.
 pub fn point() {
     HAS_POINTS.store(true, Relaxed);
     give_way();
@@ -268,7 +268,7 @@ thread_local! {
     static TAKEN: RefCell<Option<(Arc<AtomicU64>, Vec<u64>)>> = const { RefCell::new(None) };
 }
 
-/// To be called by a map's read once its snapshot is taken: the read counts as answered at this moment, and its pairs may be read later.
+/// A map's read may call this when it has its snapshot. The read counts as answered at that moment, and may read its pairs later.
 pub fn taken() {
     TAKEN.with(|taken| {
         if let Some((stamps, drawn)) = &mut *taken.borrow_mut() {
@@ -326,7 +326,7 @@ fn pairs_text(pairs: &[(u64, u64)]) -> String {
     format!("[{}]", texts.join(","))
 }
 
-/// An answer as a text; none where the call stays open.
+/// An answer as a text; none if the call stays open.
 fn answer_text(said: &Said) -> Option<String> {
     match said {
         Said::Told(value) | Said::Pair(_, value) => Some(value.to_string()),
@@ -368,8 +368,8 @@ fn noted(kind: Kind, words: &[u64], said: &Said) -> Option<(Call, Option<String>
     })
 }
 
-/// What a history has of a call: its invocation, its answer, or none where the call stays open; a note of the call as it was made, where that is
-/// another one; and further calls of the same interval, each by a process of its own.
+/// What a history has of a call: its invocation, and its answer, or none if the call stays open. Also a note of the call as it was made, if that is
+/// another one, and further calls of the same interval, each by a process of its own.
 #[derive(Clone, Debug)]
 struct Noted {
     call: Call,
@@ -384,8 +384,8 @@ impl Noted {
     }
 }
 
-/// What a history has of a call. Of a cache, which may lose any key at any time: of a miss, that the key is gone from then on. So this history has an
-/// order if and only if the cache's own has one in which keys may be lost. Late: a miss says nothing.
+/// What a history has of a call. A cache may lose any key at any time, so a miss is recorded in such a way that the key has no value from then on. So
+/// this history has an order if and only if the cache's own has one in which keys may be lost. Late: a miss says nothing.
 fn recorded(options: &Options, kind: Kind, words: &[u64], said: &Said, fresh: &mut dyn FnMut() -> u64) -> Option<Noted> {
     let (call, answer) = noted(kind, words, said)?;
     let plain = Noted { call, answer, note: None, beside: vec![] };
@@ -456,7 +456,7 @@ fn ask(options: &Options, connection: &mut dyn Connection, kind: Kind, words: &[
     fail(BAD_WORDS, format!("{} said {}, which does not fit it", kind.name(), SAYINGS[said.word()]))
 }
 
-/// Which functions a map has: they are called once each, of a map that is not used any more.
+/// Which functions a map has. Each is called once, on a map that is not used afterwards.
 fn functions<M: Map>(map: &M) -> [bool; 9] {
     let mut connection = map.open();
     KINDS.map(|kind| matches!(kind, Get | Put) || ask_any(&mut *connection, kind, &[0, 1, 2]) != Said::Missing)
@@ -484,7 +484,7 @@ impl<'a> Broken<'a> {
         self.times.fetch_add(1, SeqCst);
     }
 
-    /// Does the put that still comes, soon.
+    /// Makes a put that is still to come, soon.
     fn caught_up(&mut self) -> &mut Box<dyn Connection + 'a> {
         if let Some((key, value)) = self.late {
             if self.draws.below(2) == 1 {
@@ -496,7 +496,7 @@ impl<'a> Broken<'a> {
         &mut self.truly
     }
 
-    /// What the put of the map would say where a get says this.
+    /// What the put of the map would say if a get says this.
     fn in_style(&self, got: Said) -> Said {
         match (&self.style, &got) {
             (Some(Said::Done), _) => Said::Done,
@@ -505,8 +505,8 @@ impl<'a> Broken<'a> {
         }
     }
 
-    /// Makes a get and then a put, as if they were one call. If the put reports what it found, the get is of the same key. Else it is of the key
-    /// next to it, which is put back as it was got.
+    /// Makes a get and then a put, as if they were one call. If the put reports what it found, the get is of the same key. Otherwise the get is of
+    /// the key next to it, and what it got is put back.
     fn race(&mut self, key: u64, value: u64) -> Said {
         let tells = matches!(self.style, Some(Said::Told(_)));
         let beside = if tells || key ^ 1 >= self.keys { key } else { key ^ 1 };
@@ -628,7 +628,7 @@ enum What {
     Answer(String),
 }
 
-/// By which thread, and as which of its processes.
+/// The thread, and which of its processes it is.
 #[derive(Clone, Debug)]
 struct Event {
     stamp: u64,
@@ -636,13 +636,13 @@ struct Event {
     life: usize,
     what: What,
     note: Option<String>,
-    /// The function, unless no thread called one, and what that said, once it is over.
+    /// The function, unless no thread called one, and what it said, when the call is over.
     kind: &'static str,
     said: usize,
     beside: Arc<Vec<Noted>>,
 }
 
-/// The two events of a call, of which the second is none where the call stays open.
+/// The two events of a call; there is no second one if the call stays open.
 fn events_of(stamps: [u64; 2], who: (usize, usize), kind: &'static str, said: usize, noted: Noted) -> Vec<Event> {
     let (beside, (thread, life)) = (Arc::new(noted.beside), who);
     let (what, note) = (What::Invoke(noted.call), noted.note);
@@ -658,7 +658,7 @@ fn writes_key(kind: &str) -> bool {
     matches!(kind, "put" | "del" | "replace" | "put_if_absent")
 }
 
-/// The number of a round, as how many processes a thread may go on, what the map holds, and keys at which calls have no answer.
+/// The number of a round, how many processes a thread may be in turn, what the map holds, and the keys at which calls have no answer.
 #[derive(Clone)]
 struct Task {
     round: u64,
@@ -669,15 +669,15 @@ struct Task {
     values_from: u64,
 }
 
-/// What all threads share: the word of stamps; the locks of keys, with whether a call that writes the key has no answer, and so may still
-/// come between a get and the put after it; and the stream, if it is one.
+/// What all threads share: the word of stamps, the locks of keys, and the stream, if it is one. With each lock goes whether a call that writes the
+/// key has no answer, and so may still take effect between a get and the put after it.
 struct Shared {
     stamps: Arc<AtomicU64>,
     locks: Vec<Mutex<bool>>,
     stream: Option<Stream>,
 }
 
-/// A part of what a stamp of a stream has: a call of a process with its note, or its answer, or none if it stays open.
+/// A part of what a stamp of a stream has: a call of a process with its note, or its answer, or nothing if the call stays open.
 struct Part {
     process: usize,
     call: Option<Call>,
@@ -685,8 +685,8 @@ struct Part {
     note: Option<String>,
 }
 
-/// What a stamp of a stream has: first the event of a thread, then those on behalf of it; of which function they are; and what the map said, if
-/// this ends a call.
+/// What a stamp of a stream has: first the event of a thread, then the events on its behalf; their function; and what the map said, if this ends a
+/// call.
 #[derive(Default)]
 struct Happening {
     parts: Vec<Part>,
@@ -700,9 +700,9 @@ const RUNNING: usize = 0;
 const OVER: usize = 1;
 const FAILED: usize = 2;
 
-/// A stream of events, which a thread of its own hands on while others record. Stamps are numbers without a gap, and each has its slot. Who is
-/// too far ahead of what is handed over waits, so that memory does not grow. Between its two stamps nobody waits except for lower stamps, so the
-/// event of the least stamp always comes.
+/// A stream of events, which a thread of its own writes to the program while others record. Stamps are numbers without a gap, and each has its slot.
+/// A thread that is too far ahead of what is written waits, so that memory does not grow. Between its two stamps a thread waits only for lower
+/// stamps, so the event of the least stamp always comes.
 struct Stream {
     slots: Vec<Mutex<Option<Happening>>>,
     taken: AtomicU64,
@@ -711,7 +711,7 @@ struct Stream {
     is_ended: AtomicBool,
 }
 
-/// Lets others go on: most times at once, sometimes for some time.
+/// Lets other threads run: most times once, sometimes for some time.
 fn rest_some(times: u64) {
     if times % 64 != 0 {
         std::thread::yield_now();
@@ -765,7 +765,7 @@ struct Counts {
     wrong: u64, // how often the broken map went wrong
 }
 
-/// What a thread keeps from one map to the next.
+/// What a thread remembers from one map to the next.
 #[derive(Clone, Default)]
 struct Kept {
     counts: Counts,
@@ -845,7 +845,7 @@ impl<'a> Worker<'a> {
         Ok((std::mem::take(&mut self.log), self.kept.counts))
     }
 
-    /// Whether it may make one call more.
+    /// Whether it may make one more call.
     fn goes_on(&self) -> bool {
         let is_running = |stream: &Stream| stream.state.load(SeqCst) == RUNNING && self.process < STREAM_PROCESSES;
         let has_calls = self.options.calls == 0 || self.made < self.options.calls;
@@ -907,7 +907,7 @@ impl<'a> Worker<'a> {
         }
     }
 
-    /// A get and a call that writes its key, as one. Of a cache, the key may be lost between the two.
+    /// A get and a call that writes its key, as one call. A cache may lose the key between the two.
     fn make_locked(&mut self, kind: Kind, words: &[u64], is_doubtful: &mut bool) -> Result<(), Stop> {
         let begin = self.begin(kind, words);
         let is_void = matches!(kind, Put | Del);
@@ -933,7 +933,7 @@ impl<'a> Worker<'a> {
         self.made_one(kind, words, said?, Said::Done, begin, end)
     }
 
-    /// The stamp before a call. If the call is known already, a stream has it from here on.
+    /// Draws the stamp before a call. If the call is already known, a stream has it from here on.
     fn begin(&self, kind: Kind, words: &[u64]) -> u64 {
         let begin = self.shared.stamp();
         if let (Some(stream), false) = (&self.shared.stream, kind.is_held(self.options)) {
@@ -1047,8 +1047,8 @@ impl<M: Map> Opens for M {
     }
 }
 
-/// What a thread does: it opens a connection and puts out nothing, and then one task after another, each of which puts out what it has
-/// recorded, or why the run ends. At the end it answers what it keeps for the next map.
+/// What a thread does: it opens a connection, and does one task after another. Each task sends what it has recorded, or why the run ends. At the end
+/// the thread returns what it remembers for the next map.
 fn serve(number: u64, options: &Options, shared: &Shared, map: &dyn Opens, kept: Kept, tasks: &Receiver<Task>, out: &Sender<Outcome>) -> Kept {
     let done = catch_unwind(AssertUnwindSafe(|| {
         let mut worker = Worker::new(number, options, shared, map, kept);
@@ -1073,7 +1073,7 @@ fn serve(number: u64, options: &Options, shared: &Shared, map: &dyn Opens, kept:
     })
 }
 
-/// What gets of all keys at rest reported: the last calls of a round, and what the map holds.
+/// What the gets of all keys at rest reported: they are the last calls of a round, and say what the map holds.
 #[derive(Default)]
 struct Rest {
     events: Vec<Event>,
@@ -1086,7 +1086,7 @@ impl Values {
         self.from = self.from.max(held.values().max().map_or(1, |value| value.wrapping_add(1)));
     }
 
-    /// One of the driver's own.
+    /// A value of the driver's own.
     fn own(&mut self, options: &Options) -> u64 {
         self.puts += 1;
         self.from.max(1) + self.puts * (options.threads + 1) + options.threads
@@ -1165,11 +1165,11 @@ impl One {
     }
 }
 
-/// Who is a process: each thread, and each of its lives, and who makes calls on behalf of one.
+/// Which processes there are: one for each thread, for each of its lives, and for each call on behalf of another.
 type Who = (usize, usize);
 const HELPS: usize = usize::MAX;
 
-/// What one round recorded, as a history: its events with their processes; and what its threads met.
+/// What one round recorded as a history, its events with their processes, and what its threads met.
 #[derive(Default)]
 struct Round {
     start: Arc<BTreeMap<u64, u64>>,
@@ -1186,7 +1186,7 @@ struct Round {
 }
 
 impl Round {
-    /// Calls that have no answer from before are the first.
+    /// Calls from earlier rounds that have no answer come first.
     fn new(mut noted: Vec<Event>, start: Arc<BTreeMap<u64, u64>>, before: &[Call], tally: &mut Tally) -> Round {
         let events = before.iter().cloned().enumerate().map(|(process, call)| One::new(process, What::Invoke(call), None)).collect();
         let (at_start, nobody) = ("at the start", "nobody");
@@ -1202,8 +1202,8 @@ impl Round {
         *self.numbers.entry(who).or_insert(next)
     }
 
-    /// The events of the threads. Further calls of one are made by processes that are free; where there are none, or too many calls, it is left out
-    /// with them.
+    /// The events of the threads. The further calls of a call get processes that are free. If there are none, or too many calls, the call is left out
+    /// with its further calls.
     fn order(&mut self, noted: Vec<Event>) {
         let is_call = |event: &Event| matches!(event.what, What::Invoke(_));
         let own: HashSet<Who> = noted.iter().map(|event| (event.thread, event.life)).collect();
@@ -1245,8 +1245,8 @@ impl Round {
         }
     }
 
-    /// How many calls were open where another began, at which keys two writers met, and which changes may still come. A call without an answer is
-    /// none that others overlap.
+    /// How many calls were open when another began, at which keys two writers met, and which changes may still come. A call without an answer does
+    /// not count as overlapped.
     fn measure(&mut self, tally: &mut Tally) {
         let mut last = HashMap::new();
         for number in 0..self.events.len() {
@@ -1278,7 +1278,7 @@ impl Round {
         self.pending = open.into_values().map(|(_, call, _)| call).filter(|call| !self.tells(call)).cloned().collect();
     }
 
-    /// Whether an answer reports what a call puts: then it was done.
+    /// Whether an answer reports what a call puts. Then the call was done.
     fn tells(&self, call: &Call) -> bool {
         let value = call.1.last().map_or(String::new(), u64::to_string);
         let in_pair = format!(",{value}]");
@@ -1286,7 +1286,7 @@ impl Round {
             && self.events.iter().any(|one| matches!(&one.what, What::Answer(answer) if *answer == value || answer.contains(&in_pair)))
     }
 
-    /// A history as a round, as far as what is said of it needs that.
+    /// A history as a round, as far as the report needs it.
     fn read(text: &str) -> Round {
         let whole = Json::read(&mut &*text);
         let mut events = vec![];
@@ -1304,7 +1304,7 @@ impl Round {
         Round { start: Arc::new(start), events, at_start, nobody, ..Round::default() }
     }
 
-    /// The calls that a follower still had, with the notes that the stream had of them: those of the calls "invoked" of its report, by rising event.
+    /// The calls that a follower still had, which the report lists under "invoked", by rising event, with the notes that the stream had of them.
     fn note(&mut self, report: &str, notes: &HashMap<u64, String>) {
         let report = Json::read(&mut &*report);
         let invoked = report.member("keys").items().iter().flat_map(|key| key.member("invoked").items());
@@ -1315,7 +1315,7 @@ impl Round {
         }
     }
 
-    /// Whether all its keys are below `keys` and all its calls have answers: then it may be judged together with others.
+    /// Whether all its keys are below `keys` and all its calls have answers. Then it may be judged together with other rounds.
     fn is_apart(&self, keys: u64) -> bool {
         let calls = self.events.iter().filter_map(One::call);
         let is_own = self.events.iter().all(|one| match &one.what {
@@ -1375,7 +1375,7 @@ impl Round {
     }
 }
 
-/// The pairs that an answer has, or none where it is no list of them.
+/// The pairs of an answer, or none if it is not a list of pairs.
 fn pairs_of(answer: &str) -> Option<Vec<(u64, u64)>> {
     match Json::read(&mut &*answer) {
         Json::List(pairs) => Some(pairs.iter().map(|pair| (pair.word(0), pair.word(1))).collect()),
@@ -1387,14 +1387,15 @@ fn note_text(note: &Option<String>) -> String {
     note.as_ref().map_or(String::new(), |note| format!("\"note\":\"{note}\","))
 }
 
-/// How often gets found a value; and how often a key was lost, so that nothing was found where a put was answered and no delete begun since.
+/// How often gets found a value, and how often a key was lost. A key is lost if nothing is found although a put of it was answered, and no delete has
+/// begun since.
 #[derive(Default)]
 struct Tally {
     hits: u64,
     misses: u64,
     losses: u64,
     clock: u64,
-    /// When a put ended; open deletes; when a delete began or ended last.
+    /// When a put ended, how many deletes are open, and when a delete began or ended last.
     stored: HashMap<u64, u64>,
     deletes: HashMap<u64, u64>,
     deleted: HashMap<u64, u64>,
@@ -1447,13 +1448,13 @@ impl Tally {
 }
 
 impl Program {
-    /// The verdict: once more at ten times the budget where it is undecided.
+    /// The verdict; if it is undecided, it is asked again at ten times the budget.
     fn ask_twice(&self, command: &str, text: &str) -> Result<(i32, String), Stop> {
         let asked = self.ask(command, text, self.budget)?;
         if asked.0 == UNDECIDED { self.ask(command, text, self.more()) } else { Ok(asked) }
     }
 
-    /// The budget of what is asked again.
+    /// The budget of a question that is asked again.
     fn more(&self) -> u64 {
         (self.budget * 10).min(1_000_000)
     }
@@ -1483,12 +1484,12 @@ impl Program {
         Ok(program)
     }
 
-    /// Whether `judge`, or what else there is, was answered.
+    /// Whether `judge`, or another command, was answered.
     fn has_answered(&self, command: &str) -> &AtomicBool {
         if command == "judge" { &self.has_judged } else { &self.has_told }
     }
 
-    /// Returns the program that runs a command. Once the repository's own `bench` has answered, this is the last program that `bench` built:
+    /// Returns the program that runs a command. After the repository's own `bench` has answered, this is the program that `bench` built last. For
     /// `bench` itself takes as long as ten rounds to see that nothing has changed.
     fn at(&self, command: &str) -> std::path::PathBuf {
         let script = std::path::PathBuf::from(&self.path);
@@ -1502,8 +1503,8 @@ impl Program {
         built.max_by_key(|built| built.with_file_name("built").metadata().and_then(|found| found.modified()).ok()).unwrap_or(script)
     }
 
-    /// Has a stream followed that is handed over. The program writes once it has a verdict, and may do so while the stream is still running: then the
-    /// run is over.
+    /// Lets the program follow a stream that is written to it. It prints its verdict when it has one, which may be while the stream is still running.
+    /// Then the run is over.
     fn follow(&self, stream: &Stream, hand: impl FnOnce(&mut dyn Write)) -> Result<(i32, String), Stop> {
         let told = |error: std::io::Error| self.told(&error);
         let mut asked = Command::new(self.at("follow"));
@@ -1545,7 +1546,7 @@ impl Program {
         self.checked(command, child.wait().map_err(told)?, answer)
     }
 
-    /// The status with its report, where the program has given one.
+    /// The status with its report, if the program has given one.
     fn checked(&self, command: &str, ended: ExitStatus, answer: String) -> Result<(i32, String), Stop> {
         match ended.code() {
             Some(status) if status <= UNDECIDED => {
@@ -1608,7 +1609,7 @@ impl Program {
         Ok(Program { budget: options.budget })
     }
 
-    /// What a call answers, and its text: again with more room, where that needs more.
+    /// What a call answers, and its text. It is called again with more room if it needs more.
     fn answered(command: &str, call: impl Fn(*mut u8, usize, *mut usize) -> u32) -> Result<(i32, String), Stop> {
         let mut length = 32767;
         loop {
@@ -1633,7 +1634,7 @@ impl Program {
         Program::answered(command, |room, size, length| unsafe { question(text.as_ptr(), text.len(), budget, room, size, length) })
     }
 
-    /// Has a stream followed that is handed over.
+    /// Lets the library follow a stream that is passed to it.
     fn follow(&self, stream: &Stream, hand: impl FnOnce(&mut dyn Write)) -> Result<(i32, String), Stop> {
         let mut follower = Follower { at: std::ptr::null_mut(), is_open: false };
         if unsafe { potzendai_follow_open(&mut follower, self.budget as u32) } != 0 {
@@ -1670,7 +1671,7 @@ struct Waiting {
     counted: Counted,
 }
 
-/// Rounds at a new map, each of which begins with what the one before has left: the pairs, and calls without an answer that may still come.
+/// Rounds at a new map. Each begins with what the one before has left: the pairs, and calls without an answer that may still take effect.
 struct Run {
     options: Options,
     counted: Counted,
@@ -1690,8 +1691,8 @@ struct Run {
     kept: Option<String>, // the stream so far, while it is no longer than is kept
 }
 
-/// Where a run is between two rounds: what the map holds, and calls that may still come; and the events of a round which ends with reads of the map
-/// that is opened again.
+/// The state of a run between two rounds: what the map holds, and calls that may still take effect. If a round ends with reads of the map that is
+/// opened again, it also has the events of that round.
 #[derive(Default)]
 struct At {
     start: Arc<BTreeMap<u64, u64>>,
@@ -1702,7 +1703,8 @@ struct At {
     values: Values,
 }
 
-/// Each put has a value of its own, which was not in the map before: from which on they are, and how many puts are the driver's own.
+/// Each put has a value of its own, which was not in the map before. This is the number from which these values begin, and how many puts are the
+/// driver's own.
 #[derive(Clone, Copy, Default)]
 struct Values {
     from: u64,
@@ -1716,7 +1718,7 @@ enum Next {
     Reopened,
 }
 
-/// By which a thread gets what it has to do, and what it has done.
+/// The channels by which a thread gets its tasks and sends what it has recorded.
 type Ends = (Sender<Task>, Receiver<Outcome>);
 
 impl Run {
@@ -1738,7 +1740,7 @@ impl Run {
                 Next::NewMap => (map, at) = (make(), At { values: at.values, ..At::default() }),
                 Next::Reopened => match catch_unwind(AssertUnwindSafe(|| map.reopen())) {
                     Ok(Some(opened)) => map = opened,
-                    Ok(None) => return fail(BAD_WORDS, format!("{}: reopen said nothing, where it has to return the map", run.options.name)),
+                    Ok(None) => return fail(BAD_WORDS, format!("{}: reopen returned nothing; it has to return the map", run.options.name)),
                     Err(_) => return fail(BAD_WORDS, format!("{}: reopen has panicked", run.options.name)),
                 },
             }
@@ -1824,7 +1826,7 @@ impl Run {
         self.conclude(stream, status, report)
     }
 
-    /// What the verdict on a stream says. One that was cut off has no yes.
+    /// What the verdict on a stream says. A stream that was cut off gets no yes.
     fn conclude(&mut self, stream: &Stream, status: i32, report: String) -> Result<(), Stop> {
         let counts_all = self.options.out == "-" || report.starts_with(&format!("{{\"calls\":{},", self.counted.calls + self.helped));
         match status {
@@ -1842,7 +1844,7 @@ impl Run {
         Ok(())
     }
 
-    /// Hands over each event in its turn, and asks for the verdict at the end.
+    /// Writes each event in its turn, and asks for the verdict at the end.
     fn write(
         &mut self, shared: &Shared, stream: &Stream, start: &BTreeMap<u64, u64>, program: Option<&Program>,
     ) -> Result<(i32, String), Stop> {
@@ -1858,7 +1860,7 @@ impl Run {
         }
     }
 
-    /// Where a write fails, the stream has failed: whoever follows has ended, and the verdict says why.
+    /// If a write fails, the stream has failed: the program that follows it has ended, and the verdict says why.
     fn hand_all(&mut self, shared: &Shared, stream: &Stream, mut text: String, out: &mut dyn Write) {
         let (mut open, mut writers, mut times) = (HashMap::new(), HashMap::new(), 0);
         loop {
@@ -1888,7 +1890,7 @@ impl Run {
         }
     }
 
-    /// Keeps lines of the stream for a file, or nothing of it any more where they are too many.
+    /// Stores lines of the stream, for a file. If there are too many, nothing of the stream is stored any more.
     fn keep(&mut self, lines: &str) {
         self.kept = self.kept.take().filter(|kept| kept.len() + lines.len() <= KEPT);
         if let Some(kept) = &mut self.kept {
@@ -1896,8 +1898,8 @@ impl Run {
         }
     }
 
-    /// The lines of events, and what is counted: as of a round, but nothing is stored of calls that are over. A call without an answer is
-    /// over too: nobody waits for it.
+    /// The lines of events, and the counts, as for a round. But nothing is stored of calls that are over. A call without an answer is over too:
+    /// nobody waits for it.
     fn take_happening(
         &mut self, what: Happening, open: &mut HashMap<usize, (Call, u64)>, writers: &mut HashMap<u64, u64>, text: &mut String,
     ) {
@@ -1947,7 +1949,7 @@ impl Run {
         }
     }
 
-    /// Rounds of one map. Where it is to be opened again, one.
+    /// Rounds of one map. If the map is to be opened again, it is one round.
     fn rounds_of(
         &mut self, map: &dyn Opens, shared: &Shared, threads: &[Ends], program: Option<&Program>, number: u64, at: &mut At,
     ) -> Result<Next, Stop> {
@@ -2044,7 +2046,8 @@ impl Run {
         Ok(())
     }
 
-    /// Judges the rounds that wait: all at once, and each on its own where that is not a yes. Of a no, what was counted is that up to its end.
+    /// Judges the rounds that wait: first all together, and each on its own if that is not a yes. After a no, only what was counted up to its end
+    /// counts.
     fn judge_waiting(&mut self, program: &Program) -> Result<(), Stop> {
         let all = std::mem::take(&mut self.waiting);
         let is_batch = all.len() > 1;
@@ -2072,7 +2075,7 @@ impl Run {
         self.counted.rounds > 0 && (self.options.rounds > 0 && self.counted.rounds >= self.options.rounds || is_late)
     }
 
-    /// Each second a line on a terminal says how far this is.
+    /// Each second a line on a terminal says how far the run is.
     fn progress(&mut self) {
         let seconds = self.began.elapsed().as_secs_f64();
         if self.options.shows && self.options.shown.elapsed() > Duration::from_secs(1) && self.counted.calls > 0 {
@@ -2086,7 +2089,7 @@ impl Run {
         }
     }
 
-    /// The verdict, and what it rests on.
+    /// The verdict, and the counts on which it is based.
     fn summary(&self, verdict: &str) -> String {
         let said: Vec<String> =
             self.counted.sayings.iter().zip(SAYINGS).filter(|(count, _)| **count > 0).map(|(count, word)| format!("{count} {word}")).collect();
@@ -2099,7 +2102,7 @@ impl Run {
         )];
         let tally = &self.tally;
         if self.is_late() {
-            // such a miss may be of a write that has not appeared yet, and is no loss
+            // such a miss may come before a write that has not appeared yet; it is no loss
             parts.push([counted(tally.hits, "hit"), counted(self.counted.called[Get as usize] - tally.hits, "miss")].join(", "));
         } else if self.options.cache.is_some() {
             parts.push([counted(tally.hits, "hit"), counted(tally.misses, "miss"), counted(tally.losses, "loss")].join(", "));
@@ -2144,7 +2147,7 @@ impl Run {
     }
 }
 
-/// So many of a noun.
+/// A number with its noun.
 fn counted(count: u64, noun: &str) -> String {
     format!("{count} {noun}{}", if count == 1 { "" } else if noun.ends_with('s') { "es" } else { "s" })
 }
@@ -2154,8 +2157,8 @@ fn grouped(number: u64) -> String {
     if number < 1000 { number.to_string() } else { format!("{},{:03}", grouped(number / 1000), number % 1000) }
 }
 
-/// The smallest run that failed, of some tries with half of the calls or keys, or a thread less. Threads interleave as they will. Where calls
-/// have no answer none is tried, since they may still come.
+/// The smallest run that failed, of some tries with half of the calls or keys, or a thread less. Threads interleave as they will. If calls have no
+/// answer, nothing smaller is tried, since they may still take effect.
 fn smaller<M: Map>(run: &Run, make: &dyn Fn() -> M, program: &Program) -> Result<Option<Run>, Stop> {
     let (mut best, began, mut tries, mut how) = (None, Instant::now(), 0, 0);
     let mut options = run.options.clone();
@@ -2308,7 +2311,7 @@ fn said_call(call: &Json) -> String {
     }
 }
 
-/// The events of a call: that of its invocation by a process, and that of its answer, where it has one.
+/// The events of a call: that of its invocation by a process, and that of its answer if it has one.
 fn said_events(round: &Round, invoked: u64, process: u64) -> String {
     let mut behind = round.events.iter().enumerate().skip(invoked as usize + 1);
     match behind.find(|(_, one)| one.process as u64 == process) {
@@ -2317,7 +2320,7 @@ fn said_events(round: &Round, invoked: u64, process: u64) -> String {
     }
 }
 
-/// The call of an event as it was made, where a history has another one.
+/// The call of an event as it was made, if the history has another one.
 fn note_of(round: &Round, number: u64) -> Option<&String> {
     round.events.get(number as usize)?.note.as_ref()
 }
@@ -2328,7 +2331,7 @@ fn said_made(round: &Round, number: u64, call: String) -> String {
     note_of(round, number).map_or(call, said)
 }
 
-/// The event of a call's answer, or the end where it has none.
+/// The event of a call's answer, or the end if it has none.
 fn last_event(round: &Round, invoked: usize) -> usize {
     let process = round.events[invoked].process;
     (invoked + 1..round.events.len()).find(|number| round.events[*number].process == process).unwrap_or(round.events.len())
@@ -2376,7 +2379,7 @@ fn said_origin(round: &Round, line: &Json) -> String {
     format!("  {} at {} is {who}", line.member("value").number(), line.member("key").number())
 }
 
-/// From which value of a key the few calls have no order. Only an undecided report has such lines.
+/// The value of a key from which the few calls have no order. Only an undecided report has such lines.
 fn said_from(line: &Json) -> String {
     let key = line.member("key").number();
     let (Json::Number(value), put) = (line.member("from"), line.member("put")) else {
@@ -2398,8 +2401,8 @@ fn said_missed(round: &Round, line: &Json) -> String {
     }).collect()
 }
 
-/// A report of `explain` in words, and the line that is the few calls' history, if it is there. After an undecided, `locate` has a line, which
-/// is passed over.
+/// A report of `explain` in words, and the line that is the few calls' history, if it is there. After an undecided there is a line of `locate`, which
+/// is skipped.
 fn said_report(report: &str, round: &Round) -> (Vec<String>, Option<String>) {
     let mut lines = report.lines();
     let (mut said, mut few) = (vec![said_verdict(lines.next().unwrap_or(""))], None);
@@ -2447,7 +2450,7 @@ fn said_report(report: &str, round: &Round) -> (Vec<String>, Option<String>) {
     (said, few)
 }
 
-/// A line of a report, without the values that replaces of a cache put which said that they changed nothing.
+/// A line of a report, without the values that some replaces of a cache put: those that said that they changed nothing.
 fn unmarked(line: &str) -> String {
     let texts = line.split_inclusive(|one: char| !one.is_ascii_digit());
     texts.map(|text| {
@@ -2459,7 +2462,7 @@ fn unmarked(line: &str) -> String {
     }).collect()
 }
 
-/// Writes a file of a round, or of a stream, and says how it is called.
+/// Writes a file of a round, or of a stream, and says its name.
 fn keep(run: &Run, ending: &str, text: &str) -> String {
     let name = format!("{}-{}-{}{ending}", run.options.name, run.options.seed, run.counted.rounds.saturating_sub(1));
     let path = std::path::Path::new(&run.options.out).join(name);
@@ -2469,20 +2472,20 @@ fn keep(run: &Run, ending: &str, text: &str) -> String {
     }
 }
 
-/// Reports a stream that has no order. If the calls that are left show the fault, their history is explained; else a line says why not. The
+/// Reports a stream that has no order. If the calls that are left show the fault, their history is explained; otherwise a line says why not. The
 /// stream so far is saved, unless it is long. The report is saved if it is not shown whole, or if nothing else is saved.
 fn refuted_stream(run: &Run, program: &Program) -> Result<Vec<String>, Stop> {
     let (report, left) = run.report.split_once('\n').unwrap_or((&run.report, ""));
     let is_whole = report.len() <= REPORT_SHOWN;
     let mut said = vec![if is_whole { report.to_string() } else { format!("{}..", &report[..REPORT_SHOWN]) }];
     if left.is_empty() {
-        said.push(format!("few calls are not shown: {}", why_not_few(report)));
+        said.push(format!("the few calls are not shown: {}", why_not_few(report)));
     } else {
         said.extend(shown_left(run, left, program));
     }
     said.push(match &run.kept {
         Some(kept) => keep(run, ".jsonl", kept),
-        None => format!("the stream is not kept, since it is longer than {KEPT} bytes"),
+        None => format!("the stream is not saved, since it is longer than {KEPT} bytes"),
     });
     if !is_whole || left.is_empty() && run.kept.is_none() {
         said.push(keep(run, "-report.json", &format!("{report}\n")));
@@ -2495,10 +2498,10 @@ fn refuted_stream(run: &Run, program: &Program) -> Result<Vec<String>, Stop> {
 fn shown_left(run: &Run, left: &str, program: &Program) -> Vec<String> {
     let explained = match program.ask_twice("explain", left) {
         Ok((_, explained)) => explained,
-        Err(Stop(_, line)) => return vec![format!("few calls are not shown: {line}"), keep(run, ".json", left)],
+        Err(Stop(_, line)) => return vec![format!("the few calls are not shown: {line}"), keep(run, ".json", left)],
     };
     if !explained.contains("\n{\"answer\":") {
-        let line = format!("few calls are not shown: they are not found within a budget of {}", program.more());
+        let line = format!("the few calls are not shown: they are not found within a budget of {}", program.more());
         return vec![line, keep(run, ".json", left)];
     }
     let mut said = vec![RENUMBERED.to_string()];
@@ -2516,7 +2519,7 @@ fn why_not_few(report: &str) -> &'static str {
         Some(0) => "the call had taken effect by then, and its answer contradicts what it found",
         Some(1) => "the calls \"invoked\" may have taken effect in several ways, or they fit no history: they are too many, or too many are open at \
                     once",
-        Some(_) => "a key may have had each of these values before the calls \"invoked\"",
+        Some(_) => "a key may have had any of the listed values before the calls \"invoked\"",
     }
 }
 
@@ -2534,7 +2537,7 @@ fn shown(run: &Run, text: &str, report: &str, round: &Round, program: &Program) 
     said
 }
 
-/// Keeps the file that the program or the library makes of a history, or says why there is none.
+/// Saves the file that the program or the library makes of a history, or says why there is none.
 fn keep_made(run: &Run, program: &Program, command: &str, ending: &str, text: &str) -> String {
     match program.ask_twice(command, text) {
         Ok((_, made)) => keep(run, ending, &made),
@@ -2557,7 +2560,7 @@ fn refuted<M: Map>(run: &Run, make: &dyn Fn() -> M, program: &Program) -> Result
     let kept = keep(run, ".json", &text); // before: the part that explains may be built first
     match program.ask_twice("explain", &text) {
         Ok((_, explained)) => said.extend(shown(run, &text, &explained, round, program)),
-        Err(Stop(_, line)) => said.extend([kept, format!("few calls are not shown: {line}")]),
+        Err(Stop(_, line)) => said.extend([kept, format!("the few calls are not shown: {line}")]),
     }
     said.push(format!("{AGAIN}{}", run.options.again(run.counted.rounds)));
     Ok(said)
@@ -2572,7 +2575,7 @@ const USAGE: &str = "  --seconds N       how long (10, or as long as --rounds ta
   --hot N           nine calls in ten use one of the first N keys
   --calls N         calls of each thread in a round, or in a stream (200; no limit)
   --seed N          what the calls are drawn from (the clock)
-  --mix LIST        shares, as get=50,put=30,del=10,scan=10; also replace, put_if_absent, floor, ceiling, pop_first
+  --mix LIST        shares, such as get=50,put=30,del=10,scan=10; also replace, put_if_absent, floor, ceiling, pop_first
   --void HOW        done: a put or del may answer done; told: it must say the value before; own: one writer for each key remembers
                     what it put; lock: a lock for each key around a get and the put after it (done)
   --scan HOW        snapshot: a scan is of one moment; steps: steps of ceiling (snapshot)
@@ -2640,7 +2643,7 @@ impl Options {
             }
         }
         if options.cache.as_ref().is_some_and(|how| how != "now" && how != "late") {
-            return fail(BAD_WORDS, "--cache: late, or nothing");
+            return fail(BAD_WORDS, "--cache: only late may follow");
         }
         Ok(options)
     }
@@ -2674,7 +2677,7 @@ impl Options {
             _ => true,
         };
         if !is_named {
-            return fail(BAD_WORDS, format!("{word}: none of its names; --help has them"));
+            return fail(BAD_WORDS, format!("{word}: not one of its names; see --help"));
         }
         match word {
             "--void" => (self.void, self.has_void) = (text.to_string(), true),
@@ -2683,7 +2686,7 @@ impl Options {
             "--out" => self.out = text.to_string(),
             "--bench" => self.bench = Some(text.to_string()),
             "--mix" => return self.read_mix(text),
-            _ => return fail(BAD_WORDS, format!("{word}: no such word; --help has them")),
+            _ => return fail(BAD_WORDS, format!("{word}: no such option; see --help")),
         }
         Ok(())
     }
@@ -2694,19 +2697,19 @@ impl Options {
             let (name, share) = part.split_once('=').unwrap_or((part, ""));
             match (NAMES.iter().position(|own| *own == name), share.parse()) {
                 (Some(at), Ok(share)) if share < 1_000_000 => self.shares[at] = share,
-                _ => return fail(BAD_WORDS, "--mix: shares, as get=50,put=30,del=10,scan=10"),
+                _ => return fail(BAD_WORDS, "--mix: shares, such as get=50,put=30,del=10,scan=10"),
             }
         }
         Ok(())
     }
 
-    /// Whether what a broken map makes wrong is called; of all of them, whether what one of them does is.
+    /// Whether the functions that a broken map makes wrong are called; for `all`, whether those of one kind are.
     fn is_called(&self, how: &str) -> bool {
         let is_steps = |name: &str| name == "torn" && self.scan == "steps";
         BREAKS.iter().any(|(name, kind)| (*name == how || how == "all") && self.shares[*kind as usize] > 0 && !is_steps(name))
     }
 
-    /// The words together, and with what the map has.
+    /// Tests that the options fit each other and the functions of the map.
     fn fit(&mut self, has: [bool; 9], can_reopen: bool) -> Result<(), Stop> {
         let is_apart = self.void == "own" || self.void == "lock";
         for kind in KINDS {
@@ -2732,8 +2735,8 @@ impl Options {
         let is_unbroken = self.broken.as_ref().map_or(true, |how| self.is_called(how));
         let rows = [
             (self.shares.iter().sum::<u64>() == 0, "--mix: no share"),
-            (self.shares[PopFirst as usize] > 0 && is_apart, "pop_first: takes keys of others, so not with --void own or lock"),
-            (!is_unbroken, "--break: what it makes wrong is not called"),
+            (self.shares[PopFirst as usize] > 0 && is_apart, "pop_first: takes keys of other threads, so not with --void own or lock"),
+            (!is_unbroken, "--break: no call that it would break is made"),
             (self.hot > self.keys, "--hot: more than there are keys"),
             (self.void == "own" && self.keys < self.threads, "--void: own: each thread needs a key"),
             (
@@ -2743,7 +2746,7 @@ impl Options {
             (self.is_stream && self.fresh > 0, "--fresh: not with --stream, which is of one map"),
             (self.is_stream && self.is_reopened, "--reopen: not with --stream, which is of one map"),
             (self.is_reopened && !can_reopen, "--reopen: the map has no function reopen"),
-            (self.is_stream && self.rounds > 0, "--rounds: a stream has none; --seconds, or --calls of each thread"),
+            (self.is_stream && self.rounds > 0, "--rounds: a stream has no rounds; use --seconds, or --calls for each thread"),
             (!self.is_stream && threads >= PROCESSES as u64, "--threads: at most 63 in rounds; --stream has no such limit"),
             (!self.is_stream && self.keys > most, &many_keys),
             (!self.is_stream && self.calls > most, &many_calls),
@@ -2756,7 +2759,7 @@ impl Options {
         self.check_out()
     }
 
-    /// Whether a file can be put into the folder for files: one of a name that none has yet is put there, and taken away.
+    /// Tests whether a file can be written into the folder for files: one with a new name is written there, and removed.
     fn check_out(&self) -> Result<(), Stop> {
         if self.out == "-" {
             return Ok(());
@@ -2771,11 +2774,11 @@ impl Options {
         }
         created.and_then(|_| std::fs::remove_file(named(number))).or_else(|error| {
             let (text, code) = (error.to_string(), format!(" (os error {})", error.raw_os_error().unwrap_or(0)));
-            fail(BAD_FILE, format!("--out: no file can be put into {}: {}", self.out, text.replace(&code, "")))
+            fail(BAD_FILE, format!("--out: no file can be written into {}: {}", self.out, text.replace(&code, "")))
         })
     }
 
-    /// Half of the calls or the keys, or a thread less; none where there are none.
+    /// Options with half of the calls or of the keys, or one thread less; none if that is not possible.
     fn less(&self, how: usize) -> Option<Options> {
         let mut less = self.clone();
         (less.rounds, less.shows) = (1, false);
@@ -2788,7 +2791,7 @@ impl Options {
         (less.calls > 0 && less.threads > 0 && less.keys >= least_keys).then_some(less)
     }
 
-    /// The words that repeat the draws of a run of so many rounds.
+    /// The options that repeat the draws of a run of this many rounds.
     fn again(&self, rounds: u64) -> String {
         let shares = KINDS.iter().filter(|kind| self.shares[**kind as usize] > 0);
         let mix: Vec<String> = shares.map(|kind| format!("{}={}", kind.name(), self.shares[*kind as usize])).collect();
@@ -2860,14 +2863,14 @@ fn tested<M: Map>(name: &str, make: &dyn Fn() -> M, words: &[String]) -> Result<
     Ok((status, said, run.summary(VERDICTS[status as usize])))
 }
 
-/// Each way to go wrong that the drawn calls can show has to be refuted: then the status is that of a no.
+/// Each kind of bug that the drawn calls can show has to be refuted. Then the status is that of a no.
 fn all_broken<M: Map>(
     mut options: Options, make: &dyn Fn() -> M, program: &Program, has: [bool; 9],
 ) -> Result<(i32, Vec<String>, String), Stop> {
     let (mut said, mut missed, mut called) = (vec![], 0, [0; 9]);
     for (how, _) in BREAKS {
         if !options.is_called(how) {
-            said.push(format!("{how}: what it makes wrong is not called"));
+            said.push(format!("{how}: no call that it would break is made"));
             continue;
         }
         options.broken = Some(how.to_string());
@@ -2875,7 +2878,7 @@ fn all_broken<M: Map>(
         let is_refuted = run.failed.is_some() && run.wrong_times > 0;
         missed += usize::from(!is_refuted);
         (0..9).for_each(|kind| called[kind] += run.counted.called[kind]);
-        let verdict = if is_refuted { "no" } else if run.failed.is_some() { "no of the map as it is" } else { "yes" };
+        let verdict = if is_refuted { "no" } else if run.failed.is_some() { "no of the map itself" } else { "yes" };
         said.push(format!("{how}: {}", run.summary(verdict)));
     }
     said.push(said_calls(has, called));
@@ -2886,7 +2889,7 @@ fn all_broken<M: Map>(
     })
 }
 
-/// Prints a text, and answers the status: where standard output has no room that of a yes is another one.
+/// Prints a text, and returns the status. If standard output has no room, a yes gets another status.
 fn printed(status: i32, text: &str) -> i32 {
     if writeln!(std::io::stdout(), "{text}").is_ok() {
         return status;
@@ -2895,7 +2898,7 @@ fn printed(status: i32, text: &str) -> i32 {
     if status == YES { BAD_FILE } else { status }
 }
 
-/// A whole program: says how it went, and answers the status. `make` makes a new and empty map: one for each run.
+/// A whole program: it reports how the run went, and returns the status. `make` makes a new and empty map for each run.
 pub fn run<M: Map>(name: &str, make: impl Fn() -> M, words: impl Iterator<Item = String>) -> i32 {
     let words: Vec<String> = words.collect();
     if words.iter().any(|word| word == "--help" || word == "-h") {
@@ -2913,7 +2916,7 @@ pub fn run<M: Map>(name: &str, make: impl Fn() -> M, words: impl Iterator<Item =
     }
 }
 
-/// To be called from a test: panics with the explanation where the verdict is no yes.
+/// For a test: panics with the explanation if the verdict is not yes.
 pub fn check<M: Map>(name: &str, make: impl Fn() -> M, words: &[&str]) {
     let words: Vec<String> = words.iter().map(|word| word.to_string()).collect();
     match tested(name, &make, &words) {

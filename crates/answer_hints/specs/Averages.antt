@@ -1,12 +1,11 @@
 -- A number a call, as it is written.
 use Rattle.std.specs.Prelude.{ℕ, ◌*◌, ◌/◌, ◌%◌, max, List, ◌++◌, codes, decimal}
 
--- how many hundredths a call there are of a sum over so many calls, rounded down; of no call as of
--- one
+-- a sum divided by a number of calls, in hundredths and rounded down; no calls count as one
 abbrev pub hundredths : ℕ → ℕ → ℕ
 hundredths calls total = total * 100 / max calls 1
 
--- the same with two decimals
+-- this quotient with two decimals
 abbrev pub average_text : ℕ → ℕ → List ℕ
 average_text calls total =
     decimal (total / max calls 1) ++ codes "." ++ decimal (hundredths calls total / 10 % 10)

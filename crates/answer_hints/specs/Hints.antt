@@ -1,4 +1,4 @@
--- What is told beside an answer, for who reads along.
+-- What a terminal shows next to an answer.
 use Rattle.std.specs.Prelude.{ℕ, nat_lt, if◌then◌else◌, List, [], ◌++◌, length, codes}
 use Rattle.events.specs.declared.event.Event.{Event}
 use Rattle.events.specs.Operations.{operations}
@@ -8,19 +8,19 @@ use Rattle.outcomes.specs.Lines.{line}
 use Rattle.answer_hints.specs.Averages.{hundredths, average_text}
 use Rattle.answer_hints.specs.Overlaps.{overlap_of}
 
--- few other calls were open at an invocation, on average
+-- the hint that few other calls were open at an invocation, on average
 abbrev pub rare_hint : ℕ → ℕ → List ℕ
 rare_hint calls overlap =
     line (codes "note: " ++ average_text calls overlap
     ++ codes " other calls were open at an invocation on average, and of calls that hardly overlap a yes says little")
 
--- the hint on a yes, of so many calls with so much overlap in all: that one where it is of two
--- calls at least, and less than a tenth a call
+-- the hint on a yes, for this many calls with this much overlap in all. There is one if there are
+-- at least two calls, and their overlap is less than a tenth on average
 abbrev pub yes_hint : ℕ → ℕ → List ℕ
 yes_hint calls overlap =
     if nat_lt calls 2 then [] else if nat_lt (hundredths calls overlap) 10 then rare_hint calls overlap else []
 
--- on a no, and where it is not known
+-- the hints on a no, and on an undecided
 abbrev pub no_hint : List ℕ
 no_hint = line (codes "note: bench explain names a few of the calls that have no order on their own")
 

@@ -1,4 +1,4 @@
--- How a run comes out whose answers may have hints.
+-- The outcome of a run whose answers may have hints.
 use Rattle.std.specs.Prelude.{◌≡◌, ◌⊎◌, ⊤, ℕ, List, [], Option, IfSome, string_bytes}
 use Rattle.outcomes.specs.declared.outcome.Answer.{Answer}
 use Rattle.outcomes.specs.declared.outcome.RunOutcome.{RunOutcome}
@@ -6,15 +6,15 @@ use Rattle.outcomes.specs.declared.outcome.RunOutcome.TheVariants.{Answered, Not
 use Rattle.outcomes.specs.Ends.{Change, IsSound}
 use Rattle.outcomes.specs.Outcomes.{IsUnread}
 
--- an answer with these bytes, and with this hint, or none where it is empty; or want of memory
+-- an answer with these bytes and this hint, or without a hint if that is empty; or out of memory
 abbrev pub IsHintedBy : Answer → List ℕ → List ℕ → RunOutcome → Type 0
 IsHintedBy answer bytes hint (Answered given text) = (given ≡ answer) × (string_bytes text ≡ bytes) × (hint ≡ [])
 IsHintedBy answer bytes hint (Noted given text note) = (given ≡ answer) × (string_bytes text ≡ bytes) × (string_bytes note ≡ hint)
 IsHintedBy answer bytes hint Memory = ⊤
 IsHintedBy answer bytes hint outcome = ⊥
 
--- the outcome of a text, as far as it is told: an answer with its hint, or without where it has
--- none; or its refusal with a hint; or want of memory
+-- the outcome of a text, if the text is known: an answer, with a hint if it has one; or its refusal
+-- with a hint; or out of memory
 abbrev pub IsHintedOutcome : (List ℕ → Answer → List ℕ → List ℕ → Type 0) → (List ℕ → List ℕ → List ℕ → Type 0) → Option (List ℕ)
     → RunOutcome → Type 0
 IsHintedOutcome IsAnswer IsRefusal told (Answered answer bytes) = IfSome told (λ text. IsAnswer text answer (string_bytes bytes) [])

@@ -4,7 +4,7 @@ ghost use Rattle.answer_hints.specs.Averages.{hundredths, average_text};
 
 use std::alloc::{AllocError, Global};
 
-/// How many hundredths a call there are of a sum over so many calls, rounded down; of no call as of
+/// Returns a sum divided by a number of calls, in hundredths and rounded down. No calls count as
 /// one.
 pub(crate) fn hundredths(calls: usize, total: u64) -> u128
     ensures { result ≡ hundredths calls total }
@@ -12,14 +12,14 @@ pub(crate) fn hundredths(calls: usize, total: u64) -> u128
     total as u128 * 100 / calls.max(1) as u128
 }
 
-/// The last digit of a number.
+/// Returns the last digit of a number.
 fn last_digit(number: u128) -> u8
     ensures { result ≡ number % 10 }
 {
     (number % 10) as u8
 }
 
-/// The same with two decimals.
+/// Returns this quotient with two decimals.
 pub fn average_text(alloc: Global, calls: usize, total: u64) -> Result<String, AllocError>
     ensures { IfOk result (λ text. string_bytes text ≡ average_text calls total) }
 {

@@ -1,4 +1,4 @@
-// Answers with what is told beside them.
+// Answers with what a terminal shows next to them.
 ghost use Rattle.std.specs.Prelude.{◌≡◌, if◌then◌else◌, ℕ, List, [], IfOk, string_bytes};
 ghost use Rattle.answer_hints.specs.Hints.{rare_hint, yes_hint, no_hint, undecided_hint};
 ghost use Rattle.answer_hints.specs.Outcomes.{IsHintedBy};
@@ -8,8 +8,8 @@ use crate::average::{average_text, hundredths};
 use outcomes::{Answer, RunOutcome};
 use std::alloc::{AllocError, Global};
 
-/// An answer of yes with this line. Where there are two calls at least, and fewer than 0.1 other
-/// calls were open at an invocation on average, a hint tells how many.
+/// Returns a yes with this line. If there are at least two calls, and on average fewer than 0.1
+/// other calls were open at an invocation, a hint says how many.
 pub fn hinted_yes(
     alloc: Global,
     line: Result<String, AllocError>,
@@ -26,7 +26,7 @@ pub fn hinted_yes(
     }
 }
 
-/// An answer of no with this line, and the hint that `bench explain` names a few of the calls.
+/// Returns a no with this line, and the hint that `bench explain` names a few of the calls.
 pub fn hinted_no(alloc: Global, line: Result<String, AllocError>) -> RunOutcome
     ensures { (bytes : List ℕ) → IfOk line (λ text. string_bytes text ≡ bytes)
         → IsHintedBy No bytes no_hint result }
@@ -34,7 +34,7 @@ pub fn hinted_no(alloc: Global, line: Result<String, AllocError>) -> RunOutcome
     RunOutcome::with_note(Answer::No, line, no_hint(alloc))
 }
 
-/// An answer that is undecided, with this line, and the hint that `bench locate` may decide it.
+/// Returns an undecided with this line, and the hint that `bench locate` may decide it.
 pub fn hinted_undecided(alloc: Global, line: Result<String, AllocError>) -> RunOutcome
     ensures { (bytes : List ℕ) → IfOk line (λ text. string_bytes text ≡ bytes)
         → IsHintedBy Undecided bytes undecided_hint result }
@@ -42,15 +42,15 @@ pub fn hinted_undecided(alloc: Global, line: Result<String, AllocError>) -> RunO
     RunOutcome::with_note(Answer::Undecided, line, undecided_hint(alloc))
 }
 
-/// Whether there are two calls at least, and fewer than 0.1 other calls were open at an invocation
-/// on average.
+/// Returns whether there are at least two calls, and on average fewer than 0.1 other calls were
+/// open at an invocation.
 fn is_rare(calls: usize, overlap: u64) -> bool
     ensures { yes_hint calls overlap ≡ (if result then rare_hint calls overlap else []) }
 {
     calls >= 2 && hundredths(calls, overlap) < 10
 }
 
-/// How few other calls were open at an invocation.
+/// Returns the hint on how few other calls were open at an invocation.
 fn rare_hint(alloc: Global, calls: usize, overlap: u64) -> Result<String, AllocError>
     ensures { IfOk result (λ hint. string_bytes hint ≡ rare_hint calls overlap) }
 {
@@ -62,7 +62,7 @@ fn rare_hint(alloc: Global, calls: usize, overlap: u64) -> Result<String, AllocE
     Ok(hint)
 }
 
-/// What names a few of the calls.
+/// Returns the hint on the subcommand that names a few of the calls.
 fn no_hint(alloc: Global) -> Result<String, AllocError>
     ensures { IfOk result (λ hint. string_bytes hint ≡ no_hint) }
 {
@@ -72,7 +72,7 @@ fn no_hint(alloc: Global) -> Result<String, AllocError>
     )
 }
 
-/// What may decide it.
+/// Returns the hint on the subcommand that may decide.
 fn undecided_hint(alloc: Global) -> Result<String, AllocError>
     ensures { IfOk result (λ hint. string_bytes hint ≡ undecided_hint) }
 {

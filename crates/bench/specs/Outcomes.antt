@@ -1,4 +1,4 @@
--- How a run comes out, for what the words of the command line ask for and the text on the source.
+-- The outcome of a run, by the command line and the text on the source.
 use Rattle.std.specs.Prelude.{ℕ, Option, Some, None}
 use Rattle.art_rows.specs.declared.table.Shape.{Shape}
 use Rattle.art_steps.specs.declared.variant.Variant.{Variant}
@@ -14,7 +14,7 @@ use Rattle.outcomes.specs.Ends.{Change, IsUnused}
 use Rattle.judge_lines.specs.Outcomes.{IsJudgeLineOutcome}
 use Rattle.plan_engines.specs.Outcomes.{IsDriveOutcome, IsGenerateOutcome, IsReplayOutcome, IsScheduleOutcome, IsTreeDriveOutcome}
 
--- the variant of a tree on shared words; the map under a lock is none
+-- the variant of a tree on shared words; the map under a lock has none
 abbrev pub variant_of : Tree → Option Variant
 variant_of trees.Locked = None
 variant_of trees.Coupled = Some variants.Coupled
@@ -28,13 +28,14 @@ variant_of trees.EarlyRelease = Some variants.EarlyRelease
 abbrev pub shape_of : Rows → Shape
 shape_of rows = record { rows4 = rows.rows4; rows16 = rows.rows16; rows48 = rows.rows48; rows256 = rows.rows256 }
 
--- the outcome of a drive: on a tree of this shape, with at most so many steps of each call beside that of its invocation; or at a subject
--- that may answer as the map under a lock
+-- the outcome of a drive: on a tree of this shape, with at most this many steps of each call after
+-- its invocation; or at a subject that may answer as the map under a lock
 abbrev pub IsDrivenOutcome : Option Variant → Shape → ℕ → Change → RunOutcome → Type 0
 IsDrivenOutcome (Some variant) shape limit source outcome = IsTreeDriveOutcome shape variant limit source outcome
 IsDrivenOutcome None shape limit source outcome = IsDriveOutcome IsAnswerOf source outcome
 
--- the outcome of a schedule of at most so many turns, on a tree of this shape; the map under a lock has none
+-- the outcome of a schedule of at most this many turns, on a tree of this shape; the map under a
+-- lock has none
 abbrev pub IsScheduledOutcome : Option Variant → Shape → ℕ → Change → RunOutcome → Type 0
 IsScheduledOutcome (Some variant) shape limit source outcome = IsScheduleOutcome shape variant limit source outcome
 IsScheduledOutcome None shape limit source outcome = ⊥

@@ -1,4 +1,4 @@
-// What the words of the command line ask for, done.
+// Does what the command line asks for.
 ghost use Rattle.std.specs.Prelude.{◌≡◌, ◌<◌};
 ghost use Rattle.clap.specs.Walk.{texts};
 ghost use Rattle.command_line.specs.Lines.{IsWithinLimits};
@@ -23,9 +23,9 @@ use std::thread::Threads;
 use streams::{Sink, Source};
 use workload::Mix;
 
-/// Does what the words of the command line ask for, the program's name first, and answers the exit status.
-/// Nothing stops workers before a segment that they search, or the processes of a drive before they begin; how far a stream was followed
-/// is shown.
+/// Does what the command line asks for, and returns the exit status. The command line begins with
+/// the program's name. Nothing stops workers before a segment that they search, or the processes of
+/// a drive before they begin. A terminal shows how far a stream was followed.
 pub fn run<R: Threads + Wait + Sync, S: Source, O: Sink, F: Sink, H: Sink, P: ProgressDisplay>(
     rt: &R,
     alloc: Global,
@@ -41,14 +41,14 @@ pub fn run<R: Threads + Wait + Sync, S: Source, O: Sink, F: Sink, H: Sink, P: Pr
     requires faults { F.failures faults.old < u64.MAX }
     requires hints { H.failures hints.old < u64.MAX }
 
-    // What the words ask for comes out so, or the fault that they have.
+    // The outcome is that of what the command line asks for, or of its fault.
     ensures run { IsRun
         (IsWordsOutcome IsLineOutcome (texts words.entry.now) (change S.remaining S.failures source.old source.new))
         (change O.written O.failures output.old output.new)
         (change F.written F.failures faults.old faults.new)
         (change H.written H.failures hints.old hints.new) result }
 
-    // For words with a fault nothing is read.
+    // If the command line has a fault, nothing is read.
     ensures unread { result ≡ words_status → source.new ≡ source.old }
 {
     let line = match asked_line(alloc, words) {
@@ -84,7 +84,7 @@ pub fn run<R: Threads + Wait + Sync, S: Source, O: Sink, F: Sink, H: Sink, P: Pr
     }
 }
 
-/// Draws a schedule of the plan on the source, and answers the exit status.
+/// Draws a schedule of the plan on the source, and returns the exit status.
 fn schedule<S: Source, O: Sink, F: Sink, H: Sink>(
     alloc: Global,
     source: &mut S,
@@ -120,7 +120,7 @@ fn schedule<S: Source, O: Sink, F: Sink, H: Sink>(
     )
 }
 
-/// Does the plan on the source, and answers the exit status.
+/// Does the plan on the source, and returns the exit status.
 fn drive<R: Threads + Wait + Sync, S: Source, O: Sink, F: Sink, H: Sink>(
     rt: &R,
     alloc: Global,
@@ -153,7 +153,7 @@ fn drive<R: Threads + Wait + Sync, S: Source, O: Sink, F: Sink, H: Sink>(
     )
 }
 
-/// The shape of a table with these rows.
+/// Returns the shape of a table with these rows.
 fn shape_of(rows: Rows) -> Shape
     ensures { result ≡ shape_of rows }
 {
@@ -165,7 +165,7 @@ fn shape_of(rows: Rows) -> Shape
     }
 }
 
-/// The variant of a tree on shared words; `Tree::Locked` is none.
+/// Returns the variant of a tree on shared words; `Tree::Locked` has none.
 fn variant_of(tree: Tree) -> Option<Variant>
     ensures { result ≡ variant_of tree }
 {
@@ -180,7 +180,7 @@ fn variant_of(tree: Tree) -> Option<Variant>
     }
 }
 
-/// The strategy by which a schedule is drawn.
+/// Returns the strategy by which a schedule is drawn.
 fn strategy_of(strategy: Strategy) -> drawn_schedules::Strategy {
     match strategy {
         Strategy::Walk => drawn_schedules::Strategy::Walk,

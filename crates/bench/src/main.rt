@@ -1,8 +1,9 @@
-//! The program: it reads a text from standard input, or draws one, and writes its answer to standard output.
+//! The program: it reads a text from standard input, or draws one, and writes its answer to
+//! standard output.
 //!
-//! What each subcommand does is an engine over any source and sinks, whose contract says how it comes out for
-//! what is read and what is written for that, and `run` does what the words of the command line ask for. This
-//! file gives it the words and the standard streams.
+//! Each subcommand is an engine over any source and sinks. Its contract says what the outcome is
+//! for what is read, and what is written. `run` does what the command line asks for. This file
+//! gives it the command line and the standard streams.
 #![tactic(auto)]
 
 mod command;

@@ -1,4 +1,4 @@
--- What is kept of the numbers so far.
+-- What the checker remembers of the numbers so far.
 use Rattle.std.specs.Prelude.{◌≡◌, ℕ, ◌<◌, false, List, length, map, slice_index_or}
 use Rattle.events.specs.declared.operation.Operation.{Operation}
 use Rattle.list_laws.specs.Lists.{greatest, has_number}
@@ -6,7 +6,8 @@ use Rattle.map_object.specs.MapObject.{Contents}
 use Rattle.orders.specs.Orders.{IsLegalOrder, after_calls, calls_at}
 use Rattle.certificate.specs.declared.prefix.Prefix.{Prefix}
 
--- the numbers are a legal order, and this is kept of them: the pairs after their calls, which they are, their latest invocation
+-- the numbers are a legal order, and the checker remembers this of them: the pairs after their
+-- calls, which numbers they are, and their latest invocation
 pub record IsPrefixOf (start : Contents) (calls : List Operation) (numbers : List ℕ) (prefix : Prefix) : Type 0 where
   pub sound : IsLegalOrder start calls numbers
   pub pairs : prefix.map ≡ after_calls start (calls_at calls numbers)

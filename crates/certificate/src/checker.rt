@@ -11,12 +11,14 @@ use crate::prefix::Prefix;
 use events::History;
 use std::alloc::Global;
 
-/// Whether the numbers are an order of the history, from the pairs that it starts with: they name calls, each once
-/// and each completed one among them, no later call precedes an earlier one, and each completed
-/// call may be answered there as it was. Otherwise the first fault: that of the least place which shows
-/// one, and there `Unknown` before `Repeated`, `Precedence` and `Reply`; at the end `Missing`. `Memory`
-/// says nothing of the numbers. It goes once over them and once over the calls, beside the map's work,
-/// and copies the starting pairs.
+/// Tests whether the numbers are an order of the history, from the pairs that it starts with. They
+/// have to name calls, each at most once, and every completed call. No later call may precede an
+/// earlier one, and each completed call has to be answered as it was recorded.
+///
+/// If they are not an order, it returns the first fault: that of the least place that shows one. At
+/// one place `Unknown` comes before `Repeated`, `Precedence` and `Reply`; `Missing` comes at the
+/// end. `Memory` says nothing of the numbers. It goes once over the numbers and once over the
+/// calls, does the map's work, and copies the starting pairs.
 pub fn check(alloc: Global, history: &History, order: &[u32]) -> Result<(), OrderFault>
     ensures ok { OnOk result (IsOrderOfHistory history.now order.now) }
     ensures refused { IfErr result (IsRefusedFor history.now.start (operations history.now.events) order.now) }
@@ -27,7 +29,8 @@ pub fn check(alloc: Global, history: &History, order: &[u32]) -> Result<(), Orde
     take_numbers(alloc, history, &mut prefix, order)
 }
 
-/// Takes the numbers one after another, where none was taken before; and says what is missing at the end.
+/// Takes the numbers one by one, if none was taken before. At the end it reports a call that is
+/// missing.
 fn take_numbers(
     alloc: Global,
     history: &History,

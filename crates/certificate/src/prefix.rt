@@ -1,4 +1,4 @@
-// The numbers are tested one after another, each by what is kept of those before it.
+// The numbers are tested one by one, each against what is remembered of those before it.
 ghost use Rattle.std.specs.Prelude.{◌≡◌, ◌+◌, ◌↔◌, if◌then◌else◌, ℕ, List, [], Option, Some, length, vec_len, slice_get};
 ghost use Rattle.std.specs.Prelude.{IsTrue, IfNone, IfSome, IfOk, IfErr, OnOk, OnErr};
 ghost use Rattle.map_object.specs.MapObject.{Contents, IsRising, after};
@@ -12,9 +12,10 @@ use map_object::SortedMap;
 use orders::{apply, may_come_next};
 use std::alloc::Global;
 
-/// What is kept of the first numbers of a list, as long as they show no fault: the pairs after their
-/// calls, which numbers they are, and the latest of their invocations. A call precedes one of these
-/// exactly where its response stands before the latest invocation, so none is looked at again.
+/// What the checker remembers of the first numbers of a list, as long as they show no fault: the
+/// pairs after their calls, which numbers they are, and the latest of their invocations. A call
+/// precedes one of their calls exactly if its response comes before the latest invocation. So no
+/// call is looked at twice.
 #[derive(Drop)]
 pub struct Prefix {
     pub map: SortedMap,
@@ -27,7 +28,7 @@ impl Prefix {
     ghost use Rattle.certificate.specs.Faults.{IsRefusedFor};
     ghost use Rattle.certificate.specs.Prefix.{IsPrefixOf};
 
-    /// Before any number, where the map holds these pairs at the start.
+    /// Returns the state before any number, if the map holds these pairs at the start.
     pub fn new(alloc: Global, start: &[(u64, u64)], calls: &[Operation]) -> Result<Prefix, Memory>
         requires { IsRising start.now }
         ensures { IfOk result (IsPrefixOf start.now calls.now []) }
@@ -39,7 +40,8 @@ impl Prefix {
         })
     }
 
-    /// Tests the number at a place, and takes its call where no fault shows. Nothing changes otherwise.
+    /// Tests the number at a place, and takes its call if it shows no fault. Otherwise nothing
+    /// changes.
     pub fn take(
         &mut self,
         alloc: Global,
@@ -76,7 +78,7 @@ impl Prefix {
         Ok(())
     }
 
-    /// The least completed call that was not taken.
+    /// Returns the least completed call that was not taken.
     pub fn least_missing(&self, calls: &[Operation]) -> Option<usize>
         requires { vec_len self.now.taken ≡ length calls.now }
         ensures none { (start : Contents) (order : List ℕ) → IsPrefixOf start calls.now order self.now
@@ -93,7 +95,7 @@ impl Prefix {
     }
 }
 
-/// Whether a response stands before a place.
+/// Returns whether a response comes before a place.
 fn is_before(response: &Option<Response>, place: usize) -> bool
     ensures { result ≡ is_before response.now place }
 {

@@ -4,7 +4,7 @@ use Rattle.events.specs.declared.operation.Operation.{Operation}
 use Rattle.map_object.specs.MapObject.{Contents}
 use Rattle.configurations.specs.Configurations.{Configuration, IsReachable}
 
--- each configuration stands once in the list
+-- each configuration is once in the list
 abbrev pub AreDistinct : List Configuration → Type 0
 AreDistinct configurations = AllPairs (λ a b. a ≢ b) configurations
 

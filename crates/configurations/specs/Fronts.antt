@@ -1,4 +1,4 @@
--- Fronts of a list of calls, which are named by place: Wing and Gong 1993.
+-- Fronts of a list of calls, which name calls by their places: Wing and Gong 1993.
 use Rattle.std.specs.Prelude.{◌≡◌, ◌≢◌, ℕ, ◌<◌, true, List, length, Some, slice_get, take, All, AllPairs, Contains}
 use Rattle.events.specs.declared.operation.Operation.{Operation}
 use Rattle.events.specs.Precedence.{precedes}

@@ -30,7 +30,8 @@ pub record AreRanges (calls : List Operation) (ranges : List KeyRange) : Type 0 
 abbrev pub GoesOver : ℕ → KeyRange → Type 0
 GoesOver c r = (r.low < c) × (c ≤ r.high)
 
--- ranges that hang together: where some begin below c and some end at or above it, one goes over it
+-- ranges are connected: if some begin below c, and some end at c or above it, one of them has keys
+-- on both sides of c
 abbrev pub AreChained : List KeyRange → Type 0
 AreChained ranges = (c : ℕ) → Any (λ r. r.low < c) ranges → Any (λ r. c ≤ r.high) ranges → Any (GoesOver c) ranges
 

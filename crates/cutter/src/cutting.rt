@@ -11,9 +11,9 @@ use events::{History, Memory};
 use segments::Segment;
 use std::alloc::Global;
 
-/// The segments of the history, by rising key. Pending gets and pending scans are in none. Where one of them
-/// has no order from its own starting pairs, the history has none. For n calls it takes time in proportion to n log n, and to the pairs
-/// in their replies, which are copied.
+/// Splits the history into segments, by rising key. Pending gets and pending scans are in none. If
+/// one segment has no order from its own starting pairs, the history has none. For n calls it takes
+/// time in proportion to n log n, and to the pairs in their replies, which it copies.
 pub fn cut(alloc: Global, history: &History) -> Result<Vec<Segment>, Memory>
     ensures segments { IfOk result (λ v.
         AreSegments history.now.start (operations history.now.events) v.items) }
@@ -24,7 +24,7 @@ pub fn cut(alloc: Global, history: &History) -> Result<Vec<Segment>, Memory>
     segments_of(alloc, history, &ranges)
 }
 
-/// The segments of a history, from the ranges of its calls by rising low key.
+/// Returns the segments of a history, from the ranges of its calls by rising low key.
 fn segments_of(
     alloc: Global,
     history: &History,
@@ -46,8 +46,8 @@ fn segments_of(
     Ok(segments)
 }
 
-/// How many of the ranges, from the first on, hang together: each but the first begins at or below the
-/// greatest key of those before it.
+/// Returns how many of the ranges, from the first one on, are connected: each but the first begins
+/// at or below the greatest key of those before it.
 fn chained_len(ranges: &[KeyRange]) -> usize
     requires not_empty { ranges.now ≢ [] }
     requires by_low_key { AllPairs (λ r s. r.low ≤ s.low) ranges.now }

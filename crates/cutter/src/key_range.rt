@@ -17,7 +17,7 @@ pub struct KeyRange {
     pub number: u32,
 }
 
-/// The ranges of the calls that belong to a segment, by rising low key.
+/// Returns the ranges of the calls that belong to a segment, by rising low key.
 pub fn ranges_by_low_key(alloc: Global, calls: &[Operation]) -> Result<Vec<KeyRange>, Memory>
     requires few { length calls.now < 2 ^ 32 }
     requires in_order { All (λ a. low_key a.call ≤ high_key a.call) calls.now }
@@ -29,7 +29,7 @@ pub fn ranges_by_low_key(alloc: Global, calls: &[Operation]) -> Result<Vec<KeyRa
     Ok(ranges)
 }
 
-/// The ranges of the calls that belong to a segment, by number.
+/// Returns the ranges of the calls that belong to a segment, by number.
 fn ranges_of(alloc: Global, calls: &[Operation]) -> Result<Vec<KeyRange>, Memory>
     requires few { length calls.now < 2 ^ 32 }
     requires in_order { All (λ a. low_key a.call ≤ high_key a.call) calls.now }
@@ -44,7 +44,7 @@ fn ranges_of(alloc: Global, calls: &[Operation]) -> Result<Vec<KeyRange>, Memory
     Ok(ranges)
 }
 
-/// The range of a call, if it belongs to a segment.
+/// Returns the range of a call, if it belongs to a segment.
 fn range_of(number: u32, operation: &Operation) -> Option<KeyRange>
     ensures { SomeIff result (IsTrue (belongs operation.now)) (range_with number operation.now.call) }
 {
@@ -58,7 +58,7 @@ fn range_of(number: u32, operation: &Operation) -> Option<KeyRange>
     })
 }
 
-/// The numbers of the ranges, rising.
+/// Returns the numbers of the ranges, rising.
 pub fn rising_numbers(alloc: Global, ranges: &[KeyRange]) -> Result<Vec<u32>, Memory>
     requires { AllPairs (λ r s. r.number ≢ s.number) ranges.now }
     ensures rising { IfOk result (λ v. IsStrictlyIncreasing v.items) }

@@ -1,7 +1,7 @@
-//! The segments of a recorded history of an ordered map: the calls fall apart where no completed scan goes
-//! over a boundary between keys, and what falls apart is judged apart.
+//! The segments of a recorded history of an ordered map. The calls split between two keys if no
+//! completed scan spans them, and each part is judged separately.
 //!
-//! What a cut and a segment are stands in `segments`' definitions.
+//! The definitions of `segments` say what a cut and a segment are.
 #![tactic(auto)]
 
 mod cutting;

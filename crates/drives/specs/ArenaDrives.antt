@@ -20,7 +20,7 @@ use Rattle.running.specs.Steps.{HasInvoked, Ran}
 abbrev pub alone : Setup → ℕ → Process → View
 alone setup number q = view setup ((number, q) ∷ [])
 
--- A process that has no open call invokes this one, and then makes at most so many steps of it.
+-- A process that has no open call invokes this one, and then makes at most this many steps of it.
 pub record DoesCall (setup : Setup) (number limit : ℕ) (call : Call) (old new : Process) : Type 0 where
   pub none : old.call ≡ None
   pub invoking : Process
@@ -29,24 +29,24 @@ pub record DoesCall (setup : Setup) (number limit : ℕ) (call : Call) (old new 
   pub few : made ≤ limit
   pub ran : Ran made (alone setup number invoking) (alone setup number new)
 
--- it does calls so, one after another, and nothing else
+-- a process does these calls so, one after another, and nothing else
 abbrev pub DoesCalls : Setup → ℕ → ℕ → List Call → Process → Process → Type 0
 DoesCalls setup number limit [] old new = new ≡ old
 DoesCalls setup number limit (call ∷ calls) old new =
     (mid : Process) × DoesCall setup number limit call old mid × DoesCalls setup number limit calls mid new
 
--- From before its first step on a process did the calls that it began, with at most so many steps of each beside that of its invocation, so
--- no more in sum.
--- Where the last one is open, all of these are accesses of it.
+-- From its first step on a process did the calls that it began. It made at most this many steps of
+-- each after the step of the invocation, so no more in sum. If the last call is open, all of these
+-- steps are accesses of it.
 pub record IsLimited (setup : Setup) (limit : ℕ) (x : Numbered) : Type 0 where
   pub each : DoesCalls setup x.0 limit (begun x.1) idle x.1
   pub steps : x.1.steps ≤ (limit + 1) * length (begun x.1)
   pub pending : IsTrue (is_some x.1.call) → length x.1.got ≡ limit
 
--- The history is one that an arena of the shape and the variant gives when it closes: that of a
--- state of the core which some schedule gives, and in which no process is past its limit. Each
--- process did its script, or it stopped within it, and then the last of its calls alone is pending.
--- There is no other process. Where the tree is a full one, the history has an order.
+-- The history is one that an arena of the shape and the variant gives when it closes. It is that of
+-- a state of the core which some schedule gives, and in which no process is above its limit. Each
+-- process did its script, or stopped within it, and then only its last call is pending. There is no
+-- other process. If the tree is a full one, the history has an order.
 pub record IsArenaDriveOf (shape : Shape) (variant : Variant) (limit : ℕ) (scripts : List (List Call))
     (history : HistoryView) : Type 0 where
   pub view : View

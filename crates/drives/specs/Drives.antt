@@ -26,13 +26,14 @@ pub record HasFinished (events : List Event) (p : ℕ) (script : List Call) : Ty
   pub calls : calls_by p events ≡ script
   pub completed : has_open_call p events ≡ false
 
--- a process stopped within its script: its calls are a beginning of it, of which the last alone is pending
+-- a process stopped within its script: its calls are a beginning of the script, and only the last
+-- of them is pending
 pub record HasStopped (events : List Event) (p : ℕ) (script : List Call) : Type 0 where
   pub rest : List Call
   pub calls : calls_by p events ++ rest ≡ script
   pub pending : has_open_call p events ≡ true
 
--- the processes are those that have a script
+-- the processes are exactly those that have a script
 abbrev pub HaveScripts : List (List Call) → List Event → Type 0
 HaveScripts scripts events = All (λ e. process_of e < length scripts) events
 
@@ -40,9 +41,9 @@ HaveScripts scripts events = All (λ e. process_of e < length scripts) events
 abbrev pub AreAnswered : (Call → Reply → Type 0) → List Event → Type 0
 AreAnswered may_answer events = All (λ a. IfSome a.response (λ r. may_answer a.call r.reply)) (operations events)
 
--- what is recorded of scripts, at a subject that may answer so: the map holds nothing at the start,
--- each process did its script, there is no other process, and each reply is one that the subject
--- may give to its call
+-- the recording of scripts at a subject that may give these answers. The map holds nothing at the
+-- start. Each process did its script, and there is no other process. The subject may give each
+-- reply to its call
 pub record IsDriveOf (may_answer : Call → Reply → Type 0) (scripts : List (List Call)) (history : HistoryView) : Type 0 where
   pub start : history.start ≡ []
   pub processes : HaveScripts scripts history.events
@@ -53,6 +54,6 @@ pub record IsDriveOf (may_answer : Call → Reply → Type 0) (scripts : List (L
 abbrev pub most_calls : List (List Call) → ℕ
 most_calls scripts = greatest (map (λ script. length script) scripts)
 
--- there is room for as many calls of each process as the longest script has
+-- each process may begin as many calls as the longest script has
 abbrev pub IsDrivable : List (List Call) → Type 0
 IsDrivable scripts = length scripts * most_calls scripts ≤ call_limit

@@ -38,7 +38,7 @@ pub record HasStoppedIn (script : List Call) (q : Process) : Type 0 where
   pub calls : begun q ++ rest ≡ script
   pub pending : is_pending q ≡ true
 
--- one of both, within the limit
+-- the process ended or stopped so, within the limit
 pub record HasDone (setup : Setup) (number limit : ℕ) (script : List Call) (q : Process) : Type 0 where
   pub ended : HasAnsweredAll script q ⊎ HasStoppedIn script q
   pub limited : IsLimited setup limit (number, q)
@@ -62,7 +62,8 @@ pub record IsGroupAfter (WasPassed : ℕ → Type 0) (a : Arena) (limit : ℕ) (
   pub known : process.0 < length scripts
   pub done : HasDoneOwn WasPassed (opened_for a) limit scripts process
 
--- the processes of some groups, and then those of others, each at its place; none where a process wanted memory
+-- the processes of some groups, and then those of others, each at its place; none if a process ran
+-- out of memory
 abbrev pub gathered : List Numbered → List (Result Pass Memory) → Option (List Numbered)
 gathered xs [] = Some xs
 gathered xs (Ok p ∷ done) = gathered (merge xs (shows p).processes) done
@@ -74,7 +75,7 @@ joined [] = None
 joined (Ok p ∷ done) = gathered (shows p).processes done
 joined (Err e ∷ done) = None
 
--- nothing is missing but memory
+-- an arena was not closed only because memory ran out
 abbrev pub WantsMemory : ArenaClose → Type 0
 WantsMemory (faults.StillOut back given) = ⊥
 WantsMemory (faults.Memory back given) = ⊤

@@ -23,19 +23,19 @@ first_reply [] = None
 first_reply (Invoke p call ∷ events) = first_reply events
 first_reply (Answer p reply ∷ events) = Some reply
 
--- of events of one process: the first reply after each call is one that may be given to it
+-- in the events of one process, the first reply after each call is one that the call may get
 abbrev pub AnswersFit : (Call → Reply → Type 0) → List Event → Type 0
 AnswersFit may_answer [] = ⊤
 AnswersFit may_answer (Invoke p call ∷ events) = IfSome (first_reply events) (may_answer call) × AnswersFit may_answer events
 AnswersFit may_answer (Answer p reply ∷ events) = AnswersFit may_answer events
 
--- by the events of the pass, its process did this script, and was answered so
+-- by the events of the pass, its process did this script, and its answers are allowed
 pub record HasRecordedScript (may_answer : Call → Reply → Type 0) (script : List Call) (p : Pass) : Type 0 where
   pub own : AreOwn p
   pub finished : HasFinished (events_by p) (process_number p) script
   pub answered : AnswersFit may_answer (events_by p)
 
--- a pass of one of so many processes, which has recorded nothing yet
+-- a pass of one of this many processes, which has recorded nothing yet
 pub record IsReady (r : Recorder) (processes : ℕ) (p : Pass) : Type 0 where
   pub own : IsPassOf r p
   pub known : process_number p < processes
@@ -48,7 +48,8 @@ pub record IsPassAfter (may_answer : Call → Reply → Type 0) (r : Recorder) (
   pub process_is : process_number p ≡ process
   pub recorded : (script : List Call) → slice_get scripts process ≡ Some script → HasRecordedScript may_answer script p
 
--- what all processes gave back, by process: a pass with which each did its script, where it did not want memory
+-- the results of all processes, by process: a pass with which each did its script, unless it ran
+-- out of memory
 abbrev pub EachIsAfter : (Call → Reply → Type 0) → Recorder → List (List Call) → List (Result Pass Memory) → Type 0
 EachIsAfter may_answer r scripts done =
     (process : ℕ) (d : Result Pass Memory) → process < length done

@@ -10,13 +10,14 @@ use pool::Gate;
 use running::{Arena, Pass, Progress};
 use std::alloc::Global;
 
-/// A group whose process has entered the gate. Steps are made with such a group alone, and only `enter` gives one.
+/// A group whose process has passed the gate. Only such a group makes steps, and only `enter`
+/// returns one.
 #[derive(Drop)]
 pub(crate) struct Entered {
     group: Pass,
 }
 
-/// The group's process enters the gate, with its number.
+/// Lets the group's process enter the gate, with its number.
 pub(crate) fn enter<G: Gate>(gate: &G, group: Pass) -> Entered
     requires { IsGroup group }
     ensures same { result.group ≡ group }
@@ -26,8 +27,8 @@ pub(crate) fn enter<G: Gate>(gate: &G, group: Pass) -> Entered
     Entered { group }
 }
 
-/// Begins the calls of a script, one after another, and makes at most so many steps of each, until one is still open after
-/// them. `Err` is want of memory.
+/// Begins the calls of a script, one after another, and makes at most this many steps of each. It
+/// stops at a call that is still open after them. It returns `Err` if memory runs out.
 pub(crate) fn do_script(
     alloc: Global,
     arena: &Arena,

@@ -1,5 +1,6 @@
-//! Drives: each process does the calls of its script in a thread of its own, at one subject, and all of it is recorded; or on one tree on
-//! shared words, and what it logs is a history.
+//! Drives: each process does the calls of its script in a thread of its own, at one subject, and
+//! all of it is recorded. Or the processes do them on one tree on shared words, and their logs
+//! become a history.
 #![tactic(auto)]
 
 mod arena_script;

@@ -8,7 +8,8 @@ use events::Memory;
 use running::{Arena, Pass};
 use std::alloc::Global;
 
-/// A group for each of the processes, by falling number. `Err` is want of memory.
+/// Returns a group for each of the processes, by falling number. It returns `Err` if memory runs
+/// out.
 pub(crate) fn part_all(
     alloc: Global,
     arena: &Arena,
@@ -32,7 +33,7 @@ pub(crate) fn part_all(
     Ok(groups)
 }
 
-/// One group with the processes of all, unless one of them wanted memory.
+/// Returns one group with the processes of all groups, unless one of them ran out of memory.
 pub(crate) fn join_all(arena: &Arena, done: Vec<Result<Pass, Memory>>) -> Result<Pass, Memory>
     requires some { 0 < vec_len done }
     requires own { All (λ d. IfOk d (IsGroupOf arena.now)) done.items }

@@ -6,8 +6,8 @@ use art_steps::TreeCall;
 use events::MAX_CALLS;
 use plans::Plan;
 
-/// Whether a plan can be driven: all processes may begin equally many calls, so the number of scripts times the length of the
-/// longest one is at most `MAX_CALLS`.
+/// Returns whether a plan can be driven. All processes may begin equally many calls, so the number
+/// of scripts times the length of the longest one is at most `MAX_CALLS`.
 pub fn is_drivable(plan: &Plan) -> bool
     ensures { IsTrue result ↔ IsDrivable plan.now }
 {
@@ -15,7 +15,7 @@ pub fn is_drivable(plan: &Plan) -> bool
     scripts.len() * most_calls(scripts) <= MAX_CALLS
 }
 
-/// How many calls the longest script has.
+/// Returns how many calls the longest script has.
 pub fn most_calls(scripts: &[Vec<TreeCall>]) -> usize
     ensures longest { result ≡ most_calls (map (λ script. script.items) scripts.now) }
     ensures bound { All (λ script. vec_len script ≤ result) scripts.now }

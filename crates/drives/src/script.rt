@@ -12,7 +12,8 @@ use art_steps::TreeCall;
 use events::{Call, Memory};
 use recorder::{Pass, Recorder, RecorderFault, Subject};
 
-/// Does the calls of a script, one after another, and gives back the pass that recorded them. `Err` is want of memory.
+/// Does the calls of a script, one after another, and returns the pass that recorded them. It
+/// returns `Err` if memory runs out.
 pub(crate) fn do_script<S: Subject>(
     recorder: &Recorder,
     subject: &S,
@@ -33,7 +34,8 @@ pub(crate) fn do_script<S: Subject>(
     Ok(pass)
 }
 
-/// Has the subject do a call, with its invocation noted before and its answer after. `Err` is want of memory.
+/// Lets the subject do a call, and notes its invocation before and its answer after. It returns
+/// `Err` if memory runs out.
 fn do_call<S: Subject>(
     recorder: &Recorder,
     subject: &S,
@@ -62,7 +64,7 @@ fn do_call<S: Subject>(
     Ok(())
 }
 
-/// Nothing is wrong with an event, so that it was refused only for want of memory.
+/// Returns out of memory: the event has no fault, so this is the only reason why it was refused.
 fn want_of_memory(fault: RecorderFault) -> Memory
     requires { fault ≡ faults.Memory }
 {

@@ -18,11 +18,14 @@ use std::alloc::{AllocError, Global};
 use std::thread;
 use std::thread::Threads;
 
-/// What happens when each process of the plan does its script at the subject, one call after another, in a thread of its own:
-/// it notes that the call is begun, has the subject do it, and notes the answer. The history is that of the stamps. A process
-/// that gets no thread does its script later, in the thread that was to start it. A subject whose calls wait for those of
-/// other processes may then wait forever. The call returns once all processes are done. Beside the subject's work it costs a
-/// thread for each process, and an atomic step for each event. `Err` is want of memory.
+/// Lets each process of the plan do its script at the subject, one call after another, in a thread
+/// of its own. The process notes that a call begins, lets the subject do it, and notes the answer.
+/// The history is that of the stamps.
+///
+/// A process that gets no thread does its script later, in the thread that was to start it. A
+/// subject whose calls wait for those of other processes may then wait forever. The call returns
+/// when all processes are done. Apart from the subject's work it costs a thread for each process,
+/// and an atomic step for each event. It returns `Err` if memory runs out.
 pub fn drive_subject<R: Threads + Sync, S: Subject + Sync>(
     rt: &R,
     alloc: Global,
@@ -45,7 +48,8 @@ pub fn drive_subject<R: Threads + Sync, S: Subject + Sync>(
     }
 }
 
-/// The passes of all processes once they have done their scripts, by process. `Err` is want of memory.
+/// Returns the passes of all processes after their scripts, by process. It returns `Err` if memory
+/// runs out.
 fn passes_after<R: Threads + Sync, S: Subject + Sync>(
     rt: &R,
     alloc: Global,
@@ -65,7 +69,8 @@ fn passes_after<R: Threads + Sync, S: Subject + Sync>(
     all_passes(alloc, done)
 }
 
-/// All processes do their scripts, each in a thread of its own where one can be made: what each gives back, by process.
+/// Lets all processes do their scripts, each in a thread of its own if one can be made. Returns
+/// their results, by process.
 fn do_scripts<R: Threads + Sync, S: Subject + Sync>(
     rt: &R,
     recorder: &Recorder,
@@ -87,7 +92,7 @@ fn do_scripts<R: Threads + Sync, S: Subject + Sync>(
     )
 }
 
-/// A process does its own of the scripts.
+/// Lets a process do its own script.
 fn do_own_script<S: Subject>(
     recorder: &Recorder,
     subject: &S,
@@ -103,7 +108,7 @@ fn do_own_script<S: Subject>(
     do_script(recorder, subject, pass, script)
 }
 
-/// The passes of all processes, unless one of them wanted memory.
+/// Returns the passes of all processes, unless one of them ran out of memory.
 fn all_passes(alloc: Global, done: Vec<Result<Pass, Memory>>) -> Result<Vec<Pass>, Memory>
     ensures { IfOk result (λ passes. done.items ≡ map (λ pass. Ok pass) passes.items) }
 {
@@ -114,7 +119,7 @@ fn all_passes(alloc: Global, done: Vec<Result<Pass, Memory>>) -> Result<Vec<Pass
     Ok(passes)
 }
 
-/// Puts a pass behind others, unless its process wanted memory.
+/// Appends a pass, unless its process ran out of memory.
 fn put(passes: &mut Vec<Pass>, pass: Result<Pass, Memory>) -> Result<(), Memory>
     ensures { OnOk result (map (λ pass. Ok pass) passes.new.items ≡ map (λ pass. Ok pass) passes.old.items ++ pass ∷ []) }
 {
@@ -122,7 +127,7 @@ fn put(passes: &mut Vec<Pass>, pass: Result<Pass, Memory>) -> Result<(), Memory>
     Ok(())
 }
 
-/// A recorder was not closed only for want of memory.
+/// Returns out of memory, which is the only reason why a recorder was not closed.
 fn want_of_memory(fault: CloseFault) -> Memory
     requires { WantsMemory fault }
 {

@@ -18,11 +18,15 @@ use std::alloc::{AllocError, Global};
 use std::thread;
 use std::thread::Threads;
 
-/// What happens when each process of the plan does its script on one tree, which is empty at first, one call after another,
-/// in a thread of its own: it enters the gate once, with its number, and then begins each call and makes at most `limit` steps
-/// of it beside its invocation. A process whose call is still open after them stops there. A process that gets no thread does
-/// its script later, in the thread that was to start it. The call returns once all processes are done or have stopped. It
-/// costs a thread for each process, an atomic step for each step of a call, and two for its invocation. `Err` is want of memory.
+/// Lets each process of the plan do its script on one tree, one call after another, in a thread of
+/// its own. The tree is empty at first. A process passes the gate once, with its number. Then it
+/// begins each call, and makes at most `limit` steps of it after its invocation. If the call is
+/// still open then, the process stops.
+///
+/// A process that gets no thread does its script later, in the thread that was to start it. The
+/// call returns when all processes are done or have stopped. It costs a thread for each process, an
+/// atomic step for each step of a call, and two for its invocation. It returns `Err` if memory runs
+/// out.
 pub fn drive_arena<R: Threads + Sync, G: Gate + Sync>(
     rt: &R,
     alloc: Global,
@@ -49,8 +53,8 @@ pub fn drive_arena<R: Threads + Sync, G: Gate + Sync>(
     }
 }
 
-/// All processes do their scripts, each in a thread of its own where one can be made: what each gives back, in the order of
-/// the groups.
+/// Lets all processes do their scripts, each in a thread of its own if one can be made. Returns
+/// their results, in the order of the groups.
 fn do_scripts<R: Threads + Sync, G: Gate + Sync>(
     rt: &R,
     alloc: Global,
@@ -74,7 +78,7 @@ fn do_scripts<R: Threads + Sync, G: Gate + Sync>(
     )
 }
 
-/// A process enters the gate, and does its own of the scripts.
+/// Lets a process enter the gate and do its own script.
 fn do_own_script<G: Gate>(
     alloc: Global,
     arena: &Arena,
@@ -92,7 +96,7 @@ fn do_own_script<G: Gate>(
     do_script(alloc, arena, enter(gate, group), &scripts[process], limit)
 }
 
-/// An arena was not closed only for want of memory.
+/// Returns out of memory, which is the only reason why an arena was not closed.
 fn want_of_memory(fault: ArenaClose) -> Memory
     requires { WantsMemory fault }
 {

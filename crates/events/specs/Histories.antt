@@ -1,4 +1,5 @@
--- What a history is here: well-formed events (Herlihy and Wing 1990, section 2) within limits of our own.
+-- What a history is here: well-formed events (Herlihy and Wing 1990, section 2) within limits that
+-- are this program's own.
 use Rattle.events.specs.declared.event.Reply.TheVariants as replies
 use Rattle.std.specs.Prelude.{ℕ, ◌≤◌, Bool, true, ◌&&◌, IsTrue, nat_lt, nat_le, List, length, count_by}
 use Rattle.std.specs.List.{list_all}
@@ -30,7 +31,7 @@ pair_count replies.Done = 0
 pair_count replies.Found = 0
 pair_count replies.Other = 0
 
--- whether an event has a range where it needs one
+-- whether an event has a range if it needs one
 abbrev pub is_shaped : Event → Bool
 is_shaped (Invoke p call) = has_range call
 is_shaped (Answer p reply) = true
@@ -51,7 +52,7 @@ pub record AreHistoryEvents (events : List Event) : Type 0 where
   pub calls : call_count events ≤ call_limit
   pub well_formed : IsWellFormed events
 
--- a history: pairs that one may start with, and events of one
+-- a history: pairs that a history may start with, and events of a history
 pub record IsHistory (history : HistoryView) : Type 0 where
   pub start : IsStart history.start
   pub events : AreHistoryEvents history.events

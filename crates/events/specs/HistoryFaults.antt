@@ -1,4 +1,5 @@
--- The first fault of pairs and events that are no history: that of the pairs comes before that of the events.
+-- The first fault of pairs and events that are not a history. A fault of the pairs comes before one
+-- of the events.
 use Rattle.events.specs.declared.fault.HistoryFault.TheVariants as faults
 use Rattle.std.specs.Prelude.{◌≡◌, ℕ, ◌⊎◌, Bool, false, not, ◌||◌, nat_lt, nat_le, if◌then◌else◌, List, [], ◌∷◌, ◌++◌, length, Option, Some}
 use Rattle.std.specs.Prelude.{None, ⊤}
@@ -12,7 +13,7 @@ use Rattle.events.specs.HistoryView.{HistoryView}
 use Rattle.events.specs.Starts.{IsStart}
 use Rattle.events.specs.Histories.{is_shaped, is_small, call_count, AreHistoryEvents}
 
--- whether the last event is an invocation, where `waiting` says so of an empty list
+-- whether the last event is an invocation; for an empty list, `waiting` says so
 abbrev pub ends_waiting : Bool → List Event → Bool
 ends_waiting waiting [] = waiting
 ends_waiting waiting (e ∷ events) = ends_waiting (is_invocation e) events
@@ -21,17 +22,19 @@ ends_waiting waiting (e ∷ events) = ends_waiting (is_invocation e) events
 abbrev pub has_open_call : ℕ → List Event → Bool
 has_open_call p events = ends_waiting false (events_of p events)
 
--- whether an event comes out of turn: an invocation while its process has an open call, or a response while it has none
+-- whether an event comes out of turn: an invocation while its process has an open call, or a
+-- response while it has none
 abbrev pub is_out_of_turn : Bool → Event → Bool
 is_out_of_turn has_open (Invoke p call) = has_open
 is_out_of_turn has_open (Answer p reply) = not has_open
 
--- whether an event is a call too many after so many calls
+-- whether an event is an invocation that is one too many, after a number of calls
 abbrev pub is_call_too_many : ℕ → Event → Bool
 is_call_too_many calls (Invoke p call) = nat_le call_limit calls
 is_call_too_many calls (Answer p reply) = false
 
--- what is wrong with an event at a place, after so many calls: the first of its shape, a limit, its turn
+-- the fault of an event at a place, after a number of calls: first of its shape, then of a limit,
+-- then of its turn
 abbrev pub event_fault : ℕ → ℕ → Bool → Event → Option HistoryFault
 event_fault place calls has_open e =
     if not (is_shaped e) then Some (faults.Shape place)
@@ -39,22 +42,23 @@ event_fault place calls has_open e =
     else if is_out_of_turn has_open e then Some (faults.NotWellFormed place)
     else None
 
--- what is wrong with the event that follows these
+-- the fault of the event that follows these
 abbrev pub fault_after : List Event → Event → Option HistoryFault
 fault_after before e = event_fault (length before) (call_count before) (has_open_call (process_of e) before) e
 
--- whether a key is above those of all pairs before it: of pairs by rising key, above the last one
+-- whether a key is above the keys of all pairs before it; if these rise, whether it is above the
+-- last one
 abbrev pub is_above : List (ℕ × ℕ) → ℕ → Bool
 is_above before key = list_all (λ pair. nat_lt pair.0 key) before
 
--- what is wrong with the pair that follows these: it is one too many, or its key does not rise
+-- the fault of the pair that follows these: there is one pair too many, or its key does not rise
 abbrev pub pair_fault_after : List (ℕ × ℕ) → ℕ × ℕ → Option HistoryFault
 pair_fault_after before pair =
     if nat_le start_limit (length before) then Some faults.TooMany
     else if not (is_above before pair.0) then Some (faults.Start (length before))
     else None
 
--- the list begins with items that are sound, and the item after those shows the fault
+-- the list begins with sound items, and the next item shows the fault
 pub record IsFirstFaultOf {X : Type 0} (IsSound : List X → Type 0) (fault_of_next : List X → X → Option HistoryFault) (items : List X)
     (fault : HistoryFault)
     : Type 0 where
@@ -72,7 +76,7 @@ IsFirstPairFault pairs fault = IsFirstFaultOf IsStart pair_fault_after pairs fau
 abbrev pub IsFirstEventFault : List Event → HistoryFault → Type 0
 IsFirstEventFault events fault = IsFirstFaultOf AreHistoryEvents fault_after events fault
 
--- the first fault: that of the pairs, or where they show none that of the events
+-- the first fault: that of the pairs, or that of the events if the pairs have none
 abbrev pub IsFirstFault : HistoryView → HistoryFault → Type 0
 IsFirstFault history fault = IsFirstPairFault history.start fault ⊎ (IsStart history.start × IsFirstEventFault history.events fault)
 
@@ -81,12 +85,12 @@ abbrev pub IsRefusedFor : HistoryView → HistoryFault → Type 0
 IsRefusedFor history faults.Memory = ⊤
 IsRefusedFor history fault = IsFirstFault history fault
 
--- why an event was refused after others: its fault there, unless memory ran out
+-- why an event was refused after others: for its fault there, unless memory ran out
 abbrev pub IsRefusedAfter : List Event → Event → HistoryFault → Type 0
 IsRefusedAfter before e faults.Memory = ⊤
 IsRefusedAfter before e fault = fault_after before e ≡ Some fault
 
--- and why a pair was
+-- why a pair was refused after others: for its fault there, unless memory ran out
 abbrev pub IsPairRefusedAfter : List (ℕ × ℕ) → ℕ × ℕ → HistoryFault → Type 0
 IsPairRefusedAfter before pair faults.Memory = ⊤
 IsPairRefusedAfter before pair fault = pair_fault_after before pair ≡ Some fault

@@ -2,7 +2,7 @@
 use Rattle.std.specs.Prelude.{ℕ, List, [], ◌∷◌, ◌++◌}
 use Rattle.events.specs.declared.event.Event.{Event}
 
--- the pairs that the map holds at the start, and what happened then
+-- the pairs that the map holds at the start, and the events that follow
 pub record HistoryView : Type 0 where
   pub start : List (ℕ × ℕ)
   pub events : List Event
@@ -11,7 +11,7 @@ pub record HistoryView : Type 0 where
 abbrev pub with_no_start : List Event → HistoryView
 with_no_start events = record { start = []; events = events }
 
--- the same history with one event more, and with one pair more at its start
+-- a history with one more event, and a history with one more pair at its start
 abbrev pub with_event : HistoryView → Event → HistoryView
 with_event history event = record { start = history.start; events = history.events ++ event ∷ [] }
 

@@ -1,4 +1,4 @@
--- What is kept of the events so far.
+-- What the program remembers of the events so far.
 use Rattle.std.specs.Prelude.{◌≡◌, ℕ, ◌<◌, false, List, slice_index_or}
 use Rattle.events.specs.declared.event.Event.{Event}
 use Rattle.events.specs.declared.open_calls.OpenCalls.{OpenCalls}

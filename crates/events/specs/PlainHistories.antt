@@ -1,4 +1,4 @@
--- Histories with neither starting pairs nor a replace, whose answers tell all.
+-- Histories with neither starting pairs nor a replace, and with complete answers only.
 use Rattle.std.specs.Prelude.{ℕ, Bool, true, false, not, ◌&&◌, List, [], ◌∷◌}
 use Rattle.std.specs.List.{list_all}
 use Rattle.events.specs.declared.event.Call.{Call}
@@ -16,7 +16,7 @@ is_replace (Remove key) = false
 is_replace (Scan low high) = false
 is_replace (Replace key old new) = true
 
--- whether an event is anything but the invocation of a replace and an answer that tells less than the map answers
+-- whether an event is neither the invocation of a replace nor a partial answer
 abbrev pub is_plain_event : Event → Bool
 is_plain_event (Invoke p call) = not (is_replace call)
 is_plain_event (Answer p reply) = is_told reply
@@ -26,6 +26,6 @@ abbrev pub has_no_pairs : List (ℕ × ℕ) → Bool
 has_no_pairs [] = true
 has_no_pairs (pair ∷ pairs) = false
 
--- whether a history has neither starting pairs nor a replace, and its answers tell all
+-- whether a history has neither starting pairs nor a replace, and complete answers only
 abbrev pub is_plain : HistoryView → Bool
 is_plain history = has_no_pairs history.start && list_all is_plain_event history.events

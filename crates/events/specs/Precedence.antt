@@ -8,12 +8,12 @@ use Rattle.events.specs.Keys.{may_change}
 abbrev pub is_completed : Operation → Bool
 is_completed a = is_some a.response
 
--- whether a response stands before a place
+-- whether a response comes before a place
 abbrev pub is_before : Option Response → ℕ → Bool
 is_before None place = false
 is_before (Some response) place = nat_lt response.res place
 
--- call a precedes call b: the response of a stands before the invocation of b
+-- call a precedes call b: the response of a comes before the invocation of b
 abbrev pub precedes : Operation → Operation → Bool
 precedes a b = is_before a.response b.inv
 

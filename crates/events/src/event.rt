@@ -1,4 +1,4 @@
-// What processes do at a map: they call it, and it answers them.
+// What processes and the map do: processes call the map, and the map answers.
 ghost use Rattle.std.specs.Prelude.{◌≡◌, IfOk};
 ghost use Rattle.events.specs.Histories.{pair_count};
 ghost use Rattle.events.specs.Told.{is_told};
@@ -10,22 +10,23 @@ use std::marker::Model;
 /// What a process asks of the map.
 #[derive(Clone, Copy, PartialEq, Eq)]
 pub enum Call {
-    /// The value at a key.
+    /// Asks for the value at a key.
     Get(u64),
-    /// A key, and the value that it is to hold.
+    /// Stores a value at a key: the key, then the value.
     Insert(u64, u64),
-    /// The key that is to be absent.
+    /// Removes a key.
     Remove(u64),
-    /// All pairs from the first key to the last, both included.
+    /// Asks for all pairs from the first key to the last, both included.
     Scan(u64, u64),
-    /// A key, the value that it has to have, and the one that it then is to hold.
+    /// Stores a new value at a key if it has the expected one: the key, the expected value, the new
+    /// value.
     Replace(u64, u64, u64),
 }
 
 impl Call {
     ghost use Rattle.events.specs.Keys.{low_key, high_key, may_change};
 
-    /// The least key that the call names.
+    /// Returns the least key that the call names.
     pub fn low_key(&self) -> u64
         ensures { result ≡ low_key self.now }
     {
@@ -36,7 +37,7 @@ impl Call {
         }
     }
 
-    /// The greatest key that the call names.
+    /// Returns the greatest key that the call names.
     pub fn high_key(&self) -> u64
         ensures { result ≡ high_key self.now }
     {
@@ -47,7 +48,7 @@ impl Call {
         }
     }
 
-    /// Whether the call may change the map.
+    /// Returns whether the call may change the map.
     pub fn may_change(&self) -> bool
         ensures { result ≡ may_change self.now }
     {
@@ -55,7 +56,7 @@ impl Call {
     }
 }
 
-/// The pairs that a scan was answered, in the order in which they came. Contracts see the list.
+/// The pairs that answered a scan, in the order in which they came. Contracts see the list.
 pub struct Pairs {
     items: Vec<(u64, u64)>,
 }
@@ -75,21 +76,21 @@ impl Model for Pairs {
 }
 
 impl Pairs {
-    /// Takes the pairs as they are: neither their order nor their keys are tested.
+    /// Takes the pairs as they are. It tests neither their order nor their keys.
     pub fn new(items: Vec<(u64, u64)>) -> Pairs
         ensures { result ≡ items.items }
     {
         Pairs { items }
     }
 
-    /// The pairs.
+    /// Returns the pairs.
     pub fn as_slice(&self) -> &[(u64, u64)]
         ensures { result.now ≡ self.now }
     {
         &self.items
     }
 
-    /// The same pairs again.
+    /// Copies the pairs.
     pub fn copy(&self, alloc: Global) -> Result<Pairs, Memory>
         ensures { IfOk result (λ p. p ≡ self.now) }
     {
@@ -108,11 +109,11 @@ pub enum Reply {
     Pairs(Pairs),
     /// The map would not do the call, and nothing changed.
     Refused,
-    /// The map did the call. What it found is not told.
+    /// The map did the call. The answer does not say what the call found.
     Done,
-    /// The map did the call, and its key held a value. Which one is not told.
+    /// The map did the call, and its key held a value. The answer does not say which value.
     Found,
-    /// A replace found another value than the one that it expects, or none, and changed nothing.
+    /// A replace found another value than the expected one, or no value, and changed nothing.
     Other,
 }
 
@@ -131,7 +132,7 @@ impl Drop for Reply {
 }
 
 impl Reply {
-    /// The same reply again.
+    /// Copies the reply.
     pub fn copy(&self, alloc: Global) -> Result<Reply, Memory>
         ensures { IfOk result (λ reply. reply ≡ self.now) }
     {
@@ -146,7 +147,7 @@ impl Reply {
         }
     }
 
-    /// How many pairs it lists.
+    /// Returns how many pairs the reply lists.
     pub fn pair_count(&self) -> usize
         ensures { result ≡ pair_count self.now }
     {
@@ -156,8 +157,8 @@ impl Reply {
         }
     }
 
-    /// Whether it tells all that the map answers: not where it says only that the call was done, that its key held a
-    /// value, or that a replace found another one.
+    /// Returns whether the reply is complete. A partial reply says only that the call was done,
+    /// that its key held a value, or that a replace found another value.
     pub fn is_told(&self) -> bool
         ensures { result ≡ is_told self.now }
     {
@@ -189,7 +190,7 @@ impl Drop for Event {
 impl Event {
     ghost use Rattle.events.specs.Events.{process_of};
 
-    /// The process that begins a call, or whose call is answered.
+    /// Returns the process that begins a call, or whose call is answered.
     pub fn process(&self) -> u8
         ensures { result ≡ process_of self.now }
     {
@@ -198,7 +199,7 @@ impl Event {
         }
     }
 
-    /// The same event again.
+    /// Copies the event.
     pub fn copy(&self, alloc: Global) -> Result<Event, Memory>
         ensures { IfOk result (λ e. e ≡ self.now) }
     {

@@ -1,26 +1,27 @@
-// Why a text, or pairs and events, are no history.
+// Why a text is not a history, or why pairs and events are not.
 use crate::memory::Memory;
 use std::alloc::AllocFailed;
 use thiserror::Error;
 
-/// Why a text, or pairs and events, are no history: its first fault.
+/// Why a text is not a history, or why pairs and events are not: the first fault.
 #[derive(Debug, Drop, Error)]
 pub enum HistoryFault {
     /// The text has more than `MAX_TEXT` bytes.
     #[error("1 TooLong")]
     TooLong,
-    /// The text is no JSON in UTF-8.
+    /// The text is not JSON in UTF-8.
     #[error("2 NotJson")]
     NotJson,
-    /// The text is no object of a history: `events`, an array, and `version`, the number 1, alone; or these
-    /// with the number 2 and `start`, an array.
+    /// The text is not an object of a history. Such an object has only the members `events`, an
+    /// array, and `version`, the number 1. Or it has only these and `start`, an array, and the
+    /// number is 2 or 3.
     #[error("3 Version")]
     Version,
-    /// The event at this place has no form that an event has.
+    /// The event at this place has none of the forms of events.
     #[error("4 Shape at event {event}")]
     Shape { event: usize },
-    /// A process number of `PROCESSES` or more, a call past `MAX_CALLS`, a reply of more than `MAX_PAIRS`
-    /// pairs, or a starting pair past `MAX_START`.
+    /// There is a process number of `PROCESSES` or more, a call above `MAX_CALLS`, a reply of more
+    /// than `MAX_PAIRS` pairs, or a starting pair above `MAX_START`.
     #[error("5 TooMany")]
     TooMany,
     /// The event at this place comes out of turn: an invocation while its process has an open call,
@@ -30,7 +31,8 @@ pub enum HistoryFault {
     /// Memory ran out.
     #[error("7 Memory")]
     Memory,
-    /// The starting pair at this place is no pair of numbers, or its key is not above the one before.
+    /// The starting pair at this place is not a pair of numbers, or its key is not above the key
+    /// before it.
     #[error("8 Start at pair {pair}")]
     Start { pair: usize },
 }

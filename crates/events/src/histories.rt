@@ -12,8 +12,8 @@ use crate::starts::test_start;
 use std::alloc::Global;
 use std::marker::Model;
 
-/// A history: the pairs that the map holds at the start, and events, well formed and within the limits.
-/// Contracts see the two lists.
+/// A history: the pairs that the map holds at the start, and the events. The events are well formed
+/// and within the limits. Contracts see both lists.
 pub struct History {
     start: Vec<(u64, u64)>,
     events: Vec<Event>,
@@ -49,9 +49,10 @@ impl History {
     ghost use Rattle.events.specs.HistoryFaults.{IsRefusedFor};
     ghost use Rattle.events.specs.Operations.{operations};
 
-    /// The history of these events from the empty map on, with the calls that they make. Otherwise their first
-    /// fault: `Shape` for a scan whose first key is above its last, `TooMany`, `NotWellFormed`, or `Memory`. It
-    /// takes time in proportion to the events, for a fixed number of processes.
+    /// Makes the history of these events from the empty map, with its calls. Otherwise it returns
+    /// the first fault: `Shape` for a scan whose first key is above its last, `TooMany`,
+    /// `NotWellFormed`, or `Memory`. It takes time in proportion to the events, for a fixed number
+    /// of processes.
     pub fn from_events(alloc: Global, events: Vec<Event>) -> Result<History, HistoryFault>
         ensures ok { IfOk result (λ h. h ≡ with_no_start events.items) }
         ensures history { OnOk result (IsHistory (with_no_start events.items)) }
@@ -62,9 +63,10 @@ impl History {
         History::with_start(alloc, Vec::new(alloc), events)
     }
 
-    /// The history of these events from these pairs on, with the calls that they make. Otherwise the first fault:
-    /// of the pairs `TooMany` or `Start`, then of the events as `from_events` answers it; or `Memory`. It takes
-    /// time in proportion to the pairs and the events, for a fixed number of processes.
+    /// Makes the history of these events from these pairs, with its calls. Otherwise it returns the
+    /// first fault: of the pairs `TooMany` or `Start`, then of the events as `from_events` does; or
+    /// `Memory`. It takes time in proportion to the pairs and the events, for a fixed number of
+    /// processes.
     pub fn with_start(
         alloc: Global,
         start: Vec<(u64, u64)>,
@@ -83,8 +85,8 @@ impl History {
         Ok(History::with_calls(alloc, start, events)?)
     }
 
-    /// The history of pairs and events that are known to be one. It takes time in proportion to the events, for a
-    /// fixed number of processes.
+    /// Makes the history of pairs and events that are known to be one. It takes time in proportion
+    /// to the events, for a fixed number of processes.
     pub fn with_calls(
         alloc: Global,
         start: Vec<(u64, u64)>,
@@ -101,7 +103,7 @@ impl History {
         })
     }
 
-    /// The pairs of a key and a value that the map holds at the start, by rising key.
+    /// Returns the pairs of a key and a value that the map holds at the start, by rising key.
     pub fn start(&self) -> &[(u64, u64)]
         ensures start { result.now ≡ self.now.start }
         ensures history { IsHistory self.now }
@@ -109,7 +111,7 @@ impl History {
         &self.start
     }
 
-    /// The events, in their order.
+    /// Returns the events, in their order.
     pub fn events(&self) -> &[Event]
         ensures events { result.now ≡ self.now.events }
         ensures history { IsHistory self.now }
@@ -117,7 +119,7 @@ impl History {
         &self.events
     }
 
-    /// The calls by number: call i is the i-th invocation, from 0.
+    /// Returns the calls by number: call i is the i-th invocation, from 0.
     pub fn calls(&self) -> &[Operation]
         ensures calls { result.now ≡ operations self.now.events }
         ensures history { IsHistory self.now }
@@ -129,7 +131,7 @@ impl History {
 ghost use Rattle.events.specs.Histories.{AreHistoryEvents};
 ghost use Rattle.events.specs.HistoryFaults.{IsFirstEventFault};
 
-/// Whether the events are those of a history; else their first fault.
+/// Tests whether the events are those of a history, and returns their first fault if they are not.
 fn test_events(events: &[Event]) -> Result<(), HistoryFault>
     ensures ok { OnOk result (AreHistoryEvents events.now) }
     ensures first { IfErr result (IsFirstEventFault events.now) }

@@ -1,4 +1,5 @@
-//! Recorded histories of an ordered map: events, the calls that they make, and which precedes which.
+//! Recorded histories of an ordered map: events, the calls that they make, and which precedes
+//! which.
 #![tactic(auto)]
 
 mod event;

@@ -1,4 +1,4 @@
-// Whose turn it is: events are tested one after another, each by those before it.
+// Which processes have an open call. Events are tested one by one, each against those before it.
 ghost use Rattle.std.specs.Prelude.{◌≡◌, ◌<◌, ◌⊎◌, ◌++◌, ◌∷◌, [], List, length, slice_index_or, OnOk, IfErr, Some, false};
 ghost use Rattle.events.specs.declared.event.Event.{Event};
 ghost use Rattle.events.specs.Events.{process_of, is_invocation};
@@ -9,8 +9,8 @@ use crate::event::{Call, Event};
 use crate::fault::HistoryFault;
 use crate::{MAX_CALLS, MAX_PAIRS, PROCESSES};
 
-/// What the events so far say of the next one: which processes have an open call, and how many calls
-/// were invoked.
+/// What the events so far say of the next one: which processes have an open call, and how many
+/// calls were invoked.
 #[derive(Clone, Copy)]
 pub struct OpenCalls {
     pub has_open: [bool; 64],
@@ -20,7 +20,7 @@ pub struct OpenCalls {
 impl OpenCalls {
     ghost use Rattle.events.specs.OpenCalls.{AreOpenAfter};
 
-    /// Before any event.
+    /// Returns the state before any event.
     pub fn new() -> OpenCalls
         ensures { AreOpenAfter [] result }
     {
@@ -30,7 +30,7 @@ impl OpenCalls {
         }
     }
 
-    /// Tests the event at a place, and notes it where nothing is wrong with it.
+    /// Tests the event at a place, and notes it if it has no fault.
     pub fn take(&mut self, place: usize, event: &Event) -> Result<(), HistoryFault>
         ensures history { (before : List Event) → AreOpenAfter before self.old
             → length before ≡ place → AreHistoryEvents before
@@ -47,7 +47,7 @@ impl OpenCalls {
         Ok(())
     }
 
-    /// Whether the event's process has an open call.
+    /// Returns whether the event's process has an open call.
     fn has_open(&self, event: &Event) -> bool
         ensures { result ≡ slice_index_or self.now.has_open (process_of event.now) false }
     {
@@ -73,8 +73,8 @@ impl OpenCalls {
     }
 }
 
-/// What is wrong with an event at a place, after so many calls: first its shape, then a limit, then
-/// its turn.
+/// Returns the fault of an event at a place, after a number of calls: first of its shape, then of a
+/// limit, then of its turn.
 fn event_fault(place: usize, calls: usize, has_open: bool, event: &Event) -> Option<HistoryFault>
     ensures { result ≡ event_fault place calls has_open event.now }
 {

@@ -5,7 +5,7 @@ use crate::event::{Call, Event, Reply};
 use crate::memory::Memory;
 use std::alloc::Global;
 
-/// The answer of a call, and the place of that event in the history, from 0.
+/// The answer of a call, and the place of that event in the history, counted from 0.
 pub struct Response {
     pub res: usize,
     pub reply: Reply,
@@ -21,7 +21,7 @@ impl Drop for Response {
 }
 
 impl Response {
-    /// The same response again.
+    /// Copies the response.
     pub fn copy(&self, alloc: Global) -> Result<Response, Memory>
         ensures { IfOk result (λ response. response ≡ self.now) }
     {
@@ -33,8 +33,8 @@ impl Response {
     }
 }
 
-/// One call of a history: what was asked, the place of its invocation among the events, from 0, and
-/// its response. A call without a response is pending.
+/// One call of a history: what was asked, the place of its invocation among the events (counted
+/// from 0), and its response. A call without a response is pending.
 pub struct Operation {
     pub call: Call,
     pub inv: usize,
@@ -55,7 +55,7 @@ impl Operation {
     ghost use Rattle.events.specs.Precedence.{is_completed};
     ghost use Rattle.events.specs.Precedence.{belongs};
 
-    /// The same call again.
+    /// Copies the call.
     pub fn copy(&self, alloc: Global) -> Result<Operation, Memory>
         ensures { IfOk result (λ operation. operation ≡ self.now) }
     {
@@ -70,14 +70,14 @@ impl Operation {
         })
     }
 
-    /// Whether the call has a response.
+    /// Returns whether the call has a response.
     pub fn is_completed(&self) -> bool
         ensures { result ≡ is_completed self.now }
     {
         self.response.is_some()
     }
 
-    /// Whether the call belongs to a segment: all do but pending gets and pending scans.
+    /// Returns whether the call belongs to a segment: all do but pending gets and pending scans.
     pub fn belongs(&self) -> bool
         ensures { result ≡ belongs self.now }
     {

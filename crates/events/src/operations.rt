@@ -7,8 +7,9 @@ use crate::memory::Memory;
 use crate::operation::{Operation, Response};
 use std::alloc::Global;
 
-/// The calls by number. The response of each is looked for from its invocation on; calls of one process do
-/// not overlap in a history, so each event is looked at once for each process at most.
+/// Returns the calls by number. The response of each call is searched for from its invocation on.
+/// Calls of one process do not overlap in a history, so each event is looked at at most once for
+/// each process.
 pub fn operations_of(alloc: Global, events: &[Event]) -> Result<Vec<Operation>, Memory>
     ensures { IfOk result (λ v. v.items ≡ operations events.now) }
 {
@@ -26,7 +27,7 @@ pub fn operations_of(alloc: Global, events: &[Event]) -> Result<Vec<Operation>, 
     Ok(calls)
 }
 
-/// The first response of a process from a place on.
+/// Returns the first response of a process at a place or after it.
 fn response_of(
     alloc: Global,
     process: u8,

@@ -1,4 +1,4 @@
-// The pairs that a history starts with: they are tested one after another, each by those before it.
+// The pairs that a history starts with. Pairs are tested one by one, each against those before it.
 ghost use Rattle.std.specs.Prelude.{◌≡◌, ◌++◌, ◌∷◌, [], Some, OnOk, IfErr};
 ghost use Rattle.events.specs.Starts.{KeysRise, IsStart};
 ghost use Rattle.events.specs.HistoryFaults.{is_above, pair_fault_after, IsFirstPairFault};
@@ -6,7 +6,7 @@ ghost use Rattle.events.specs.HistoryFaults.{is_above, pair_fault_after, IsFirst
 use crate::MAX_START;
 use crate::fault::HistoryFault;
 
-/// Whether the pairs are some that a history may start with; else their first fault.
+/// Tests whether a history may start with these pairs, and returns their first fault if it may not.
 pub fn test_start(pairs: &[(u64, u64)]) -> Result<(), HistoryFault>
     ensures ok { OnOk result (IsStart pairs.now) }
     ensures first { IfErr result (IsFirstPairFault pairs.now) }
@@ -17,7 +17,8 @@ pub fn test_start(pairs: &[(u64, u64)]) -> Result<(), HistoryFault>
     Ok(())
 }
 
-/// Whether a pair may follow others that a history starts with; else what is wrong with it.
+/// Tests whether a pair may follow others that a history starts with, and returns its fault if it
+/// may not.
 pub fn test_pair(before: &[(u64, u64)], pair: (u64, u64)) -> Result<(), HistoryFault>
     requires { IsStart before.now }
     ensures ok { OnOk result (IsStart (before.now ++ pair ∷ [])) }
@@ -33,7 +34,7 @@ pub fn test_pair(before: &[(u64, u64)], pair: (u64, u64)) -> Result<(), HistoryF
     Ok(())
 }
 
-/// Whether a key is above those of all pairs before it, whose keys rise.
+/// Returns whether a key is above the keys of all pairs before it, which rise.
 pub fn is_above(before: &[(u64, u64)], key: u64) -> bool
     requires { KeysRise before.now }
     ensures { result ≡ is_above before.now key }

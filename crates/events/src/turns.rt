@@ -11,8 +11,8 @@ use crate::starts::test_pair;
 use std::alloc::Global;
 use std::marker::Model;
 
-/// The starting pairs and the events of a history, taken one after another, each tested by those before it.
-/// Contracts see the two lists.
+/// The starting pairs and the events of a history, taken one by one. Each is tested against those
+/// before it. Contracts see both lists.
 #[derive(Drop)]
 pub struct Turns {
     start: Vec<(u64, u64)>,
@@ -39,7 +39,7 @@ impl Turns {
     ghost use Rattle.events.specs.HistoryFaults.{IsRefusedAfter, IsPairRefusedAfter};
     ghost use Rattle.std.specs.Prelude.{◌++◌, ◌∷◌};
 
-    /// No pair and no event yet.
+    /// Returns the state with no pair and no event yet.
     pub fn new(alloc: Global) -> Turns
         ensures none { result ≡ with_no_start [] }
         ensures history { IsHistory result }
@@ -51,8 +51,9 @@ impl Turns {
         }
     }
 
-    /// Takes one more starting pair, in constant time. Otherwise nothing changes, and the fault is what is wrong
-    /// with the pair at this place: `TooMany`, `Start` where its key is not above the one before, or `Memory`.
+    /// Takes one more starting pair, in constant time. Otherwise nothing changes, and it returns
+    /// the fault of the pair at this place: `TooMany`, `Start` if its key is not above the key
+    /// before it, or `Memory`.
     pub fn take_pair(&mut self, pair: (u64, u64)) -> Result<(), HistoryFault>
         ensures taken { OnOk result (self.new ≡ with_pair self.old pair) }
         ensures history { IsHistory self.new }
@@ -66,9 +67,9 @@ impl Turns {
         Ok(())
     }
 
-    /// Takes one more event, in constant time. Otherwise nothing changes, and the fault is what is wrong with the
-    /// event at this place: `Shape` for a scan whose first key is above its last, `TooMany`, `NotWellFormed`, or
-    /// `Memory`.
+    /// Takes one more event, in constant time. Otherwise nothing changes, and it returns the fault
+    /// of the event at this place: `Shape` for a scan whose first key is above its last, `TooMany`,
+    /// `NotWellFormed`, or `Memory`.
     pub fn take(&mut self, event: Event) -> Result<(), HistoryFault>
         ensures taken { OnOk result (self.new ≡ with_event self.old event) }
         ensures history { IsHistory self.new }
@@ -84,7 +85,7 @@ impl Turns {
         Ok(())
     }
 
-    /// The events so far.
+    /// Returns the events so far.
     pub fn events(&self) -> &[Event]
         ensures events { result.now ≡ self.now.events }
         ensures history { IsHistory self.now }
@@ -92,8 +93,8 @@ impl Turns {
         &self.events
     }
 
-    /// The history of the pairs and events so far. It takes time in proportion to the events, for a fixed number of
-    /// processes.
+    /// Returns the history of the pairs and events so far. It takes time in proportion to the
+    /// events, for a fixed number of processes.
     pub fn history(self, alloc: Global) -> Result<History, Memory>
         ensures { IfOk result (λ h. h ≡ self) }
     {

@@ -1,4 +1,4 @@
--- What `explain` answers to the text of a history at a budget.
+-- The answer of `explain` to the text of a history at a budget.
 use Rattle.std.specs.Prelude.{◌≡◌, ◌⊎◌, ℕ, ◌<◌, List, [], ◌++◌, length}
 use Rattle.serde_json.specs.Written.{compact_text}
 use Rattle.events.specs.HistoryView.{HistoryView}
@@ -33,14 +33,14 @@ use Rattle.explain_engines.specs.Origins.{origin_lines}
 use Rattle.explain_engines.specs.Fronts.{front_data}
 use Rattle.explain_engines.specs.OwnParts.{AreFromLines}
 
--- the longest front that a search at the budget meets of the calls of a history, by their numbers
+-- the longest front of a history's calls that a search at the budget meets, by their numbers
 pub record IsFrontOf (budget : ℕ) (history : HistoryView) (front : List ℕ) : Type 0 where
   pub segment : SegmentView
   pub whole : IsWholeSegment history.start (operations history.events) segment
   pub longest : IsLongestFront budget segment front
 
--- the line of the text of a history, and that of its longest front, with what it leaves and which
--- of these calls would come next
+-- two lines: the text of a history, and its longest front, with the pairs that it leaves and the
+-- calls that would come next
 pub record AreTwoLines (budget : ℕ) (start : Contents) (calls : List Operation) (history : HistoryView) (bytes : List ℕ) : Type 0 where
   pub text : List ℕ
   pub front : List ℕ
@@ -53,21 +53,22 @@ abbrev pub AreLinesOf : ℕ → Contents → List Operation → HistoryView → 
 AreLinesOf budget start calls history bytes =
     ((bytes ≡ []) × (text_limit < length (text_of history))) ⊎ AreTwoLines budget start calls history bytes
 
--- those of a history with calls that have no order, or nothing if no history has them
+-- these two lines for a history with calls that have no order; nothing if no history has these
+-- calls
 abbrev pub AreHistoryLines : ℕ → Contents → List Operation → List ℕ → Type 0
 AreHistoryLines budget start calls bytes =
     ((bytes ≡ []) × AreOfNoHistory start calls)
     ⊎ ((history : HistoryView) × IsSmallHistory start calls history × AreLinesOf budget start calls history bytes)
 
--- a line for each pair that calls report from outside of them, from some pairs on: which calls of
--- the history put it
+-- a line for each pair that calls report from outside of them, from some pairs on, with the calls
+-- of the history that put it
 pub record AreOriginLines (history : HistoryView) (start : Contents) (calls : List Operation) (bytes : List ℕ) : Type 0 where
   pub pairs : List (ℕ × ℕ)
   pub external : AreExternal start calls pairs
   pub bytes_are : bytes ≡ origin_lines history.start history.events (operations history.events) pairs
 
--- a few calls that have no order from some pairs, in a line each, with the reason for each; then who
--- put what they report from outside, a history of them, and its front
+-- the lines of a few calls that have no order from some pairs: one for each call, with its reason;
+-- then who put what they report from outside, a history of them, and its front
 pub record AreFewLines (budget : ℕ) (history : HistoryView) (start : Contents) (few : Explanation) (bytes : List ℕ) : Type 0 where
   pub outside : List ℕ
   pub origins : AreOriginLines history start few.calls.items outside
@@ -75,14 +76,14 @@ pub record AreFewLines (budget : ℕ) (history : HistoryView) (start : Contents)
   pub shown : AreHistoryLines budget start few.calls.items small
   pub bytes_are : bytes ≡ rows history few.calls.items few.reasons.items ++ (outside ++ small)
 
--- a few of some calls of a history: they have no order from some pairs, so all of them have none
+-- a few of some calls of a history: they have no order from some pairs, and show that all have none
 pub record AreFew (budget : ℕ) (history : HistoryView) (start : Contents) (calls : List Operation) (bytes : List ℕ) : Type 0 where
   pub few : Explanation
   pub explains : IsExplanation start calls budget few
   pub lines : AreFewLines budget history start few bytes
 
--- a few calls of a part that goes wrong on its own: from which values of their keys they begin, and
--- then their lines
+-- the lines of a few calls of a part that goes wrong on its own: first the values of their keys
+-- from which they begin, then the lines of the calls
 pub record ArePartLines (budget : ℕ) (history : HistoryView) (part : OwnPart) (few : Explanation) (bytes : List ℕ) : Type 0 where
   pub from : List ℕ
   pub begins : AreFromLines history part few.calls.items from
@@ -90,13 +91,13 @@ pub record ArePartLines (budget : ℕ) (history : HistoryView) (part : OwnPart) 
   pub lines : AreFewLines budget history part.start few rest
   pub bytes_are : bytes ≡ from ++ rest
 
--- the lines of the few calls that show a location
+-- the lines of a few calls that show a location
 abbrev pub AreEvidenceLines : ℕ → HistoryView → Evidence → List ℕ → Type 0
 AreEvidenceLines budget history (OfEvents few) bytes = AreFewLines budget history history.start few bytes
 AreEvidenceLines budget history (OfPart part few) bytes = ArePartLines budget history part few bytes
 AreEvidenceLines budget history Missing bytes = bytes ≡ []
 
--- the report of where the history goes wrong, and then what shows that
+-- the report of where the history goes wrong, and then the calls that show that
 pub record AreLocated (budget : ℕ) (history : HistoryView) (bytes : List ℕ) : Type 0 where
   pub location : Location
   pub evidence : Evidence
@@ -106,14 +107,14 @@ pub record AreLocated (budget : ℕ) (history : HistoryView) (bytes : List ℕ) 
   pub lines : AreEvidenceLines budget history evidence few
   pub bytes_are : bytes ≡ line (compact_text (location_data location)) ++ few
 
--- what comes after the report of each verdict on this history
+-- the lines after the report of each verdict on this history
 abbrev pub AreDetails : ℕ → HistoryView → Verdict → List ℕ → Type 0
 AreDetails budget history (Yes order) bytes = bytes ≡ []
 AreDetails budget history (No segment) bytes = AreFew budget history segment.start segment.calls bytes
 AreDetails budget history (Undecided segment) bytes = AreLocated budget history bytes
 
--- what is said of a history: the report of its exact verdict, which is this answer; after a no what
--- shows it, and after an undecided where the history goes wrong
+-- an explanation of a history: the report of its exact verdict, which is this answer. After a no
+-- the calls that show it, and after an undecided where the history goes wrong
 pub record IsExplaining (budget : ℕ) (history : HistoryView) (answer : Answer) (bytes : List ℕ) : Type 0 where
   pub verdict : Verdict
   pub details : List ℕ

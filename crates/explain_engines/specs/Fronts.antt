@@ -1,5 +1,5 @@
 -- The line of a front of a few calls: how far an order of them gets, and which calls would come
--- next. JSON, with members by rising bytes.
+-- next. It is JSON, with members by rising bytes.
 use Rattle.std.specs.Prelude.{ℕ, ◌==◌, Bool, not, List, filter, map, codes}
 use Rattle.std.specs.List.{list_any}
 use Rattle.serde_json.specs.Data.{Data, object, no_members, member}
@@ -11,15 +11,15 @@ use Rattle.orders.specs.Orders.{calls_at, after_calls}
 use Rattle.history_text.specs.Texts.{number_data, pair_data, reply_data, list_data}
 use Rattle.explain_engines.specs.Reports.{answer_data}
 
--- whether a call is one of those taken, and whether one of some calls precedes it
+-- whether a call is one of those taken
 abbrev pub is_taken : List Operation → Operation → Bool
 is_taken taken a = list_any (λ b. b.inv == a.inv) taken
 
 abbrev pub is_preceded : List Operation → Operation → Bool
 is_preceded rest a = list_any (λ b. precedes b a) rest
 
--- the calls that are not taken, and those of them that would come next: none that is not taken
--- precedes them
+-- the calls that are not taken; and of these the calls that would come next, which no call that is
+-- not taken precedes
 abbrev pub left_by : List Operation → List Operation → List Operation
 left_by taken calls = filter (λ a. not (is_taken taken a)) calls
 
@@ -33,7 +33,8 @@ next_of taken calls = let rest = left_by taken calls in unpreceded rest rest
 abbrev pub event_data : Operation → Data
 event_data a = number_data a.inv
 
--- a call that would come next, by its event: what it was answered, and what it would be
+-- a call that would come next, by its event: the answer that it had, and the answer that it would
+-- have
 abbrev pub answers_data : Operation → Reply → Data
 answers_data a reply =
     object (member (codes "answer") (answer_data a.response) (member (codes "event") (event_data a)
@@ -49,7 +50,7 @@ taken_data taken m next =
     object (member (codes "front") (list_data (map event_data taken)) (member (codes "holds") (list_data (map pair_data m))
     (member (codes "next") (list_data (map (stuck_data m) next)) no_members)))
 
--- the calls with these numbers, from some pairs on
+-- the line of the calls with these numbers, which begin from some pairs
 abbrev pub front_data : Contents → List Operation → List ℕ → Data
 front_data start calls front =
     let taken = calls_at calls front in

@@ -15,15 +15,15 @@ use Rattle.explain_engines.specs.Fronts.{next_of}
 use Rattle.small_histories.specs.SmallHistories.{IsSmallHistory}
 use Rattle.explain_engines.specs.Answers.{IsFrontOf}
 
--- unless more configurations are reachable than the budget, no front is longer than the longest that
--- a search meets
+-- unless more configurations are reachable than the budget, no front is longer than the longest
+-- that a search meets
 abbrev pub NoFrontIsLonger : Type 0
 NoFrontIsLonger =
     (budget : ℕ) (segment : SegmentView) (front other : List ℕ) → NonePrecedesItself segment.calls → HasNoOrder segment
     → (ReachesMoreThan segment.start segment.calls budget → ⊥) → IsLongestFront budget segment front
     → IsFront segment.start segment.calls other → length other ≤ length front
 
--- and after that front of a few calls, none that is named as next can come: the map would answer it
+-- after that front of a few calls, no call that is named as next can come: the map would answer it
 -- otherwise
 abbrev pub NoNextCallIsLegal : Type 0
 NoNextCallIsLegal =

@@ -1,5 +1,5 @@
--- The lines of the values that a few calls report and none of them puts. JSON, with members by rising
--- bytes.
+-- The lines of the values that a few calls report and none of them puts. They are JSON, with
+-- members by rising bytes.
 use Rattle.std.specs.Prelude.{ℕ, List, [], ◌∷◌, ◌++◌, map, codes}
 use Rattle.serde_json.specs.Data.{Data, boolean, object, no_members, member}
 use Rattle.serde_json.specs.Written.{compact_text}
@@ -17,14 +17,14 @@ abbrev pub writer_data : List Event → ℕ → Data
 writer_data events place =
     object (member (codes "event") (number_data place) (member (codes "process") (number_data (process_at events place)) no_members))
 
--- a value at a key: the calls that put it there, at these places, and whether it was there at the
--- start
+-- a value at a key: the calls that put it there, by the events of their invocations, and whether it
+-- was there at the start
 abbrev pub pair_origin_data : Contents → List Event → List ℕ → ℕ × ℕ → Data
 pair_origin_data start events places pair =
     object (member (codes "key") (number_data pair.0) (member (codes "puts") (list_data (map (writer_data events) places))
     (member (codes "start") (boolean (holds start pair)) (member (codes "value") (number_data pair.1) no_members))))
 
--- the same, of all these calls
+-- a value at a key, with those of these calls that put it there
 abbrev pub origin_data : Contents → List Event → List Operation → ℕ × ℕ → Data
 origin_data start events calls pair = pair_origin_data start events (map (λ (a : Operation). a.inv) (writers_of pair calls)) pair
 

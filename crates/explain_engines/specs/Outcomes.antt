@@ -1,4 +1,4 @@
--- How a run that explains the text of a history comes out.
+-- The outcome of a run that explains the text of a history.
 use Rattle.std.specs.Prelude.{ℕ}
 use Rattle.outcomes.specs.declared.outcome.RunOutcome.{RunOutcome}
 use Rattle.outcomes.specs.Ends.{Change}

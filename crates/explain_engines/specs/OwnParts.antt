@@ -1,5 +1,5 @@
--- The lines that say from which values of their keys a few calls of an own part begin. JSON, with
--- members by rising bytes.
+-- The lines of the values of their keys from which a few calls of an own part begin. They are JSON,
+-- with members by rising bytes.
 use Rattle.std.specs.Prelude.{◌≡◌, ℕ, List, [], ◌∷◌, ◌++◌, Option, Some, None, codes}
 use Rattle.serde_json.specs.Data.{Data, null, object, no_members, member}
 use Rattle.serde_json.specs.Written.{compact_text}
@@ -31,12 +31,12 @@ abbrev pub key_lines : List Event → ℕ → List Origin → List ℕ
 key_lines events key [] = []
 key_lines events key (origin ∷ origins) = line (compact_text (from_data events key origin)) ++ key_lines events key origins
 
--- those of each key
+-- these lines for each key
 abbrev pub loss_lines : List Event → List KeyLoss → List ℕ
 loss_lines events [] = []
 loss_lines events (loss ∷ losses) = key_lines events loss.key loss.from.items ++ loss_lines events losses
 
--- those of the keys of a few calls of a part
+-- these lines for the keys of a few calls of a part
 pub record AreFromLines (history : HistoryView) (part : OwnPart) (few : List Operation) (bytes : List ℕ) : Type 0 where
   pub losses : List KeyLoss
   pub are_losses : AreOwnLosses part few losses

@@ -26,17 +26,17 @@ answer_data (Some response) = reply_data response.reply
 abbrev pub was_answered : List Operation → ℕ → Bool
 was_answered calls place = list_any (λ a. a.inv == place && is_some a.response) calls
 
--- what counts of the answer of a call that is kept: the reply; or a word, by whether it was
--- answered: then its answer is left out
+-- the answer of a call as far as it counts: the reply, or a word if none counts. The word says
+-- whether the call was open, or its answer is left out
 abbrev pub kept_data : Bool → Option Response → Data
 kept_data answered None = string (if answered then codes "left out" else codes "open")
 kept_data answered (Some response) = reply_data response.reply
 
--- the process of the event at a place, and 0 if there is none
+-- the process of the event at a place, or 0 if there is none
 abbrev pub process_at : List Event → ℕ → ℕ
 process_at events place = option_map_or process_of (slice_get events place) 0
 
--- why a call is kept
+-- why a call stays, in a word
 abbrev pub reason_word : Reason → List ℕ
 reason_word (Order order) = codes "order"
 reason_word Spent = codes "spent"
@@ -53,8 +53,8 @@ abbrev pub with_missed : List Event → List Missed → Members → Members
 with_missed events [] members = members
 with_missed events (m ∷ missed) members = put (codes "misses") (list_data (map (missed_data events) (m ∷ missed))) members
 
--- a call of a history that is kept: what counts of its answer, what was called, the event of its
--- invocation, those that it misses, its process, and why it is kept
+-- a call of a history that stays: the answer that counts, what was called, the event of its
+-- invocation, the calls that it misses, its process, and why it stays
 abbrev pub missing_row_data : HistoryView → Operation → List Missed → Reason → Data
 missing_row_data history a missed reason =
     object (with_missed history.events missed (
@@ -63,7 +63,7 @@ missing_row_data history a missed reason =
     (member (codes "process") (number_data (process_at history.events a.inv))
     (member (codes "reason") (string (reason_word reason)) no_members))))))
 
--- the same, of all calls of the history that it misses
+-- a call of a history that stays, with all calls of the history that it misses
 abbrev pub row_data : HistoryView → Operation → Reason → Data
 row_data history a reason = missing_row_data history a (map missed_of (missed_by a (operations history.events))) reason
 

@@ -1,4 +1,4 @@
-// `bench explain`: the verdict on a history. After a no a few calls that show it, and after an
+// `bench explain`: the verdict on a history. After a no come a few calls that show it, and after an
 // undecided where the history goes wrong.
 ghost use Rattle.std.specs.Prelude.{◌≡◌, ℕ, ◌<◌, ◌≤◌, List, ◌++◌, Some, IfOk, string_bytes};
 ghost use Rattle.serde_json.specs.Written.{compact_text};
@@ -38,7 +38,7 @@ use std::alloc::Global;
 use streams::{Sink, Source};
 
 /// Reads a history text to the end of the source, or until it is too long, and explains the verdict
-/// on it, which one thread finds. Returns the exit status, that of the verdict.
+/// on it. One thread finds the verdict. Returns the exit status, which is that of the verdict.
 pub fn run_explain<S: Source, O: Sink, F: Sink, H: Sink>(
     alloc: Global,
     source: &mut S,
@@ -66,9 +66,9 @@ pub fn run_explain<S: Source, O: Sink, F: Sink, H: Sink>(
     run_text(alloc, source, output, faults, hints, MAX_TEXT, answer)
 }
 
-/// The report of the verdict on the history that the text spells. After a no come a few calls that
-/// show it; after an undecided, where the history goes wrong, if that is found, and a few calls that
-/// show that.
+/// Returns the report of the verdict on the history that the text spells. After a no come a few
+/// calls that show it; after an undecided, where the history goes wrong, if that is found, and a
+/// few calls that show that.
 pub fn explain_outcome(alloc: Global, text: &[u8], budget: u32) -> RunOutcome
     requires { (1 ≤ budget) × (budget ≤ budget_limit) }
     ensures { IsTextOutcome (IsExplainAnswer budget) IsHistoryRefusal (Some text.now) result }
@@ -79,7 +79,7 @@ pub fn explain_outcome(alloc: Global, text: &[u8], budget: u32) -> RunOutcome
     }
 }
 
-/// How an explanation comes out, or that memory ran out.
+/// Returns the outcome of an explanation, or that memory ran out.
 fn outcome_of(explained: Result<(Answer, String), Memory>) -> RunOutcome
     ensures { (budget : ℕ) (text : List ℕ) (history : HistoryView) → IsTextOf text history
         → IfOk explained (λ said. IsExplaining budget history said.0 (string_bytes said.1))
@@ -91,7 +91,7 @@ fn outcome_of(explained: Result<(Answer, String), Memory>) -> RunOutcome
     }
 }
 
-/// The lines that explain the verdict on a history, with the answer that it is.
+/// Returns the lines that explain the verdict on a history, and the answer for the verdict.
 fn explained_with(alloc: Global, history: &History, budget: u32) -> Result<(Answer, String), Memory>
     requires { (1 ≤ budget) × (budget ≤ budget_limit) }
     ensures { IfOk result (λ said. IsExplaining budget history.now said.0 (string_bytes said.1)) }
@@ -101,7 +101,7 @@ fn explained_with(alloc: Global, history: &History, budget: u32) -> Result<(Answ
     Ok((answer_of(&verdict), lines))
 }
 
-/// The report of a verdict, and then what shows it.
+/// Returns the report of a verdict, and then what shows it.
 fn verdict_lines(
     alloc: Global,
     history: &History,
@@ -122,8 +122,8 @@ fn verdict_lines(
     Ok(lines)
 }
 
-/// What comes after the report of a verdict: what shows a no; where the history goes wrong after an
-/// undecided.
+/// Returns the lines after the report of a verdict: the calls that show a no, or where the history
+/// goes wrong after an undecided.
 fn details_of(
     alloc: Global,
     history: &History,
@@ -143,7 +143,7 @@ fn details_of(
     }
 }
 
-/// A few calls of a segment that show that it has no order.
+/// Returns a few calls of a segment that show that it has no order.
 fn segment_details(
     alloc: Global,
     history: &History,
@@ -181,7 +181,7 @@ fn located_details(
     Ok(lines)
 }
 
-/// The lines of what shows a location.
+/// Returns the lines of what shows a location.
 fn evidence_lines(
     alloc: Global,
     history: &History,
@@ -200,8 +200,8 @@ fn evidence_lines(
     }
 }
 
-/// The lines of a few calls of a part that goes wrong on its own: from which values of their keys
-/// they begin, and then those of the calls.
+/// Returns the lines of a few calls of a part that goes wrong on its own: first the values of their
+/// keys from which they begin, then the lines of the calls.
 fn part_lines(
     alloc: Global,
     history: &History,

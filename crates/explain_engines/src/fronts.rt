@@ -20,8 +20,8 @@ use outcomes::line_of;
 use serde_json::{Map, Value, put};
 use std::alloc::{AllocError, Global};
 
-/// The line of a front of a few calls from some pairs: the calls, the pairs that they leave, and the
-/// calls that would come next.
+/// Returns the line of a front of a few calls from some pairs: the calls, the pairs that they
+/// leave, and the calls that would come next.
 pub(crate) fn front_line(
     alloc: Global,
     start: &[(u64, u64)],
@@ -51,7 +51,7 @@ fn front_value(
     taken_value(alloc, &taken, &held, &next)
 }
 
-/// The calls with these numbers.
+/// Returns the calls with these numbers.
 fn calls_at(alloc: Global, calls: &[Operation], front: &[u32]) -> Result<Vec<Operation>, Memory>
     ensures { IfOk result (λ taken. taken.items ≡ calls_at calls.now front.now) }
 {
@@ -64,7 +64,7 @@ fn calls_at(alloc: Global, calls: &[Operation], front: &[u32]) -> Result<Vec<Ope
     Ok(taken)
 }
 
-/// The call with this number, if there is one: a copy.
+/// Returns the call with this number, if there is one: a copy.
 fn call_at(alloc: Global, calls: &[Operation], number: usize) -> Result<Option<Operation>, Memory>
     ensures { IfOk result (λ found. found ≡ slice_get calls.now number) }
 {
@@ -74,7 +74,7 @@ fn call_at(alloc: Global, calls: &[Operation], number: usize) -> Result<Option<O
     }
 }
 
-/// The map that calls leave.
+/// Returns the map that calls leave.
 fn map_after(alloc: Global, start: &[(u64, u64)], taken: &[Operation]) -> Result<SortedMap, Memory>
     requires { IsRising start.now }
     ensures { IfOk result (λ map. map ≡ after_calls start.now taken.now) }
@@ -86,7 +86,7 @@ fn map_after(alloc: Global, start: &[(u64, u64)], taken: &[Operation]) -> Result
     Ok(map)
 }
 
-/// The calls that are not taken, and that none of these precedes.
+/// Returns the calls that are not taken, and that none of these precedes.
 fn next_of(
     alloc: Global,
     calls: &[Operation],
@@ -98,7 +98,7 @@ fn next_of(
     minimal_calls(alloc, &rest)
 }
 
-/// The calls that none of them precedes.
+/// Returns the calls that none of them precedes.
 fn minimal_calls(alloc: Global, rest: &[Operation]) -> Result<Vec<Operation>, Memory>
     ensures { IfOk result (λ next. next.items ≡ unpreceded rest.now rest.now) }
 {
@@ -111,7 +111,7 @@ fn minimal_calls(alloc: Global, rest: &[Operation]) -> Result<Vec<Operation>, Me
     Ok(next)
 }
 
-/// The calls that are not taken.
+/// Returns the calls that are not taken.
 fn left_by(
     alloc: Global,
     calls: &[Operation],
@@ -128,7 +128,7 @@ fn left_by(
     Ok(rest)
 }
 
-/// Whether a call is one of those taken.
+/// Returns whether a call is one of those taken.
 fn is_taken(taken: &[Operation], call: &Operation) -> bool
     ensures { result ≡ is_taken taken.now call.now }
 {
@@ -140,7 +140,7 @@ fn is_taken(taken: &[Operation], call: &Operation) -> bool
     false
 }
 
-/// Whether one of some calls precedes a call.
+/// Returns whether one of some calls precedes a call.
 fn is_preceded(rest: &[Operation], call: &Operation) -> bool
     ensures { result ≡ is_preceded rest.now call.now }
 {
@@ -165,8 +165,8 @@ fn taken_value(
     Ok(Value::Object(members))
 }
 
-/// Puts calls taken, the pairs that the map then holds, and the calls that would come next, into an
-/// object without members.
+/// Adds the calls taken, the pairs that the map then holds, and the calls that would come next, to
+/// an object without members.
 fn put_taken(
     alloc: Global,
     members: &mut Map<String, Value>,
@@ -184,7 +184,7 @@ fn put_taken(
     Ok(())
 }
 
-/// The events of calls.
+/// Returns the events of calls.
 fn events_value(alloc: Global, calls: &[Operation]) -> Result<Value, AllocError>
     ensures { IfOk result (λ value. view value ≡ list_data (map event_data calls.now)) }
 {
@@ -195,7 +195,7 @@ fn events_value(alloc: Global, calls: &[Operation]) -> Result<Value, AllocError>
     Ok(Value::from(items))
 }
 
-/// What calls that would come next were answered, and would be.
+/// Returns the answers that calls which would come next had, and would have.
 fn all_stuck(alloc: Global, held: &SortedMap, next: &[Operation]) -> Result<Value, Memory>
     ensures { IfOk result (λ value. view value ≡ list_data (map (stuck_data held.now) next.now)) }
 {
@@ -213,7 +213,7 @@ fn stuck_value(alloc: Global, held: &SortedMap, call: &Operation) -> Result<Valu
     Ok(answers_value(alloc, call, &would)?)
 }
 
-/// What a map answers to a call.
+/// Returns what a map answers to a call.
 fn reply_to(alloc: Global, held: &SortedMap, call: &Call) -> Result<Reply, Memory>
     ensures { IfOk result (λ reply. reply ≡ reply_to held.now call.now) }
 {
@@ -229,8 +229,8 @@ fn answers_value(alloc: Global, call: &Operation, would: &Reply) -> Result<Value
     Ok(Value::Object(members))
 }
 
-/// Puts the event of a call, what it was answered, and what it would be, into an object without
-/// members.
+/// Adds the event of a call, the answer that it had, and the answer that it would have, to an
+/// object without members.
 fn put_answers(
     alloc: Global,
     members: &mut Map<String, Value>,

@@ -1,17 +1,17 @@
-// Laws of how far an order of a few calls gets. Each function only has a clause. One that rests on
-// others calls them.
+// Laws of how far an order of a few calls gets. Each function only carries its clause; one that
+// needs other laws calls them.
 ghost use Rattle.explain_engines.specs.Laws.{NoFrontIsLonger, NoNextCallIsLegal};
 
 use quiet_cuts::ranges_suffice;
 
-/// The longest front that a search of calls without order meets is as long as any, unless more
+/// No front of calls without order is longer than the longest that a search meets, unless more
 /// configurations are reachable than the budget.
 pub fn no_front_is_longer()
     ensures { NoFrontIsLonger }
 {}
 
 /// No call that is named as next after that front can come next, unless more configurations are
-/// reachable than the budget: the map would answer it otherwise.
+/// reachable than the budget. The map would answer it otherwise.
 pub fn no_next_call_is_legal()
     ensures { NoNextCallIsLegal }
 {

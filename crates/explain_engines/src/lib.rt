@@ -1,6 +1,6 @@
 //! The engine that explains the judge's verdict on the text of a history. After a no it names a few
-//! calls of the segment that the verdict names, which have no order on their own. After an undecided
-//! it locates where the history goes wrong, and names a few calls that show that.
+//! calls of the segment in the verdict, which have no order on their own. After an undecided it
+//! locates where the history goes wrong, and names a few calls that show that.
 #![tactic(auto)]
 
 mod explained;

@@ -1,4 +1,4 @@
-// The calls that a call which is kept misses.
+// The calls that a call of an explanation misses.
 ghost use Rattle.std.specs.Prelude.{◌≡◌, [], map, IfOk, OnOk};
 ghost use Rattle.serde_json.specs.Data.{object};
 ghost use Rattle.serde_json.specs.View.{view, members_view};
@@ -28,7 +28,7 @@ pub(crate) fn put_missed(
     put(members, alloc, "misses", all_missed(alloc, events, missed)?)
 }
 
-/// Calls that another misses.
+/// Returns the calls that another call misses.
 fn all_missed(alloc: Global, events: &[Event], missed: &[Missed]) -> Result<Value, AllocError>
     ensures { IfOk result (λ value. view value ≡ list_data
         (map (missed_data events.now) missed.now)) }
@@ -48,8 +48,7 @@ fn missed_value(alloc: Global, events: &[Event], missed: &Missed) -> Result<Valu
     Ok(Value::Object(members))
 }
 
-/// Puts what was called, the event of its invocation and its process into an object without
-/// members.
+/// Adds what was called, the event of its invocation and its process to an object without members.
 fn put_missed_call(
     alloc: Global,
     members: &mut Map<String, Value>,

@@ -1,4 +1,4 @@
-// The lines that say from which values of their keys a few calls of an own part begin.
+// The lines of the values of their keys from which a few calls of an own part begin.
 ghost use Rattle.std.specs.Prelude.{◌≡◌, [], IfOk, OnOk, string_bytes};
 ghost use Rattle.serde_json.specs.Data.{object};
 ghost use Rattle.serde_json.specs.View.{view, members_view};
@@ -14,8 +14,8 @@ use serde_json::{Map, Value, put};
 use small_histories::value_or_null;
 use std::alloc::{AllocError, Global};
 
-/// A line for each value that a key of a few calls of a part has before them, with the call that put
-/// it.
+/// Returns a line for each value that a key of a few calls of a part has before them, with the call
+/// that put it.
 pub(crate) fn from_lines(
     alloc: Global,
     history: &History,
@@ -28,7 +28,7 @@ pub(crate) fn from_lines(
     loss_lines(alloc, history.events(), &losses)
 }
 
-/// The lines of the values of each key.
+/// Returns the lines of the values of each key.
 fn loss_lines(alloc: Global, events: &[Event], losses: &[KeyLoss]) -> Result<String, Memory>
     ensures { IfOk result (λ text. string_bytes text ≡ loss_lines events.now losses.now) }
 {
@@ -40,7 +40,7 @@ fn loss_lines(alloc: Global, events: &[Event], losses: &[KeyLoss]) -> Result<Str
     Ok(text)
 }
 
-/// A line for each of these values of a key.
+/// Returns a line for each of these values of a key.
 fn key_lines(alloc: Global, events: &[Event], key: u64, from: &[Origin]) -> Result<String, Memory>
     ensures { IfOk result (λ text. string_bytes text ≡ key_lines events.now key from.now) }
 {
@@ -52,7 +52,7 @@ fn key_lines(alloc: Global, events: &[Event], key: u64, from: &[Origin]) -> Resu
     Ok(text)
 }
 
-/// The line of a value of a key.
+/// Returns the line of a value of a key.
 fn from_line(alloc: Global, events: &[Event], key: u64, origin: Origin) -> Result<String, Memory>
     ensures { IfOk result (λ text. string_bytes text ≡ line
         (compact_text (from_data events.now key origin))) }
@@ -74,7 +74,7 @@ fn from_value(
     Ok(Value::Object(members))
 }
 
-/// Puts a value, its key and the call that put it into an object without members.
+/// Adds a value, its key and the call that put it to an object without members.
 fn put_from(
     alloc: Global,
     members: &mut Map<String, Value>,
@@ -91,8 +91,8 @@ fn put_from(
     put(members, alloc, "put", put_value(alloc, events, origin.put)?)
 }
 
-/// The call that put a value, by the event of its invocation, with its process. Null if it is not
-/// known.
+/// Returns the call that put a value, by the event of its invocation, with its process; null if it
+/// is not known.
 fn put_value(alloc: Global, events: &[Event], place: Option<usize>) -> Result<Value, AllocError>
     ensures { IfOk result (λ value. view value ≡ put_data events.now place) }
 {

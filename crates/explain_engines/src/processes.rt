@@ -1,10 +1,10 @@
-// Which process an event is of.
+// The process of an event.
 ghost use Rattle.std.specs.Prelude.{◌≡◌};
 ghost use Rattle.explain_engines.specs.Reports.{process_at};
 
 use events::Event;
 
-/// The process of the event at a place, and 0 if there is none.
+/// Returns the process of the event at a place, or 0 if there is none.
 pub(crate) fn process_at(events: &[Event], place: usize) -> u8
     ensures { result ≡ process_at events.now place }
 {

@@ -28,9 +28,9 @@ use serde_json::{Map, Value, put};
 use small_histories::{small_history, small_text};
 use std::alloc::{AllocError, Global};
 
-/// The lines of a few calls that have no order from these pairs: one for each call, one for each value
-/// that comes from outside of them, the text of a history of them, and how far an order of that
-/// gets.
+/// Returns the lines of a few calls that have no order from these pairs: one for each call, and one
+/// for each value that comes from outside of them. Then come the text of a history of them, and how
+/// far an order of them gets.
 pub(crate) fn few_lines(
     alloc: Global,
     history: &History,
@@ -53,8 +53,8 @@ pub(crate) fn few_lines(
     Ok(text)
 }
 
-/// The line of a history with some calls from some pairs, and that of a front of these. Nothing if no
-/// history has them, or its text is too long.
+/// Returns two lines: a history with some calls from some pairs, and a front of these. There is
+/// nothing if no history has them, or if its text is too long.
 fn history_lines(
     alloc: Global,
     start: &[(u64, u64)],
@@ -72,8 +72,8 @@ fn history_lines(
     }
 }
 
-/// The line of a history with some calls from some pairs, and that of a front of these. Nothing if its
-/// text is too long.
+/// Returns two lines: a history with some calls from some pairs, and a front of these. There is
+/// nothing if its text is too long.
 fn lines_of(
     alloc: Global,
     history: &History,
@@ -93,7 +93,7 @@ fn lines_of(
     }
 }
 
-/// The line of the text of a history, and then that of a front of its calls.
+/// Returns the line of the text of a history, and then that of a front of its calls.
 fn two_lines(
     alloc: Global,
     text: String,
@@ -116,7 +116,7 @@ fn two_lines(
     Ok(lines)
 }
 
-/// The longest front that a search of all calls of a history meets.
+/// Returns the longest front that a search of all calls of a history meets.
 fn front_of(alloc: Global, history: &History, budget: u32) -> Result<Vec<u32>, Memory>
     requires { (1 ≤ budget) × (budget ≤ budget_limit) }
     ensures { (IsLinearizable history.now.start (operations history.now.events) → ⊥)
@@ -132,7 +132,7 @@ fn front_of(alloc: Global, history: &History, budget: u32) -> Result<Vec<u32>, M
     }
 }
 
-/// A line for each call that is kept, with the reason why.
+/// Returns a line for each call of an explanation, with the reason why it stays.
 fn row_lines(
     alloc: Global,
     history: &History,
@@ -181,7 +181,7 @@ fn row_value(
     Ok(Value::Object(members))
 }
 
-/// Puts what is said of a call that is kept into an object without members.
+/// Adds a call of an explanation to an object without members.
 fn put_row(
     alloc: Global,
     members: &mut Map<String, Value>,
@@ -207,7 +207,7 @@ fn put_row(
     put_missed(alloc, members, history.events(), missed)
 }
 
-/// Puts what counts of a call's answer, what was called, and the event of its invocation.
+/// Adds the answer of a call as far as it counts, what was called, and the event of its invocation.
 fn put_call(
     alloc: Global,
     members: &mut Map<String, Value>,
@@ -230,7 +230,7 @@ fn put_call(
     put(members, alloc, "event", Value::from(call.inv))
 }
 
-/// Whether the call that was invoked at a place was answered.
+/// Returns whether the call that was invoked at a place was answered.
 fn was_answered(calls: &[Operation], place: usize) -> bool
     ensures { result ≡ was_answered calls.now place }
 {
@@ -242,7 +242,7 @@ fn was_answered(calls: &[Operation], place: usize) -> bool
     false
 }
 
-/// What counts of the answer of a call that is kept: the reply, or a word.
+/// Returns the answer of a call as far as it counts: the reply, or a word.
 fn kept_value(
     alloc: Global,
     answered: bool,
@@ -256,14 +256,14 @@ fn kept_value(
     }
 }
 
-/// Why no answer of a call counts, in a word.
+/// Returns why no answer of a call counts, in a word.
 fn absent_word(answered: bool) -> &'static str
     ensures { result.now ≡ (if answered then codes "left out" else codes "open") }
 {
     if answered { "left out" } else { "open" }
 }
 
-/// The answer of a call among a few: the reply, or a word if it has none there.
+/// Returns the answer of a call among a few: the reply, or a word if it has none there.
 pub(crate) fn answer_value(alloc: Global, response: &Option<Response>) -> Result<Value, AllocError>
     ensures { IfOk result (λ value. view value ≡ answer_data response.now) }
 {
@@ -273,7 +273,7 @@ pub(crate) fn answer_value(alloc: Global, response: &Option<Response>) -> Result
     }
 }
 
-/// Why a call is kept, in a word.
+/// Returns why a call stays, in a word.
 fn reason_word(reason: &Reason) -> &'static str
     ensures { result.now ≡ reason_word reason.now }
 {

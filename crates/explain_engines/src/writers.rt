@@ -18,8 +18,8 @@ use outcomes::line_of;
 use serde_json::{Map, Value, put};
 use std::alloc::{AllocError, Global};
 
-/// A line for each pair of a key and a value that a few calls report from outside of them, from some
-/// pairs on.
+/// Returns a line for each pair of a key and a value that a few calls report from outside of them,
+/// from some pairs on.
 pub(crate) fn outside_lines(
     alloc: Global,
     history: &History,
@@ -36,7 +36,7 @@ pub(crate) fn outside_lines(
     origin_lines(alloc, &whole, history.events(), history.calls(), &pairs)
 }
 
-/// A line for each pair: the calls that put it, and whether the map held it at the start.
+/// Returns a line for each pair: the calls that put it, and whether the map held it at the start.
 fn origin_lines(
     alloc: Global,
     start: &SortedMap,
@@ -85,7 +85,7 @@ fn origin_value(
     Ok(Value::Object(members))
 }
 
-/// Puts a pair, the calls that put it, and whether the map held it at the start, into an object
+/// Adds a pair, the calls that put it, and whether the map held it at the start, to an object
 /// without members.
 fn put_origin(
     alloc: Global,
@@ -105,7 +105,7 @@ fn put_origin(
     put(members, alloc, "value", Value::from(pair.1))
 }
 
-/// The calls that were invoked at some places.
+/// Returns the calls that were invoked at some places.
 fn all_writers(alloc: Global, events: &[Event], places: &[usize]) -> Result<Value, AllocError>
     ensures { IfOk result (λ value. view value ≡ list_data
         (map (writer_data events.now) places.now)) }
@@ -129,7 +129,7 @@ pub(crate) fn writer_value(
     Ok(Value::Object(members))
 }
 
-/// Puts the event of a call and its process into an object without members.
+/// Adds the event of a call and its process to an object without members.
 fn put_writer(
     alloc: Global,
     members: &mut Map<String, Value>,

@@ -1,4 +1,4 @@
--- What is said of calls without order: few of them that have none either.
+-- Explanations of calls without order: a few of the calls that have no order either.
 use Rattle.std.specs.Prelude.{◌≡◌, ℕ, ◌==◌, ◌<◌, ◌≤◌, ◌-◌, true, not, nat_lt, if◌then◌else◌, List, [], ◌∷◌, length, map, filter, drop, All, Option, Some, None}
 use Rattle.std.specs.List.{AllZip}
 use Rattle.events.specs.declared.operation.Operation.{Operation}
@@ -17,8 +17,8 @@ use Rattle.explaining.specs.declared.explanation.Without.TheVariants.{Rest, Kept
 use Rattle.explaining.specs.declared.explanation.Reduction.{Reduction}
 use Rattle.explaining.specs.declared.explanation.Reduction.TheVariants.{Less, Least}
 
--- some of the calls, each as it is or without its answer, that have no order; and none of those
--- left out could mend that: each order of all would be one of these (the law
+-- some of the calls, each as it is or without its answer, that have no order. None of the calls
+-- left out could mend that: each order of all calls would contain one of these (the law
 -- RelaxedCallsHaveOrders)
 pub record AreEnough (start : Contents) (calls kept : List Operation) : Type 0 where
   pub relaxed : IsRelaxed calls kept
@@ -26,32 +26,32 @@ pub record AreEnough (start : Contents) (calls kept : List Operation) : Type 0 w
   pub apart : NonePrecedesItself kept
   pub none : IsLinearizable start kept → ⊥
 
--- why calls do not go, where those stay that were invoked at these places: the others, without the
--- answers that tell what those that go put, have an order; or their search took more than the
--- budget; or one that has no answer waits for what one of these may put
+-- why calls are not left out, if the calls that were invoked at these places stay. The calls that
+-- stay, without the answers that depend on what the others put, have an order. Or their search took
+-- more than the budget. Or one of them without an answer waits for what the others may put
 abbrev pub IsReasonFor : Contents → ℕ → List Operation → List ℕ → Reason → Type 0
 IsReasonFor start budget calls places (reasons.Order order) = IsOrder start (rest_of places calls) order.items
 IsReasonFor start budget calls places reasons.Spent = ReachesMoreThan start (rest_of places calls) budget
 IsReasonFor start budget calls places reasons.Held = are_held places calls ≡ true
 
--- the places at which some calls were invoked, but for one
+-- the places at which some calls were invoked, except one call
 abbrev pub others_than : List Operation → ℕ → List ℕ
 others_than kept place = map (λ (b : Operation). b.inv) (filter (λ b. not (b.inv == place)) kept)
 
--- why one of those kept does not go
+-- why one of the calls that stay is not left out
 abbrev pub IsReasonForOne : Contents → ℕ → List Operation → List Operation → Operation → Reason → Type 0
 IsReasonForOne start budget calls kept a reason = IsReasonFor start budget calls (others_than kept a.inv) reason
 
--- few calls that are enough, with the reason why none of them can be left out
+-- a few calls that are enough, with the reason why each of them stays
 pub record IsExplanation (start : Contents) (calls : List Operation) (budget : ℕ) (e : Explanation) : Type 0 where
   pub enough : AreEnough start calls e.calls.items
   pub minimal : AllZip (IsReasonForOne start budget calls e.calls.items) e.calls.items e.reasons.items
 
--- the places at which the last of some calls were invoked, so many of them
+-- the places at which the last calls were invoked, this many of them
 abbrev pub last_places : ℕ → List Operation → List ℕ
 last_places count calls = map (λ (a : Operation). a.inv) (drop (length calls - count) calls)
 
--- so many of the last calls do not show at a budget that all have no order, for some reason
+-- this many of the last calls do not show at a budget that all calls have no order, for some reason
 abbrev pub IsUnshown : Contents → ℕ → List Operation → ℕ → Type 0
 IsUnshown start budget calls count = (reason : Reason) × IsReasonFor start budget calls (last_places count calls) reason
 
@@ -59,18 +59,18 @@ IsUnshown start budget calls count = (reason : Reason) × IsReasonFor start budg
 abbrev pub sizes_tried : List ℕ
 sizes_tried = 8 ∷ 16 ∷ 32 ∷ 64 ∷ 128 ∷ 256 ∷ []
 
--- how many configurations a search meets at most that is to leave out many calls at once
+-- the most configurations that a search meets if it is to leave out many calls at once
 abbrev pub few_configurations : ℕ → ℕ
 few_configurations budget = if nat_lt budget 16384 then budget else 16384
 
--- what is said of calls: few that are enough, so that they have no order; or nothing, where no
--- number of the last ones that is tried shows it
+-- the explanation of calls: a few that are enough, so all have no order. Or there is none, if none
+-- of the numbers of last calls that are tried shows it
 abbrev pub IsExplained : Contents → List Operation → ℕ → Option Explanation → Type 0
 IsExplained start calls budget (Some e) = IsExplanation start calls budget e
 IsExplained start calls budget None = All (IsUnshown start (few_configurations budget) calls) sizes_tried
 
--- what became of calls that were to go: those that stay are enough, and no more than there were to
--- stay; or these are kept
+-- the result of leaving calls out: the calls that stay are enough, and are no more than the places.
+-- Otherwise the reason why they stay
 pub record IsRest (start : Contents) (calls : List Operation) (places : List ℕ) (rest : List Operation) : Type 0 where
   pub enough : AreEnough start calls rest
   pub fewer : length rest ≤ length places
@@ -79,7 +79,7 @@ abbrev pub IsWithout : Contents → List Operation → List ℕ → ℕ → With
 IsWithout start calls places budget (Rest rest) = IsRest start calls places rest.items
 IsWithout start calls places budget (Kept reason) = IsReasonFor start budget calls places reason
 
--- what a look at each call kept came to: fewer that are enough, or a reason for each
+-- the result of a look at each call that stays: fewer calls that are enough, or a reason for each
 abbrev pub IsReduction : Contents → List Operation → List Operation → ℕ → Reduction → Type 0
 IsReduction start calls kept budget (Less rest) = AreEnough start calls rest.items × (length rest.items < length kept)
 IsReduction start calls kept budget (Least reasons) = AllZip (IsReasonForOne start budget calls kept) kept reasons.items

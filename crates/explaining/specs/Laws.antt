@@ -7,14 +7,14 @@ use Rattle.quiet_cuts.specs.TimeCuts.{InvocationsRise}
 use Rattle.explaining.specs.Rest.{rest_of, are_held}
 use Rattle.explaining.specs.Relaxed.{IsRelaxed}
 
--- where all calls have an order, those that are left have one
+-- if all calls have an order, the calls that are left have one
 abbrev pub RelaxedCallsHaveOrders : Type 0
 RelaxedCallsHaveOrders =
     (start : Contents) (calls others : List Operation) → IsRising start → InvocationsRise calls → InvocationsRise others
     → IsRelaxed calls others
     → IsLinearizable start calls → IsLinearizable start others
 
--- calls that stay where no other is held are left so
+-- the calls that stay are left so, if none of them waits for what a call left out may put
 abbrev pub RestsAreRelaxed : Type 0
 RestsAreRelaxed =
     (places : List ℕ) (calls : List Operation) → InvocationsRise calls → are_held places calls ≡ false

@@ -1,5 +1,6 @@
--- Calls of which some are left out and some have lost their answers, so that each order of all is
--- one of these: what those left out put is overwritten before one of these could tell it.
+-- Calls of which some are left out and some have lost their answers, so that each order of all
+-- contains one of these. What the calls left out put is overwritten before the answer of a call
+-- that stays could depend on it.
 use Rattle.std.specs.Prelude.{◌≡◌, ◌≢◌, ◌⊎◌, true, List, Contains}
 use Rattle.events.specs.declared.operation.Operation.{Operation}
 use Rattle.events.specs.Precedence.{precedes}
@@ -11,8 +12,8 @@ use Rattle.explaining.specs.Rest.{opened}
 abbrev pub IsCallOf : Operation → Operation → Type 0
 IsCallOf a b = (b ≡ a) ⊎ (b ≡ opened a)
 
--- what a call put is overwritten before another comes: a third one stands between them in each
--- order, as it is or without its answer
+-- what a call put is overwritten before another call comes: a third call is between them in each
+-- order. It stays, as it is or without its answer
 pub record IsOverwritten (calls others : List Operation) (a b : Operation) : Type 0 where
   pub by : Operation
   pub known : Contains calls by
@@ -20,15 +21,15 @@ pub record IsOverwritten (calls others : List Operation) (a b : Operation) : Typ
   pub puts : says_put by ≡ true
   pub between : is_between a by b ≡ true
 
--- a call is left out, and no other tells what it may put, but for those that precede it and those
--- before which it is overwritten
+-- a call is left out, and no call that stays depends on what it may put. Exceptions are calls that
+-- precede it, and calls before which it is overwritten
 pub record IsLeftOut (calls others : List Operation) (a : Operation) : Type 0 where
   pub absent : (b : Operation) → Contains others b → b.inv ≢ a.inv
   pub untold : (b left : Operation) → Contains calls b → Contains others left → IsCallOf b left → tells_put left a ≡ true
       → (precedes b a ≡ true) ⊎ IsOverwritten calls others a b
 
--- each of the others is a call, as it is or without its answer, and the calls that are none of them
--- are left out
+-- each of the others is one of the calls, as it is or without its answer; all other calls are left
+-- out
 pub record IsRelaxed (calls others : List Operation) : Type 0 where
   pub from : (b : Operation) → Contains others b → (a : Operation) × Contains calls a × IsCallOf a b
   pub each : (a : Operation) → Contains calls a → ((b : Operation) × Contains others b × IsCallOf a b) ⊎ IsLeftOut calls others a

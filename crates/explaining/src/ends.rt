@@ -9,7 +9,7 @@ use events::{Memory, Operation};
 use map_object::SortedMap;
 use std::alloc::Global;
 
-/// The first calls that have no order, as few as a halving by their number finds.
+/// Returns the first calls that have no order, as few as a binary search by their number finds.
 pub(crate) fn first_calls(
     alloc: Global,
     map: &SortedMap,
@@ -42,8 +42,8 @@ pub(crate) fn first_calls(
 /// How many of the last calls are tried first.
 const FEW_CALLS: usize = 8;
 
-/// The last of the calls kept that have no order: few of them, or twice, four times as many, and so
-/// on.
+/// Returns the last of the calls that have no order: a few of them, or twice, four times as many,
+/// and so on.
 pub(crate) fn last_calls(
     alloc: Global,
     map: &SortedMap,
@@ -67,7 +67,7 @@ pub(crate) fn last_calls(
     Ok(kept)
 }
 
-/// The places of calls.
+/// Returns the places of calls.
 pub(crate) fn places_of(alloc: Global, calls: &[Operation]) -> Result<Vec<usize>, Memory>
     ensures { IfOk result (λ places. places.items ≡ map (λ a. a.inv) calls.now) }
 {

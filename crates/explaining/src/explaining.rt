@@ -11,11 +11,12 @@ use events::{Memory, Operation};
 use map_object::SortedMap;
 use std::alloc::Global;
 
-/// Explains why calls have no order from a map, where it is known that they have none: few calls
-/// that have none, as which all have none, each of them needed. The calls stand by rising
-/// invocation, at any places; a call of the explanation is told by its invocation. Each search may
-/// meet as many configurations as the budget. Of n calls that leave r there are about log n + 6 r
-/// of them, where they go wrong at few calls that stand beside each other, and seldom more than n.
+/// Explains why calls have no order from a map, if it is known that they have none. Returns a few
+/// calls that have none, which show that all have none, and each of which is needed. The calls are
+/// sorted by rising invocation, and may have any places. The explanation names a call by its
+/// invocation. Each search may meet as many configurations as the budget. For n calls that leave r
+/// it makes about log n + 6 r searches, if a few neighbouring calls go wrong, and seldom more than
+/// n.
 pub fn explain_calls(
     alloc: Global,
     map: &SortedMap,
@@ -31,7 +32,7 @@ pub fn explain_calls(
     least_of(alloc, map, calls, kept, budget)
 }
 
-/// Leaves out calls one by one, until none of those that are kept can be left out.
+/// Leaves out calls one by one, until none of those that stay can be left out.
 pub(crate) fn least_of(
     alloc: Global,
     map: &SortedMap,
@@ -56,7 +57,7 @@ pub(crate) fn least_of(
     }
 }
 
-/// How many configurations a search meets at most that is to leave out many calls at once.
+/// Returns the most configurations that a search meets if it is to leave out many calls at once.
 pub(crate) fn few_configurations(budget: u32) -> u32
     ensures { result ≡ few_configurations budget }
 {
@@ -64,7 +65,7 @@ pub(crate) fn few_configurations(budget: u32) -> u32
 }
 
 /// Leaves out the last calls, then the first ones, then those between by halves, quarters and so
-/// on, where short searches show that the others have no order.
+/// on, if short searches show that the others have no order.
 fn leave_out_runs(
     alloc: Global,
     map: &SortedMap,
@@ -82,7 +83,7 @@ fn leave_out_runs(
     by_halves(alloc, map, calls, kept, few)
 }
 
-/// Leaves out calls of those kept by halves, quarters and so on.
+/// Leaves out calls by halves, quarters and so on.
 pub(crate) fn by_halves(
     alloc: Global,
     map: &SortedMap,

@@ -1,24 +1,24 @@
-// What is said of calls without order.
+// Explanations of calls without order.
 
 use events::Operation;
 
-/// Why a call is kept.
+/// Why a call stays.
 #[derive(Drop)]
 pub enum Reason {
-    /// The others have this order, by their places in the list that is left where the call goes,
-    /// and with it the answers that tell what it put.
+    /// The others, without the answers that depend on what the call put, have this order. It names
+    /// them by their places in their own list.
     Order(Vec<u32>),
     /// The search of the others met more configurations than the budget.
     Spent,
-    /// A call without answer waits for what it may put.
+    /// A call without an answer waits for what it may put.
     Held,
 }
 
-/// Few calls that have no order, by rising invocation. A call that has no answer here may have had
+/// A few calls that have no order, by rising invocation. A call without an answer here may have had
 /// one.
 pub struct Explanation {
     pub calls: Vec<Operation>,
-    /// Why each of the calls is kept, in their order.
+    /// Why each of the calls stays, in their order.
     pub reasons: Vec<Reason>,
 }
 
@@ -31,16 +31,16 @@ impl Drop for Explanation {
     }
 }
 
-/// What became of calls that were to go.
+/// The result of leaving calls out.
 #[derive(Drop)]
 pub enum Without {
     /// The others have no order.
     Rest(Vec<Operation>),
-    /// They are kept.
+    /// The calls stay, for this reason.
     Kept(Reason),
 }
 
-/// What a look at each call kept came to.
+/// The result of a look at each call that stays.
 #[derive(Drop)]
 pub enum Reduction {
     /// One of them can be left out, and these are the others.

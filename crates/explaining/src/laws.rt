@@ -1,16 +1,16 @@
-// Laws of calls of which some are left out, each the contract of a function that does nothing.
+// Laws of calls of which some are left out. Each is the contract of a function that does nothing.
 ghost use Rattle.explaining.specs.Laws.{RelaxedCallsHaveOrders, RestsAreRelaxed};
 
-/// Where some calls are left out, and others have lost their answers, each order of all is one of
-/// those that are left, if none of these tells what one put that was left out; but it may where it
-/// precedes that one, or where another one overwrites that before it in each order. So where these
-/// have no order, all have none.
+/// Some calls are left out, and others have lost their answers. If none of those that stay depends
+/// on what a call left out put, each order of all calls contains an order of the rest. A call may
+/// depend on it if it precedes that call, or if another call overwrites that value before it in
+/// each order. So if the rest has no order, all calls have none.
 pub fn relaxed_calls_have_orders()
     ensures { RelaxedCallsHaveOrders }
 {}
 
-/// Calls that go leave the others so, where none of these that has no answer waits for what one of
-/// them may put.
+/// The calls that stay are left so, if none of them without an answer waits for what a call left
+/// out may put.
 pub fn rests_are_relaxed()
     ensures { RestsAreRelaxed }
 {}

@@ -1,4 +1,4 @@
-// Some calls are left out, where the others have no order either.
+// Leaves out some calls, if the others have no order either.
 ghost use Rattle.std.specs.Prelude.{◌≡◌, ◌<◌, ◌^◌, AllPairs, IfOk};
 ghost use Rattle.events.specs.Precedence.{NonePrecedesItself};
 ghost use Rattle.explaining.specs.Explained.{IsWithout};
@@ -10,7 +10,7 @@ use events::{Memory, Operation};
 use map_object::SortedMap;
 use std::alloc::Global;
 
-/// Leaves out the calls but those that were invoked at these places, where these have no order
+/// Leaves out all calls except those that were invoked at these places, if these have no order
 /// either.
 pub(crate) fn leave_out(
     alloc: Global,

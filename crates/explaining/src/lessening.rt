@@ -1,4 +1,4 @@
-// Calls without order are made fewer.
+// Leaves out calls of a list without order, as many at a time as asked.
 ghost use Rattle.std.specs.Prelude.{◌≡◌, ◌<◌, ◌≤◌, AllPairs, IfOk};
 ghost use Rattle.events.specs.Precedence.{NonePrecedesItself};
 ghost use Rattle.explaining.specs.Explained.{AreEnough, IsReduction, others_than};
@@ -9,8 +9,8 @@ use events::{Memory, Operation};
 use map_object::SortedMap;
 use std::alloc::Global;
 
-/// Tries to leave out so many of the calls kept at a time, each once, those with the greatest keys
-/// first, and of one key the last ones.
+/// Tries to leave out this many of the calls at a time, each once: first those with the greatest
+/// keys, and at one key the last ones.
 pub(crate) fn lessen(
     alloc: Global,
     map: &SortedMap,
@@ -39,7 +39,7 @@ pub(crate) fn lessen(
     Ok(kept)
 }
 
-/// The places of the calls but for some, counted by rising key, and of one key by rising
+/// Returns the places of the calls except some, counted by rising key, and at one key by rising
 /// invocation.
 fn places_outside(
     alloc: Global,
@@ -61,7 +61,7 @@ fn places_outside(
     Ok(places)
 }
 
-/// Tries to leave out each of the calls kept.
+/// Tries to leave out each of the calls.
 pub(crate) fn look_at_each(
     alloc: Global,
     map: &SortedMap,
@@ -84,7 +84,7 @@ pub(crate) fn look_at_each(
     Ok(Reduction::Least(reasons))
 }
 
-/// The places of the calls kept but for one.
+/// Returns the places of all these calls except one.
 fn others_than(alloc: Global, kept: &[Operation], place: usize) -> Result<Vec<usize>, Memory>
     ensures { IfOk result (λ places. places.items ≡ others_than kept.now place) }
 {

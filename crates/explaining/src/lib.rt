@@ -1,21 +1,22 @@
-//! Explains why calls have no order: few of them that have none either, each of which is needed.
+//! Explains why calls have no order: it finds a few of them that have none either, and each of
+//! which is needed.
 //!
-//! That the few have no order says of all calls that they have none, since calls are left out where
-//! each order of all is still one of the rest. Calls that leave the map as it is go, and calls that
-//! put at their keys what no other call that stays tells, or what a call that stays overwrites, in
-//! each order, before such a one. A call that may tell it loses its answer: that it was made is
-//! kept, and what it found is not. So what is left is the shortest story that goes wrong by itself,
-//! and nothing that was left out could mend it (`relaxed_calls_have_orders`).
+//! That the few have no order shows that all calls have none. For calls are left out only if each
+//! order of all calls still contains one of the rest. A call that leaves the map as it is can be
+//! left out. So can a call if no other call that stays depends on what it put, or if that is
+//! overwritten, in each order, before such a call. A call that may depend on it loses its answer:
+//! the rest says that it was made, and not what it found. So the rest is the shortest story that
+//! goes wrong on its own, and nothing that was left out could mend it
+//! (`relaxed_calls_have_orders`).
 //!
-//! The calls behind the first ones that go wrong are left out first, then those before the last of
-//! these; then calls are tried to be left out by halves, quarters and so on, those of one key
-//! beside each other, and at last one by one, until each that is kept has a reason: without it the
-//! others have an order, or their search takes more than the budget, or a call without answer waits
-//! for what those that went may put.
+//! The calls after the first ones that go wrong are left out first, then those before the last of
+//! these. Then it tries to leave out halves, quarters and so on, with calls of one key next to each
+//! other, and at last single calls. It ends when each call that stays has a reason. Without the
+//! call, the others have an order, or their search takes more than the budget, or a call without an
+//! answer waits for what was left out.
 //!
-//! Of a history that may have gone wrong at its last event, as where a follower of streams lost its
-//! order or did not find one, the calls near to that answer are looked at, and all calls are never
-//! searched.
+//! A history may go wrong at its last event, for example where the monitor of a stream found no
+//! order. Then only calls near that answer are looked at, and all calls are never searched.
 #![tactic(auto)]
 
 mod ends;

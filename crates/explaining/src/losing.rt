@@ -1,4 +1,4 @@
-// The explanation of a history that may have gone wrong at the last of its events.
+// The explanation of a history that may go wrong at its last event.
 ghost use Rattle.std.specs.Prelude.{◌≡◌, ◌<◌, All, AllPairs, IfOk, MatchOption};
 ghost use Rattle.events.specs.Operations.{operations};
 ghost use Rattle.events.specs.Precedence.{NonePrecedesItself};
@@ -15,9 +15,10 @@ use events::{Call, History, Memory, Operation};
 use map_object::SortedMap;
 use std::alloc::Global;
 
-/// Explains why a history has no order, by few of its calls as `explain_calls`, where those that
-/// have to do with the last event or the last calls, up to 256 of them, show that it has none: so
-/// it is quick where the history goes wrong at that event. Else nothing is said.
+/// Explains why a history has no order, by a few of its calls, as `explain_calls` does. It looks at
+/// up to 256 calls that have to do with the last event, and at up to 256 of the last calls. So it
+/// is quick if the history goes wrong at that event. It returns `None` if these calls do not show
+/// that the history has no order.
 pub fn explain_history(
     alloc: Global,
     history: &History,
@@ -29,7 +30,7 @@ pub fn explain_history(
     explanation_at(alloc, &map, history.calls(), history.events().len(), budget)
 }
 
-/// Explains calls of so many events.
+/// Explains calls of a history with this many events.
 fn explanation_at(
     alloc: Global,
     map: &SortedMap,
@@ -76,8 +77,9 @@ fn explanation_of(
     least_of(alloc, map, calls, kept, budget)
 }
 
-/// Calls that are enough, where short searches show it: so many of those whose places stand first
-/// in either list, or so many of the last ones, for the first of these numbers that does.
+/// Returns calls that are enough, if short searches show it. For each of these numbers it tries
+/// that many calls from the front of each list, and that many of the last calls. The first number
+/// that shows it decides.
 fn shown_calls(
     alloc: Global,
     map: &SortedMap,
@@ -102,8 +104,8 @@ fn shown_calls(
     Ok(None)
 }
 
-/// What is left of so many calls, those whose places stand first in either list, or the last ones,
-/// where they show that all have no order.
+/// Returns what is left of this many calls from the front of either list, or of the last ones, if
+/// they show that all have no order.
 fn shown_by(
     alloc: Global,
     map: &SortedMap,
@@ -125,8 +127,8 @@ fn shown_by(
     }
 }
 
-/// What is left of so many calls, those whose places stand first here, or the last ones, where they
-/// show that all have no order.
+/// Returns what is left of this many calls from the front of this list, or of the last ones, if
+/// they show that all have no order.
 fn told_where_shown(
     alloc: Global,
     map: &SortedMap,
@@ -147,7 +149,7 @@ fn told_where_shown(
     }
 }
 
-/// What is left of so many of the last calls, where they show that all have no order.
+/// Returns what is left of this many of the last calls, if they show that all have no order.
 fn last_where_shown(
     alloc: Global,
     map: &SortedMap,
@@ -164,8 +166,8 @@ fn last_where_shown(
     rest_where_shown(alloc, map, calls, &places, budget)
 }
 
-/// What is left of the calls that were invoked at these places, where they show that all have no
-/// order.
+/// Returns what is left of the calls that were invoked at these places, if they show that all have
+/// no order.
 fn rest_where_shown(
     alloc: Global,
     map: &SortedMap,
@@ -185,9 +187,9 @@ fn rest_where_shown(
     }
 }
 
-/// Of calls of so many events the places of the one which the last event answers, and of those that
-/// put something else at a key of it before it began, the last ones first. Those that put what it
-/// tells are left out: where they stay without their answers, they may come right before it.
+/// Returns the places of the call that the last event answers, and of the calls that put something
+/// else at one of its keys before it began, the last ones first. Calls that put what it reports are
+/// not listed: without their answers they might come right before it.
 fn missed_places(alloc: Global, calls: &[Operation], events: usize) -> Result<Vec<usize>, Memory> {
     let mut places = Vec::new(alloc);
     if let Some(wrong) = answered_by(calls, events) {
@@ -197,8 +199,8 @@ fn missed_places(alloc: Global, calls: &[Operation], events: usize) -> Result<Ve
     Ok(places)
 }
 
-/// The places of calls of so many events: those nearest to the call which the last event answers
-/// first, and of those as near the last ones.
+/// Returns the places of all calls: first those nearest to the call that the last event answers,
+/// and of those as near the last ones first.
 fn told_places(alloc: Global, calls: &[Operation], events: usize) -> Result<Vec<usize>, Memory> {
     let mut places = Vec::with_capacity(alloc, calls.len())?;
     if let Some(wrong) = answered_by(calls, events) {
@@ -210,20 +212,20 @@ fn told_places(alloc: Global, calls: &[Operation], events: usize) -> Result<Vec<
     Ok(places)
 }
 
-/// What a call may have to do with one that was answered wrongly.
+/// How near a call is to one that was answered wrongly.
 #[derive(Clone, Copy)]
 enum Nearness {
-    /// It is that call, or may have put what that call tells.
+    /// It is that call, or may have put what that call depends on.
     Told,
-    /// It put something else at a key of that call before that one began.
+    /// It put something else at one of that call's keys, before that call began.
     Missed,
     /// It has a key of that call.
     OfKey,
-    /// It has none.
+    /// It has no key of that call.
     Apart,
 }
 
-/// The call that the last of so many events answers.
+/// Returns the call that the last of this many events answers.
 fn answered_by(calls: &[Operation], events: usize) -> Option<&Operation> {
     for call in calls {
         if let Some(response) = &call.response {
@@ -235,7 +237,7 @@ fn answered_by(calls: &[Operation], events: usize) -> Option<&Operation> {
     None
 }
 
-/// Adds the places of the calls that are so near to one, the last ones first.
+/// Adds the places of the calls that are this near to one, the last ones first.
 fn push_near(
     places: &mut Vec<usize>,
     calls: &[Operation],
@@ -250,7 +252,7 @@ fn push_near(
     Ok(())
 }
 
-/// What a call may have to do with one that was answered wrongly.
+/// Returns how near a call is to one that was answered wrongly.
 fn nearness_of(wrong: &Operation, call: &Operation) -> Nearness {
     if call.inv == wrong.inv || tells_put(wrong, call) {
         return Nearness::Told;
@@ -265,7 +267,7 @@ fn nearness_of(wrong: &Operation, call: &Operation) -> Nearness {
     }
 }
 
-/// Whether a key is among those of both calls.
+/// Returns whether a key is among those of both calls.
 fn share_key(call: &Call, other: &Call) -> bool {
     call.low_key() <= other.high_key() && other.low_key() <= call.high_key()
 }

@@ -1,4 +1,4 @@
-// What is left of calls where some stay and the others go.
+// The rest of calls if some stay and the others are left out.
 ghost use Rattle.std.specs.Prelude.{◌≡◌, ◌&&◌, IfOk};
 ghost use Rattle.std.specs.List.{list_any};
 ghost use Rattle.events.specs.Precedence.{precedes};
@@ -11,8 +11,8 @@ use crate::telling::{is_sure, puts, tells_put};
 use events::{Memory, Operation};
 use std::alloc::Global;
 
-/// What is left of calls where those stay that were invoked at these places: copies of them,
-/// without their answers where they tell what one that goes may have put.
+/// Returns the rest of calls if those stay that were invoked at these places: copies of them,
+/// without the answers that depend on what one of the others may have put.
 pub(crate) fn rest_of(
     alloc: Global,
     calls: &[Operation],
@@ -33,7 +33,7 @@ pub(crate) fn rest_of(
     Ok(rest)
 }
 
-/// The calls that go where those stay that were invoked at these places: copies.
+/// Copies of the calls that are left out if those stay that were invoked at these places.
 pub(crate) fn gone_of(
     alloc: Global,
     calls: &[Operation],
@@ -50,7 +50,7 @@ pub(crate) fn gone_of(
     Ok(gone)
 }
 
-/// Those that stay and say that they put something: copies.
+/// Copies of the calls that stay and say that they put something.
 pub(crate) fn puts_of(
     alloc: Global,
     calls: &[Operation],
@@ -67,14 +67,14 @@ pub(crate) fn puts_of(
     Ok(puts)
 }
 
-/// Whether a call was answered, and so that it put something at its key.
+/// Returns whether a call was answered in a way that shows that it put something at its key.
 pub(crate) fn says_put(call: &Operation) -> bool
     ensures { result ≡ says_put call.now }
 {
     puts(call) && is_sure(call)
 }
 
-/// What becomes of a call where others go.
+/// Returns what becomes of a call if others are left out.
 fn left_of(
     alloc: Global,
     places: &[usize],
@@ -95,14 +95,14 @@ fn left_of(
     Ok(if_belongs(call))
 }
 
-/// The call, but for pending gets and pending scans.
+/// Returns the call, or nothing if it is a pending get or a pending scan.
 fn if_belongs(call: Operation) -> Option<Operation>
     ensures { result ≡ if_belongs call }
 {
     if call.belongs() { Some(call) } else { None }
 }
 
-/// The call without its answer.
+/// Returns the call without its answer.
 pub fn without_answer(call: &Operation) -> Operation
     ensures { result ≡ opened call.now }
 {
@@ -113,8 +113,8 @@ pub fn without_answer(call: &Operation) -> Operation
     }
 }
 
-/// Whether those that go are held by the others: one that stays tells what one of them may have
-/// put, and then waits for such a value.
+/// Returns whether the calls left out are held by the others: one that stays depends on what one of
+/// them may have put, and then waits for such a value.
 pub(crate) fn are_held(
     calls: &[Operation],
     puts: &[Operation],
@@ -132,15 +132,15 @@ pub(crate) fn are_held(
     false
 }
 
-/// Whether a call tells what one of those that go may have put, and without its answer waits for
-/// what one of them may put.
+/// Returns whether a call depends on what one of those left out may have put, and without its
+/// answer waits for what one of them may put.
 fn is_held(puts: &[Operation], gone: &[Operation], call: &Operation) -> bool
     ensures { result ≡ is_held puts.now gone.now call.now }
 {
     is_touched(puts, gone, call) && waits(puts, gone, call)
 }
 
-/// Whether a call without its answer waits for what one of those that go may put.
+/// Returns whether a call without its answer waits for what one of those left out may put.
 fn waits(puts: &[Operation], gone: &[Operation], call: &Operation) -> bool
     ensures { result ≡ list_any (λ a. may_tell puts.now a call.now (opened call.now)) gone.now }
 {
@@ -153,7 +153,7 @@ fn waits(puts: &[Operation], gone: &[Operation], call: &Operation) -> bool
     false
 }
 
-/// Whether a call tells what one of those that go may have put.
+/// Returns whether a call depends on what one of those left out may have put.
 fn is_touched(puts: &[Operation], gone: &[Operation], call: &Operation) -> bool
     ensures { result ≡ is_touched puts.now gone.now call.now }
 {
@@ -165,15 +165,15 @@ fn is_touched(puts: &[Operation], gone: &[Operation], call: &Operation) -> bool
     false
 }
 
-/// Whether what is left of a call tells what another put that may stand before it, and that none
-/// which stays overwrites.
+/// Returns whether what is left of a call depends on what another one put. It does not if it
+/// precedes that one, or if a call that stays overwrites it before.
 fn may_tell(puts: &[Operation], other: &Operation, call: &Operation, left: &Operation) -> bool
     ensures { result ≡ may_tell puts.now other.now call.now left.now }
 {
     !precedes(call, other) && tells_put(left, other) && !is_overwritten(puts, other, call)
 }
 
-/// Whether one of those that stay overwrites what a call put before another comes.
+/// Returns whether one of those that stay overwrites what a call put, before another call comes.
 fn is_overwritten(puts: &[Operation], first: &Operation, second: &Operation) -> bool
     ensures { result ≡ is_overwritten puts.now first.now second.now }
 {
@@ -185,7 +185,7 @@ fn is_overwritten(puts: &[Operation], first: &Operation, second: &Operation) -> 
     false
 }
 
-/// Whether a call of the first one's key stands between two others in each order.
+/// Returns whether a call of the first one's key is between two others in each order.
 fn is_between(first: &Operation, put: &Operation, second: &Operation) -> bool
     ensures { result ≡ is_between first.now put.now second.now }
 {
@@ -195,7 +195,7 @@ fn is_between(first: &Operation, put: &Operation, second: &Operation) -> bool
         && put.call.low_key() == first.call.low_key()
 }
 
-/// Whether a call was answered before another was invoked.
+/// Returns whether a call was answered before another was invoked.
 pub fn precedes(first: &Operation, second: &Operation) -> bool
     ensures { result ≡ precedes first.now second.now }
 {
@@ -205,7 +205,7 @@ pub fn precedes(first: &Operation, second: &Operation) -> bool
     }
 }
 
-/// Whether a place is listed.
+/// Returns whether a place is listed.
 fn has_place(places: &[usize], place: usize) -> bool
     ensures { result ≡ has_number places.now place }
 {

@@ -1,4 +1,4 @@
-// What a call may put at its key, and which calls tell it.
+// What a call may put at its key, and which calls depend on it.
 ghost use Rattle.std.specs.Prelude.{◌≡◌, ℕ, Option, Some, None, is_some};
 ghost use Rattle.map_object.specs.MapObject.{value_at, is_just};
 ghost use Rattle.events.specs.PlainHistories.{is_replace};
@@ -8,7 +8,7 @@ ghost use Rattle.explaining.specs.Tells.{tells_put};
 use events::{Call, Operation, Reply, Response};
 use quiet_cuts::says_unchanged;
 
-/// Whether a call tells what another may put.
+/// Returns whether a call depends on what another may put.
 pub fn tells_put(call: &Operation, other: &Operation) -> bool
     ensures { result ≡ tells_put call.now other.now }
 {
@@ -18,16 +18,16 @@ pub fn tells_put(call: &Operation, other: &Operation) -> bool
     }
 }
 
-/// Whether a call may put something at its key, as far as its response says.
+/// Returns whether a call may put something at its key, as far as its response says.
 pub(crate) fn puts(call: &Operation) -> bool
     ensures { result ≡ is_some (put_of call.now.call call.now.response) }
 {
     put_of(&call.call, &call.response).is_some()
 }
 
-/// Whether a call, as far as its response says, does what it may do. A pending one may not be done,
-/// and a replace of which only is told that it was done, or that it found a value, may have found
-/// another one than it expects.
+/// Returns whether a call, as far as its response says, does what it may do. A pending call may not
+/// be done. A replace with the answer `done` or `found` may have found another value than the
+/// expected one.
 pub fn is_sure(call: &Operation) -> bool
     ensures { result ≡ is_sure call.now.call call.now.response }
 {
@@ -37,15 +37,15 @@ pub fn is_sure(call: &Operation) -> bool
     }
 }
 
-/// Whether a call is a replace.
+/// Returns whether a call is a replace.
 fn is_replace(call: &Call) -> bool
     ensures { result ≡ is_replace call.now }
 {
     matches!(call, Call::Replace(_, _, _))
 }
 
-/// What a call may put at its key: a value, or none in place of one; nothing where its response
-/// says that it changed nothing.
+/// Returns what a call may put at its key: a value, or none in place of one. It is nothing if the
+/// response says that the call changed nothing.
 pub fn put_of(call: &Call, response: &Option<Response>) -> Option<Option<u64>>
     ensures { result ≡ put_of call.now response.now }
 {
@@ -55,7 +55,7 @@ pub fn put_of(call: &Call, response: &Option<Response>) -> Option<Option<u64>>
     }
 }
 
-/// What a call may put at its key, whatever it is answered.
+/// Returns what a call may put at its key, whatever its answer is.
 pub fn put_by(call: &Call) -> Option<Option<u64>>
     ensures { result ≡ put_by call.now }
 {
@@ -66,22 +66,22 @@ pub fn put_by(call: &Call) -> Option<Option<u64>>
     }
 }
 
-/// Whether a call tells that a key had this value, or none, or waits for it.
+/// Returns whether a call depends on a key having this value, or none, or waits for it.
 fn tells(call: &Operation, key: u64, value: Option<u64>) -> bool
     ensures { result ≡ tells call.now key value }
 {
     names_key(&call.call, key) && is_told_by(&call.call, &call.response, key, value)
 }
 
-/// Whether a key is among those that a call names.
+/// Returns whether a key is among those that a call names.
 pub fn names_key(call: &Call, key: u64) -> bool
     ensures { result ≡ names_key call.now key }
 {
     call.low_key() <= key && key <= call.high_key()
 }
 
-/// Whether a call that was answered depends on a key having this value, or none; or where it was
-/// not, whether it waits for it.
+/// Returns whether a call with an answer depends on a key having this value, or none; a call
+/// without one, whether it waits for it.
 fn is_told_by(call: &Call, response: &Option<Response>, key: u64, value: Option<u64>) -> bool
     ensures { result ≡ is_told_by call.now response.now key value }
 {
@@ -91,7 +91,7 @@ fn is_told_by(call: &Call, response: &Option<Response>, key: u64, value: Option<
     }
 }
 
-/// Whether a call that has no answer waits for this value at its key.
+/// Returns whether a call without an answer waits for this value at its key.
 fn waits_for(call: &Call, value: Option<u64>) -> bool
     ensures { result ≡ waits_for call.now value }
 {
@@ -101,7 +101,7 @@ fn waits_for(call: &Call, value: Option<u64>) -> bool
     }
 }
 
-/// Whether a value or none is this value.
+/// Returns whether there is a value and it is this one.
 fn is_just(value: Option<u64>, expected: u64) -> bool
     ensures { result ≡ is_just value expected }
 {
@@ -111,8 +111,8 @@ fn is_just(value: Option<u64>, expected: u64) -> bool
     }
 }
 
-/// Whether a call that was answered so depends on a key having this value, or none: with another
-/// one there it could not be answered so, or could leave another one.
+/// Returns whether a call with this answer depends on a key having this value, or none. It does if
+/// it could not be answered so with another value there, or could leave another one.
 pub fn depends_on(call: &Call, reply: &Reply, key: u64, value: Option<u64>) -> bool
     ensures { result ≡ depends_on call.now reply.now key value }
 {
@@ -127,7 +127,7 @@ pub fn depends_on(call: &Call, reply: &Reply, key: u64, value: Option<u64>) -> b
     }
 }
 
-/// The value at a key among some pairs, the first where there are several.
+/// Returns the value at a key among some pairs; the first one if there are several.
 fn value_in(pairs: &[(u64, u64)], key: u64) -> Option<u64>
     ensures { result ≡ value_at pairs.now key }
 {
@@ -139,7 +139,7 @@ fn value_in(pairs: &[(u64, u64)], key: u64) -> Option<u64>
     None
 }
 
-/// Whether two values, or none, are the same.
+/// Returns whether two values, or none, are the same.
 fn is_same(value: Option<u64>, other: Option<u64>) -> bool
     ensures { result ≡ is_same value other }
 {

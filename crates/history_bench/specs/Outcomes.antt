@@ -1,4 +1,4 @@
--- How a run comes out, for the words of the command line and the text on the source.
+-- The outcome of a run, by the command line and the text on the source.
 use Rattle.std.specs.Prelude.{⊤, ℕ, List, codes}
 use Rattle.clap.specs.Words.{Text}
 use Rattle.command_line.specs.declared.line.Line.{Line}
@@ -9,22 +9,22 @@ use Rattle.outcomes.specs.Lines.{line}
 use Rattle.history_engines.specs.Outcomes.{IsCheckOutcome, IsJudgeOutcome}
 use Rattle.line_outcomes.specs.Outcomes.{IsPartOutcome}
 
--- the outcome of what a line asks of a history; of another line none
+-- the outcome of what a line asks of a history; other lines have none
 abbrev pub IsHistoryLineOutcome : Line → Change → RunOutcome → Type 0
 IsHistoryLineOutcome (Check order) source outcome = IsCheckOutcome order.items source outcome
 IsHistoryLineOutcome (Judge budget workers) source outcome = IsJudgeOutcome budget source outcome
 IsHistoryLineOutcome other source outcome = ⊥
 
--- a line that asks for neither a check nor a verdict
+-- a line that asks for neither `check` nor `judge`
 abbrev pub IsElsewhere : Line → Type 0
 IsElsewhere (Check order) = ⊥
 IsElsewhere (Judge budget workers) = ⊥
 IsElsewhere other = ⊤
 
--- what is told for such a line
+-- the answer to such a line
 abbrev pub elsewhere_line : List ℕ
 elsewhere_line = line (codes "error: this program checks and judges alone")
 
--- the outcome of a run with these words
+-- the outcome of a run with this command line
 abbrev pub IsHistoryWordsOutcome : List Text → Change → RunOutcome → Type 0
 IsHistoryWordsOutcome words source outcome = IsPartOutcome IsHistoryLineOutcome IsElsewhere elsewhere_line words source outcome

@@ -1,8 +1,8 @@
-//! The program's part that checks and judges, alone: it stands on no tree, no plan and no picture, so that a first
+//! The small program for `check` and `judge`. It uses no tree, no plan and no picture, so a first
 //! verdict is proved and built in a fraction of the time.
 //!
-//! It takes the words of the whole program, and what it does for them is what the whole program does. Words that ask for
-//! another subcommand are refused, and nothing is read for them.
+//! It takes the same command line as the whole program, and does the same. If the command line asks
+//! for another subcommand, it is refused, and nothing is read.
 #![tactic(auto)]
 
 mod command;

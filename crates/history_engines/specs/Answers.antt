@@ -1,4 +1,4 @@
--- What the program answers to the text of a history, with an order of its calls or with a budget.
+-- The program's answers to the text of a history, with an order of its calls or with a budget.
 use Rattle.std.specs.Prelude.{◌≡◌, ◌≢◌, ℕ, List}
 use Rattle.events.specs.HistoryView.{HistoryView}
 use Rattle.events.specs.declared.fault.HistoryFault.{HistoryFault}
@@ -29,7 +29,7 @@ pub record IsTextOf (text : List ℕ) (history : HistoryView) : Type 0 where
 abbrev pub SpellsOrdered : List ℕ → List ℕ → Type 0
 SpellsOrdered text order = (history : HistoryView) × IsTextOf text history × IsOrderOfHistory history order
 
--- the text spells a history, and for this fault the numbers are no order of its calls
+-- the text spells a history, and the numbers are not an order of its calls, for this fault
 pub record SpellsUnordered (text order : List ℕ) (fault : OrderFault) : Type 0 where
   pub history : HistoryView
   pub is_text : IsTextOf text history
@@ -41,11 +41,13 @@ pub record SpellsNone (text : List ℕ) (fault : HistoryFault) : Type 0 where
   pub refused : IsTextFault text fault
   pub not_memory : fault ≢ histories.Memory
 
--- a text that spells no history is refused with this line and this hint, those of its first fault
+-- a text that spells no history is refused with this line and this hint, which are those of its
+-- first fault
 abbrev pub IsHistoryRefusal : List ℕ → List ℕ → List ℕ → Type 0
 IsHistoryRefusal text bytes hint = (fault : HistoryFault) × SpellsNone text fault × IsToldFault text fault bytes hint
 
--- `check` answers the order and the text so: yes with `ok`, or no with the order's first fault
+-- the answer of `check` to the order and the text: yes with `ok`, or no with the order's first
+-- fault
 abbrev pub IsCheckAnswer : List ℕ → List ℕ → Answer → List ℕ → Type 0
 IsCheckAnswer order text Yes bytes = SpellsOrdered text order × (bytes ≡ ok_line)
 IsCheckAnswer order text No bytes = (fault : OrderFault) × SpellsUnordered text order fault × (bytes ≡ order_fault_line fault)
@@ -57,7 +59,7 @@ answer_of (verdicts.Yes order) = Yes
 answer_of (verdicts.No segment) = No
 answer_of (verdicts.Undecided segment) = Undecided
 
--- `judge` answers the text at the budget so: with the report of a verdict on the history
+-- the answer of `judge` to the text at the budget: the report of a verdict on the history
 pub record IsJudgeAnswer (budget : ℕ) (text : List ℕ) (answer : Answer) (bytes : List ℕ) : Type 0 where
   pub verdict : Verdict
   pub report : List ℕ
@@ -65,7 +67,7 @@ pub record IsJudgeAnswer (budget : ℕ) (text : List ℕ) (answer : Answer) (byt
   pub answer_is : answer ≡ answer_of verdict
   pub bytes_are : bytes ≡ line report
 
--- the same on standard output, and beside it the hint on the answer to this history
+-- the answer of `judge` on standard output, and the hint next to it
 pub record IsHintedJudgeAnswer (budget : ℕ) (text : List ℕ) (answer : Answer) (bytes hint : List ℕ) : Type 0 where
   pub history : HistoryView
   pub is_text : IsTextOf text history

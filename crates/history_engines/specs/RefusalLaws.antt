@@ -1,4 +1,4 @@
--- What a law says of the place that a fault names.
+-- A law of the place that a fault names.
 use Rattle.std.specs.Prelude.{◌≡◌, ⊤, ℕ, List, Some}
 use Rattle.serde_json.specs.Data.{Data}
 use Rattle.events.specs.declared.fault.HistoryFault.{HistoryFault}
@@ -13,7 +13,7 @@ NamesPlace (histories.NotWellFormed event) = ⊤
 NamesPlace (histories.Start pair) = ⊤
 NamesPlace fault = ⊥
 
--- it names one that stands in the text
+-- the first fault of a text names an event or a pair that the text has
 abbrev pub FaultsAreFound : Type 0
 FaultsAreFound =
     (text : List ℕ) (fault : HistoryFault) → IsTextFault text fault → NamesPlace fault → (d : Data) × (found_in text fault ≡ Some d)

@@ -1,5 +1,5 @@
--- What is told of a text that spells no history: its first fault, what stands there, and what was
--- wanted.
+-- The report on a text that spells no history: its first fault, what is at that place, and what was
+-- expected.
 use Rattle.std.specs.Prelude.{◌≡◌, ◌≢◌, ◌⊎◌, ⊤, ℕ, ◌==◌, if◌then◌else◌, false, List, [], ◌∷◌, Option, Some, None, option_and_then, codes}
 use Rattle.std.specs.Prelude.{string_bytes}
 use Rattle.serde_json.specs.Data.{Data}
@@ -21,11 +21,11 @@ use Rattle.outcomes.specs.Wanted.{history_wanted, wanted_hint}
 abbrev pub item_of : List ℕ → ℕ → Data → Option Data
 item_of name place d = option_and_then (at place) (get name d)
 
--- the same of a text's value
+-- the item at a place of such an array in a text
 abbrev pub item_in : List ℕ → ℕ → List ℕ → Option Data
 item_in name place text = option_and_then (item_of name place) (read text)
 
--- what stands in a text at the place that a fault names
+-- the value in a text at the place that a fault names
 abbrev pub found_in : List ℕ → HistoryFault → Option Data
 found_in text (histories.Shape event) = item_in (codes "events") event text
 found_in text (histories.NotWellFormed event) = item_in (codes "events") event text
@@ -36,19 +36,19 @@ found_in text histories.Version = None
 found_in text histories.TooMany = None
 found_in text histories.Memory = None
 
--- the text of a value: with its members and items each once and in order, and without spaces; the
--- digits of a float are not told
+-- the text of a value: its members and items each once and in order, without spaces. How the digits
+-- of a float are written is left open
 pub record IsTextOfValue (d : Data) (text : List ℕ) : Type 0 where
   pub compact : has_float d ≡ false → text ≡ compact_text d
   pub in_order : IsInOrder text d
 
--- the text of a value, where there is one
+-- the text of a value, if there is one
 abbrev pub IsTextOfFound : Option Data → Option (List ℕ) → Type 0
 IsTextOfFound None None = ⊤
 IsTextOfFound (Some d) (Some text) = IsTextOfValue d text
 IsTextOfFound found text = ⊥
 
--- the bytes before the first line feed, or all where there is none
+-- the bytes before the first line feed, or all if there is none
 abbrev pub first_line : List ℕ → List ℕ
 first_line [] = []
 first_line (byte ∷ bytes) = if byte == line_feed then [] else byte ∷ first_line bytes
@@ -57,23 +57,24 @@ first_line (byte ∷ bytes) = if byte == line_feed then [] else byte ∷ first_l
 abbrev pub BeginsStream : List ℕ → Type 0
 BeginsStream text = (first : FirstLine) × SpellsFirst (first_line text) first
 
--- what is wanted in the place of a text that begins so
+-- what was expected in place of a text that begins as a stream
 abbrev pub stream_elsewhere : List ℕ
 stream_elsewhere = codes "JSON in UTF-8; bench follow reads streams of events"
 
--- the hint on a fault: what stands in its place, where that is known, and what was wanted
+-- the hint on a fault: what is at its place, if that is known, and what was expected
 abbrev pub fault_hint : HistoryFault → Option (List ℕ) → List ℕ
 fault_hint fault None = wanted_hint (history_wanted fault)
 fault_hint fault (Some text) = found_hint text (history_wanted fault)
 
--- the same of a text: where it is no JSON, and begins as a stream, which subcommand reads those
+-- the hint on a fault of a text; if the text is not JSON and begins as a stream, the hint names the
+-- subcommand that reads streams
 abbrev pub IsFaultHint : List ℕ → HistoryFault → Option (List ℕ) → List ℕ → Type 0
 IsFaultHint text histories.NotJson found hint =
     (BeginsStream text × (hint ≡ wanted_hint stream_elsewhere))
     ⊎ ((BeginsStream text → ⊥) × (hint ≡ fault_hint histories.NotJson found))
 IsFaultHint text fault found hint = hint ≡ fault_hint fault found
 
--- these are the line of this fault in a text, and the hint on it
+-- the line of this fault in a text, and the hint on it
 abbrev pub IsToldFault : List ℕ → HistoryFault → List ℕ → List ℕ → Type 0
 IsToldFault text fault bytes hint = (found : Option (List ℕ)) × IsTextOfFound (found_in text fault) found
     × (bytes ≡ history_fault_line fault) × IsFaultHint text fault found hint

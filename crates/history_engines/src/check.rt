@@ -1,4 +1,4 @@
-// `bench check`: whether the words are an order of the history on the input.
+// `bench check`: whether the numbers are an order of the history on the input.
 ghost use Rattle.std.specs.Prelude.{◌<◌, Some};
 ghost use Rattle.history_engines.specs.Answers.{IsCheckAnswer, IsHistoryRefusal};
 ghost use Rattle.outcomes.specs.Ends.{change};
@@ -16,7 +16,7 @@ use std::alloc::Global;
 use streams::{Sink, Source};
 
 /// Reads a history text to the end of the source, or until it is too long, and tests whether the
-/// numbers are an order of its calls. Answers the exit status.
+/// numbers are an order of its calls. Returns the exit status.
 pub fn run_check<S: Source, O: Sink, F: Sink, H: Sink>(
     alloc: Global,
     source: &mut S,
@@ -41,8 +41,8 @@ pub fn run_check<S: Source, O: Sink, F: Sink, H: Sink>(
     run_text(alloc, source, output, faults, hints, MAX_TEXT, answer)
 }
 
-/// Whether the numbers are an order of the calls of the history that the text spells: yes, or the
-/// first fault.
+/// Tests whether the numbers are an order of the calls of the history that the text spells: yes, or
+/// the first fault.
 pub fn check_outcome(alloc: Global, text: &[u8], order: &[u32]) -> RunOutcome
     ensures { IsTextOutcome (IsCheckAnswer order.now) IsHistoryRefusal (Some text.now) result }
 {

@@ -15,9 +15,9 @@ use serde_json::Value;
 use std::alloc::{AllocError, Global};
 use stream_text::{LineFault, first_line_feed, read_first_line};
 
-/// The refusal of a text that spells no history, for its first fault, or want of memory. A text
-/// with a faulty event or starting pair is read once more, and of one that is no JSON the first
-/// line.
+/// Refuses a text that spells no history, for its first fault, or reports that memory ran out. A
+/// text with a faulty event or starting pair is read again. Of a text that is not JSON the first
+/// line is read again.
 pub fn refused_text(alloc: Global, text: &[u8], fault: &HistoryFault) -> RunOutcome
     ensures { IsTextFault text.now fault.now → IsRefusedText text.now fault.now result }
 {
@@ -30,7 +30,7 @@ pub fn refused_text(alloc: Global, text: &[u8], fault: &HistoryFault) -> RunOutc
     }
 }
 
-/// The refusal, with the text of what stands in the place of the fault.
+/// Returns the refusal, with the text of what is at the place of the fault.
 fn refused_as(
     alloc: Global,
     text: &[u8],
@@ -47,7 +47,7 @@ fn refused_as(
     }
 }
 
-/// The hint on the fault of a text, with the text of what stands in its place.
+/// Returns the hint on the fault of a text, with the text of what is at its place.
 fn hint_on(
     alloc: Global,
     text: &[u8],
@@ -63,7 +63,7 @@ fn hint_on(
     }
 }
 
-/// The hint on a text that is no JSON.
+/// Returns the hint on a text that is not JSON.
 fn no_json_hint(alloc: Global, text: &[u8], found: &Option<String>) -> Result<String, Memory>
     ensures { IfOk result (λ hint. IsFaultHint text.now histories.NotJson
         (option_map string_bytes found.now) (string_bytes hint)) }
@@ -75,7 +75,7 @@ fn no_json_hint(alloc: Global, text: &[u8], found: &Option<String>) -> Result<St
     }
 }
 
-/// Whether a stream may begin with the first line of a text.
+/// Returns whether a stream may begin with the first line of a text.
 fn begins_stream(alloc: Global, text: &[u8]) -> Result<bool, Memory>
     ensures { IfOk result (λ begins. IsTrue begins ↔ BeginsStream text.now) }
 {
@@ -90,7 +90,7 @@ fn begins_stream(alloc: Global, text: &[u8]) -> Result<bool, Memory>
     }
 }
 
-/// The bytes before the first line feed, or all where there is none.
+/// Returns the bytes before the first line feed, or all if there is none.
 fn first_line(text: &[u8]) -> &[u8]
     ensures { result.now ≡ first_line text.now }
 {
@@ -100,14 +100,14 @@ fn first_line(text: &[u8]) -> &[u8]
     }
 }
 
-/// What is wanted in the place of a text that begins as a stream.
+/// Returns what was expected in place of a text that begins as a stream.
 fn stream_elsewhere() -> &'static str
     ensures { result.now ≡ stream_elsewhere }
 {
     "JSON in UTF-8; bench follow reads streams of events"
 }
 
-/// The hint on a fault, with the text of what stands in its place.
+/// Returns the hint on a fault, with the text of what is at its place.
 fn fault_hint(
     alloc: Global,
     fault: &HistoryFault,
@@ -122,7 +122,7 @@ fn fault_hint(
     }
 }
 
-/// The text of what stands in the place that a fault names.
+/// Returns the text of what is at the place that a fault names.
 fn found_in(alloc: Global, text: &[u8], fault: &HistoryFault) -> Result<Option<String>, Memory>
     ensures { IsTextFault text.now fault.now
         → IfOk result (λ found. IsTextOfFound (found_in text.now fault.now)
@@ -136,7 +136,7 @@ fn found_in(alloc: Global, text: &[u8], fault: &HistoryFault) -> Result<Option<S
     }
 }
 
-/// The text of an item of an array in a text's value.
+/// Returns the text of an item of an array in a text's value.
 fn item_in(alloc: Global, text: &[u8], name: &str, place: usize) -> Result<Option<String>, Memory>
     ensures { (d : Data) → IsJson text.now d
         → IfOk result (λ found. IsTextOfFound (item_in name.now place text.now)
@@ -149,7 +149,7 @@ fn item_in(alloc: Global, text: &[u8], name: &str, place: usize) -> Result<Optio
     }
 }
 
-/// The text of an item of an array in a value.
+/// Returns the text of an item of an array in a value.
 fn item_of(alloc: Global, value: &Value, name: &str, place: usize) -> Result<Option<String>, Memory>
     ensures { IfOk result (λ found. IsTextOfFound (item_of name.now place (view value.now))
         (option_map string_bytes found)) }

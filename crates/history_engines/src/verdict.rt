@@ -24,8 +24,8 @@ use outcomes::{Answer, RunOutcome, line_of, run_text};
 use std::alloc::{AllocError, Global};
 use streams::{Sink, Source};
 
-/// Reads a history text to the end of the source, or until it is too long, and has it judged.
-/// Answers the exit status.
+/// Reads a history text to the end of the source, or until it is too long, and lets the judge judge
+/// it. Returns the exit status.
 pub fn run_judge<S: Source, O: Sink, F: Sink, H: Sink, J: Judge>(
     alloc: Global,
     source: &mut S,
@@ -55,7 +55,7 @@ pub fn run_judge<S: Source, O: Sink, F: Sink, H: Sink, J: Judge>(
     run_text(alloc, source, output, faults, hints, MAX_TEXT, answer)
 }
 
-/// The verdict on the history that the text spells, as its report, with a hint on it, where it has
+/// Returns the verdict on the history that the text spells, as its report, with its hint if it has
 /// one.
 pub fn judge_outcome<J: Judge>(alloc: Global, text: &[u8], judge: &J) -> RunOutcome
     requires { J.ready judge.now }
@@ -72,7 +72,7 @@ pub fn judge_outcome<J: Judge>(alloc: Global, text: &[u8], judge: &J) -> RunOutc
     }
 }
 
-/// How a verdict on a history comes out, or want of memory for it.
+/// Returns the outcome of a verdict on a history, or that memory ran out.
 fn hinted_outcome_of(
     alloc: Global,
     history: &History,
@@ -93,7 +93,7 @@ fn hinted_outcome_of(
     }
 }
 
-/// The answer that a verdict on a history is, with this line, and with its hint.
+/// Returns the answer for a verdict on a history, with this line and its hint.
 fn outcome_with_hint(
     alloc: Global,
     history: &History,
@@ -116,7 +116,7 @@ fn outcome_with_hint(
     }
 }
 
-/// The answer that a verdict is.
+/// Returns the answer that a verdict is.
 pub fn answer_of(verdict: &Verdict) -> Answer
     ensures { result ≡ answer_of verdict.now }
 {

@@ -15,7 +15,7 @@ IsTooLong text = text_limit < length text
 abbrev pub IsNoJson : List ℕ → Type 0
 IsNoJson text = (length text ≤ text_limit) × ((d : Data) → IsUtf8 text → read text ≡ Some d → ⊥)
 
--- why a text has no value here: its length, then that it is no JSON; or memory ran out
+-- why a text has no value here: it is too long, or it is not JSON; or memory ran out
 abbrev pub IsJsonFault : List ℕ → JsonFault → Type 0
 IsJsonFault text json_faults.TooLong = IsTooLong text
 IsJsonFault text json_faults.NotJson = IsNoJson text

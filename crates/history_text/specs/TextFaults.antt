@@ -15,14 +15,16 @@ use Rattle.history_text.specs.declared.version.TextVersion.{TextVersion}
 
 -- ---- starting pairs
 
--- what is wrong with the value that stands after these pairs: it is one too many, or it spells no pair with a key above theirs
+-- the fault of the value that follows these pairs: it is one too many, or it spells no pair with a
+-- key above theirs
 abbrev pub IsPairFaultAfter : List (ℕ × ℕ) → Data → HistoryFault → Type 0
 IsPairFaultAfter before d fault =
     ((fault ≡ faults.TooMany) × (start_limit ≤ length before))
     ⊎ ((fault ≡ faults.Start (length before)) × (length before < start_limit)
     × ((pair : ℕ × ℕ) → d ≡ pair_data pair → is_above before pair.0 ≡ false))
 
--- the start begins with pairs that a history may start with, and what stands after them shows the fault, whatever the events are
+-- the start begins with pairs that a history may start with, and the next value shows the fault,
+-- whatever the events are
 pub record ShowsPairFault (d : Data) (fault : HistoryFault) : Type 0 where
   pub version : TextVersion
   pub before : List (ℕ × ℕ)
@@ -35,22 +37,23 @@ pub record ShowsPairFault (d : Data) (fault : HistoryFault) : Type 0 where
 
 -- ---- events
 
--- no event that may stand there, and has a range where it needs one, has this value
+-- the value spells no event that may be in a text of this version and has a range if it needs one
 abbrev pub SpellsNoEvent : TextVersion → Data → Type 0
 SpellsNoEvent version d = (e : Event) → IsEventData version d e → IsTrue (is_shaped e) → IsTrue (may_stand version e) → ⊥
 
--- what is wrong with the value that stands after these events: it spells none, or one with a fault
+-- the fault of the value that follows these events: it spells no event, or an event with a fault
 abbrev pub IsFaultAfter : TextVersion → List Event → Data → HistoryFault → Type 0
 IsFaultAfter version before d fault =
     ((fault ≡ faults.Shape (length before)) × SpellsNoEvent version d)
     ⊎ ((e : Event) × IsEventData version d e × IsTrue (may_stand version e) × (fault_after before e ≡ Some fault))
 
--- events of a history that may stand in a text of a version
+-- events of a history that may be in a text of a version
 pub record AreEventsOfText (version : TextVersion) (events : List Event) : Type 0 where
   pub history : AreHistoryEvents events
   pub standing : IsTrue (list_all (may_stand version) events)
 
--- nothing is wrong with the start, the first items spell events of a history, and what stands after them shows the fault
+-- the start has no fault, the first items spell events of a history, and the next item shows the
+-- fault
 pub record ShowsEventFault (d : Data) (fault : HistoryFault) : Type 0 where
   pub version : TextVersion
   pub start : Option (List (ℕ × ℕ))
@@ -66,7 +69,8 @@ pub record ShowsEventFault (d : Data) (fault : HistoryFault) : Type 0 where
 
 -- ---- the whole text
 
--- what is wrong with the value of a text: its top level, then its first faulty pair, then its first faulty event; or memory ran out
+-- the fault of the value of a text: of its top level, then of its first faulty pair, then of its
+-- first faulty event; or memory ran out
 abbrev pub IsDocumentFault : Data → HistoryFault → Type 0
 IsDocumentFault d faults.TooLong = ⊥
 IsDocumentFault d faults.NotJson = ⊥
@@ -75,7 +79,7 @@ IsDocumentFault d faults.Version = (version : TextVersion) (start : Option (List
 IsDocumentFault d faults.Memory = ⊤
 IsDocumentFault d fault = ShowsPairFault d fault ⊎ ShowsEventFault d fault
 
--- why a text was refused: its length, then that it is no JSON, then what is wrong with its value
+-- why a text was refused: it is too long, then it is not JSON, then its value has a fault
 abbrev pub IsTextFault : List ℕ → HistoryFault → Type 0
 IsTextFault text faults.TooLong = IsTooLong text
 IsTextFault text faults.NotJson = IsNoJson text

@@ -11,7 +11,7 @@ use Rattle.history_text.specs.TextFaults.{IsTextFault}
 abbrev pub SpellsOneHistory : Type 0
 SpellsOneHistory = (text : List ℕ) (a b : HistoryView) → Spells text a → Spells text b → a ≡ b
 
--- a text has one fault only, apart from want of memory, which any text may meet
+-- a text has only one fault, apart from out-of-memory, which may happen with any text
 abbrev pub HasOneFault : Type 0
 HasOneFault = (text : List ℕ) (f g : HistoryFault) → IsTextFault text f → IsTextFault text g → f ≢ faults.Memory → g ≢ faults.Memory → f ≡ g
 

@@ -1,4 +1,5 @@
--- The text of a history: JSON whose value is that of its starting pairs and its events, in one of three versions.
+-- The text of a history: JSON whose value has its starting pairs and its events, in one of three
+-- versions.
 use Rattle.events.specs.declared.event.Reply.TheVariants as replies
 use Rattle.history_text.specs.declared.version.TextVersion.TheVariants.{One, Two, Three}
 use Rattle.std.specs.Prelude.{◌≡◌, ◌⊎◌, ⊤, ℕ, ◌≤◌, Bool, ◌||◌, not, if◌then◌else◌, List, [], ◌∷◌, length, map, Option, Some, None}
@@ -51,14 +52,15 @@ abbrev pub event_data : Event → Data
 event_data (Invoke p call) = object (member (codes "invoke") (call_data call) (member (codes "process") (number_data p) no_members))
 event_data (Answer p reply) = object (member (codes "answer") (reply_data reply) (member (codes "process") (number_data p) no_members))
 
--- the value of an event with a note, of which the event says nothing
+-- the value of an event with a note; the note says nothing of the event
 abbrev pub noted_data : Data → Event → Data
 noted_data note (Invoke p call) =
     object (member (codes "invoke") (call_data call) (member (codes "note") note (member (codes "process") (number_data p) no_members)))
 noted_data note (Answer p reply) =
     object (member (codes "answer") (reply_data reply) (member (codes "note") note (member (codes "process") (number_data p) no_members)))
 
--- the value spells this event in a text of a version: alone, or from version 3 on with a note, which may be any value
+-- the value spells this event in a text of a version: without a note, or from version 3 on with a
+-- note, which may be any value
 abbrev pub IsEventData : TextVersion → Data → Event → Type 0
 IsEventData version d e = (d ≡ event_data e) ⊎ (IsTrue (has_notes version) × (note : Data) × (d ≡ noted_data note e))
 
@@ -73,13 +75,13 @@ AreSpelled IsSpelled (d ∷ ds) (x ∷ xs) = IsSpelled d x × AreSpelled IsSpell
 abbrev pub SpellEvents : TextVersion → List Data → List Event → Type 0
 SpellEvents version items events = AreSpelled (IsEventData version) items events
 
--- whether an event may stand in a text of a version: a replace in one with a start, an answer that tells less than the map answers in
--- version 3 alone
+-- whether an event may be in a text of a version: a replace only in a version with a start, a
+-- partial answer only in version 3
 abbrev pub may_stand : TextVersion → Event → Bool
 may_stand version (Invoke p call) = has_start version || not (is_replace call)
 may_stand version (Answer p reply) = may_tell_less version || is_told reply
 
--- the value of a whole text, with these items for its start, if it has one, and these for its events
+-- the value of a whole text, with these items for its events, and these for its start if it has one
 abbrev pub document : TextVersion → Option (List Data) → List Data → Data
 document version None items =
     object (member (codes "events") (list_data items) (member (codes "version") (number_data (version_number version)) no_members))
@@ -91,25 +93,26 @@ document version (Some start) items =
 abbrev pub IsDocument : TextVersion → Option (List Data) → List Data → Data → Type 0
 IsDocument version start items d = (is_some start ≡ has_start version) × (d ≡ document version start items)
 
--- the items of starting pairs, where a text has a start
+-- the items of starting pairs, if a text has a start
 abbrev pub start_data : Option (List (ℕ × ℕ)) → Option (List Data)
 start_data None = None
 start_data (Some pairs) = Some (map pair_data pairs)
 
--- the starting pairs: none where a text has no start
+-- the starting pairs; none if a text has no start
 abbrev pub start_pairs : Option (List (ℕ × ℕ)) → List (ℕ × ℕ)
 start_pairs None = []
 start_pairs (Some pairs) = pairs
 
--- the least version whose texts say all of a history
+-- the lowest version that can represent a history
 abbrev pub least_version : HistoryView → TextVersion
 least_version history = if is_plain history then One else if are_told history.events then Two else Three
 
--- the items of the start that a history is written with: none in a version whose texts have no start
+-- the items of the start of a written history; none in a version without a start
 abbrev pub written_start : TextVersion → List (ℕ × ℕ) → Option (List Data)
 written_start version pairs = if has_start version then Some (map pair_data pairs) else None
 
--- the value that a history is written as: of the least version that says it all, and without notes
+-- the value that is written for a history: in the lowest version that can represent it, without
+-- notes
 abbrev pub history_data : HistoryView → Data
 history_data history = document (least_version history) (written_start (least_version history) history.start) (map event_data history.events)
 
@@ -121,7 +124,8 @@ pub record IsJson (text : List ℕ) (d : Data) : Type 0 where
   pub utf8 : IsUtf8 text
   pub value : read text ≡ Some d
 
--- the value of a text spells this history: its items spell the starting pairs and the events, which may stand in its version
+-- the value of a text spells this history: its items spell the starting pairs and the events, and
+-- its version may have these events
 pub record SpellsAs (d : Data) (history : HistoryView) : Type 0 where
   pub version : TextVersion
   pub start : Option (List (ℕ × ℕ))

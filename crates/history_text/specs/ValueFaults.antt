@@ -1,4 +1,4 @@
--- What is wrong with values that are to spell pairs or events.
+-- The faults of values that should spell pairs or events.
 use Rattle.events.specs.declared.fault.HistoryFault.TheVariants as faults
 use Rattle.std.specs.Prelude.{◌≡◌, ◌⊎◌, ℕ, ◌<◌, ◌≤◌, false, List, ◌∷◌, ◌++◌, map, codes, IsTrue, ⊤}
 use Rattle.serde_json.specs.Data.{Data, object, no_members, member}
@@ -27,13 +27,15 @@ invocation_data call process = object_of_two (codes "invoke") call (codes "proce
 abbrev pub response_data : Data → Data → Data
 response_data reply process = object_of_two (codes "answer") reply (codes "process") process
 
--- the value of an event: what was done, under its name, and the process; in a text whose events may have notes also with one of these
+-- the value of an event: what was done, under its name, and the process. In a text whose events may
+-- have notes it may have a note too
 abbrev pub IsTurnData : TextVersion → List ℕ → Data → Data → Data → Type 0
 IsTurnData version name done process d =
     (d ≡ object_of_two name done (codes "process") process)
     ⊎ (IsTrue (has_notes version) × (note : Data) × (d ≡ object_of_three name done (codes "note") note (codes "process") process))
 
--- why a value at a place was refused, whatever stands before it: it spells no event, or one past a limit
+-- why a value at a place was refused, whatever comes before it: it spells no event, or an event
+-- above a limit
 abbrev pub IsValueFault : TextVersion → ℕ → Data → HistoryFault → Type 0
 IsValueFault version place d (faults.Shape at) = (at ≡ place) × SpellsNoEvent version d
 IsValueFault version place d faults.TooMany =
@@ -41,13 +43,14 @@ IsValueFault version place d faults.TooMany =
 IsValueFault version place d faults.Memory = ⊤
 IsValueFault version place d fault = ⊥
 
--- why a value at a place of a start was refused, whatever stands before it: it is one too many, or it spells no pair
+-- why a value at a place of a start was refused, whatever comes before it: it is one too many, or
+-- it spells no pair
 abbrev pub IsPairValueFault : ℕ → Data → HistoryFault → Type 0
 IsPairValueFault place d (faults.Start at) = (at ≡ place) × (place < start_limit) × ((pair : ℕ × ℕ) → d ≡ pair_data pair → ⊥)
 IsPairValueFault place d faults.TooMany = start_limit ≤ place
 IsPairValueFault place d fault = ⊥
 
--- the values begin with pairs that a history may start with, and what stands after them shows the fault
+-- the values begin with pairs that a history may start with, and the next value shows the fault
 pub record ShowsPairFaultAmong (items : List Data) (fault : HistoryFault) : Type 0 where
   pub before : List (ℕ × ℕ)
   pub next : Data
@@ -56,12 +59,12 @@ pub record ShowsPairFaultAmong (items : List Data) (fault : HistoryFault) : Type
   pub start : IsStart before
   pub shows : IsPairFaultAfter before next fault
 
--- why a list of values was refused as a start: its first faulty value, unless memory ran out
+-- why a list of values was refused as a start: for its first faulty value, unless memory ran out
 abbrev pub IsPairFaultAmong : List Data → HistoryFault → Type 0
 IsPairFaultAmong items faults.Memory = ⊤
 IsPairFaultAmong items fault = ShowsPairFaultAmong items fault
 
--- the first values spell events of a history, and what stands after them shows the fault
+-- the first values spell events of a history, and the next value shows the fault
 pub record ShowsFaultAmong (version : TextVersion) (items : List Data) (fault : HistoryFault) : Type 0 where
   pub first : List Data
   pub before : List Event
@@ -72,7 +75,7 @@ pub record ShowsFaultAmong (version : TextVersion) (items : List Data) (fault : 
   pub events : AreEventsOfText version before
   pub shows : IsFaultAfter version before next fault
 
--- why a list of values was refused as events: its first faulty value, unless memory ran out
+-- why a list of values was refused as events: for its first faulty value, unless memory ran out
 abbrev pub IsFaultAmong : TextVersion → List Data → HistoryFault → Type 0
 IsFaultAmong version items faults.TooLong = ⊥
 IsFaultAmong version items faults.NotJson = ⊥

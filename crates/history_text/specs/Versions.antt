@@ -1,4 +1,4 @@
--- The versions of the texts of histories, and what texts of each may say.
+-- The versions of the texts of histories, and what a text of each may contain.
 use Rattle.history_text.specs.declared.version.TextVersion.TheVariants.{One, Two, Three}
 use Rattle.std.specs.Prelude.{ℕ, Bool, true, false}
 use Rattle.history_text.specs.declared.version.TextVersion.{TextVersion}
@@ -9,13 +9,13 @@ version_number One = 1
 version_number Two = 2
 version_number Three = 3
 
--- whether texts of a version have a start, and may have a replace
+-- whether texts of a version have a start and may have a replace
 abbrev pub has_start : TextVersion → Bool
 has_start One = false
 has_start Two = true
 has_start Three = true
 
--- whether answers of a text of a version may tell less than the map answers
+-- whether a text of a version may have partial answers
 abbrev pub may_tell_less : TextVersion → Bool
 may_tell_less One = false
 may_tell_less Two = false

@@ -5,8 +5,8 @@
 pub enum JsonFault {
     /// The text is longer than texts may be.
     TooLong,
-    /// The text is no JSON in UTF-8.
+    /// The text is not JSON in UTF-8.
     NotJson,
-    /// Memory was wanted.
+    /// Memory ran out.
     Memory,
 }

@@ -9,7 +9,8 @@ use crate::json_fault::JsonFault;
 use serde_json::Value;
 use std::alloc::Global;
 
-/// The JSON value of a text of at most `MAX_TEXT` bytes. Otherwise why there is none: the length is tested first.
+/// Returns the JSON value of a text of at most `MAX_TEXT` bytes. Otherwise it returns why there is
+/// none. It tests the length first.
 pub fn json_of(alloc: Global, text: &[u8]) -> Result<Value, JsonFault>
     ensures ok { IfOk result (λ value. IsJson text.now (view value)) }
     ensures refused { IfErr result (IsJsonFault text.now) }

@@ -1,4 +1,4 @@
-// What stands in a JSON value: the members of an object, the items of an array, a number.
+// The parts of a JSON value: the members of an object, the items of an array, a number.
 ghost use Rattle.std.specs.Prelude.{◌≡◌, List, map, IsTrue, IsFalse, IfSome, IfNone};
 ghost use Rattle.serde_json.specs.Data.{Data, object, Members, no_members, member};
 ghost use Rattle.serde_json.specs.View.{view, members_view};
@@ -8,7 +8,7 @@ ghost use Rattle.history_text.specs.ValueFaults.{object_of_two, object_of_three}
 use serde_json::Value;
 use std::collections::btree_map::Iter;
 
-/// The values of an object that has two members alone, by these names in this order.
+/// Returns the values of an object that has only two members, with these names in this order.
 pub fn two_members<'a>(
     value: &'a Value,
     first: &str,
@@ -25,7 +25,7 @@ pub fn two_members<'a>(
     Some((first_value, second_value))
 }
 
-/// The values of an object that has three members alone, by these names in this order.
+/// Returns the values of an object that has only three members, with these names in this order.
 pub fn three_members<'a>(
     value: &'a Value,
     first: &str,
@@ -44,7 +44,7 @@ pub fn three_members<'a>(
     Some((first_value, second_value, third_value))
 }
 
-/// The members of a value that is an object.
+/// Returns the members of a value that is an object.
 fn members_of(value: &Value) -> Option<Iter<'_, String, Value>>
     ensures some { IfSome result (λ members. view value.now ≡ object (members_view members)) }
     ensures none { IfNone result ((members : Members) → view value.now ≡ object members → ⊥) }
@@ -52,7 +52,7 @@ fn members_of(value: &Value) -> Option<Iter<'_, String, Value>>
     Some(value.as_object()?.iter())
 }
 
-/// The value of the only member that is left, where it has this name.
+/// Returns the value of the only member that is left, if it has this name.
 fn last_member<'a>(members: Iter<'a, String, Value>, name: &str) -> Option<&'a Value>
     ensures some { IfSome result (λ value. members_view members.entry
         ≡ member name.now (view value.now) no_members) }
@@ -67,7 +67,7 @@ fn last_member<'a>(members: Iter<'a, String, Value>, name: &str) -> Option<&'a V
     }
 }
 
-/// The value of the next member, where it has this name.
+/// Returns the value of the next member, if it has this name.
 fn next_member<'a>(members: &mut Iter<'a, String, Value>, name: &str) -> Option<&'a Value>
     ensures some { IfSome result (λ value. members_view members.old
         ≡ member name.now (view value.now) (members_view members.new)) }
@@ -82,7 +82,7 @@ fn next_member<'a>(members: &mut Iter<'a, String, Value>, name: &str) -> Option<
     }
 }
 
-/// The items of a value that is an array.
+/// Returns the items of a value that is an array.
 pub fn items_of(value: &Value) -> Option<&[Value]>
     ensures some { IfSome result (λ items. view value.now ≡ list_data (map view items.now)) }
     ensures none { IfNone result ((items : List Data) → view value.now ≡ list_data items → ⊥) }
@@ -90,7 +90,7 @@ pub fn items_of(value: &Value) -> Option<&[Value]>
     Some(value.as_array()?.as_slice())
 }
 
-/// Whether a value is this number.
+/// Returns whether a value is this number.
 pub fn is_number(value: &Value, number: u64) -> bool
     ensures same { IsTrue result → view value.now ≡ number_data number }
     ensures other { IsFalse result → view value.now ≡ number_data number → ⊥ }

@@ -18,8 +18,9 @@ use events::{Call, Event, HistoryFault, MAX_START, Memory, Pairs, Reply};
 use serde_json::Value;
 use std::alloc::Global;
 
-/// The event at a place of a history's text, which is of a version. Otherwise why it is refused: `Shape`, what may not
-/// stand in that version among it, `TooMany` for a process number that no `u8` holds, or `Memory`.
+/// Returns the event at a place of a history's text, which is of a version. Otherwise it returns
+/// why the event is refused: `Shape`, also for what this version may not have, `TooMany` for a
+/// process number that is too large for a `u8`, or `Memory`.
 pub fn event_of(
     alloc: Global,
     place: usize,
@@ -39,8 +40,8 @@ pub fn event_of(
     Err(HistoryFault::Shape { event: place })
 }
 
-/// The values of what was done and of the process, where an object has these members alone, what was done under this
-/// name; or a note beside them, where the version has notes.
+/// Returns the values of what was done and of the process. The object has only these two members,
+/// and the first has this name. If the version has notes, it may have a note too.
 pub fn turn_of<'a>(
     version: TextVersion,
     name: &str,
@@ -60,7 +61,7 @@ pub fn turn_of<'a>(
     Some((done, process))
 }
 
-/// The invocation that the values of its call and its process spell.
+/// Returns the invocation that the values of its call and its process spell.
 fn invocation_of(
     place: usize,
     version: TextVersion,
@@ -83,7 +84,7 @@ fn invocation_of(
     Ok(Event::Invoke { process, call })
 }
 
-/// The response that the values of its reply and its process spell.
+/// Returns the response that the values of its reply and its process spell.
 fn response_of(
     alloc: Global,
     place: usize,
@@ -107,7 +108,8 @@ fn response_of(
     Ok(Event::Answer { process, reply })
 }
 
-/// A process number, so far as it can be held; `PROCESSES` is tested with the event's turn.
+/// Returns a process number that fits into a `u8`. `PROCESSES` is tested together with the event's
+/// turn.
 fn process_number(number: u64) -> Result<u8, HistoryFault>
     ensures ok { IfOk result (λ process. process ≡ number) }
     ensures refused { IfErr result (λ fault. (fault ≡ faults.TooMany) × (process_limit ≤ number)) }
@@ -115,7 +117,7 @@ fn process_number(number: u64) -> Result<u8, HistoryFault>
     u8::try_from(number).map_err(|_| HistoryFault::TooMany)
 }
 
-/// The call that a value spells, a scan only with its ends in order.
+/// Returns the call that a value spells. The ends of a scan have to be in order.
 pub fn call_of(value: &Value) -> Option<Call>
     ensures some { IfSome result (λ call. view value.now ≡ call_data call) }
     ensures range { IfSome result (λ call. IsTrue (has_range call)) }
@@ -130,7 +132,7 @@ pub fn call_of(value: &Value) -> Option<Call>
     }
 }
 
-/// The call that an array of two values spells.
+/// Returns the call that an array of two values spells.
 fn call_of_two(name: &Value, key: &Value) -> Option<Call>
     ensures some { IfSome result (λ call. call_data call
         ≡ list_data (view name.now ∷ view key.now ∷ [])) }
@@ -141,7 +143,7 @@ fn call_of_two(name: &Value, key: &Value) -> Option<Call>
     get_or_remove(name.as_str()?, key.as_u64()?)
 }
 
-/// The call that an array of three values spells, a scan only with its ends in order.
+/// Returns the call that an array of three values spells. The ends of a scan have to be in order.
 fn call_of_three(name: &Value, first: &Value, second: &Value) -> Option<Call>
     ensures some { IfSome result (λ call. call_data call
         ≡ list_data (view name.now ∷ view first.now ∷ view second.now ∷ [])) }
@@ -153,7 +155,7 @@ fn call_of_three(name: &Value, first: &Value, second: &Value) -> Option<Call>
     insert_or_scan(name.as_str()?, first.as_u64()?, second.as_u64()?)
 }
 
-/// The call that an array of four values spells.
+/// Returns the call that an array of four values spells.
 fn call_of_four(name: &Value, key: &Value, old: &Value, new: &Value) -> Option<Call>
     ensures some { IfSome result (λ call. call_data call
         ≡ list_data (view name.now ∷ view key.now ∷ view old.now ∷ view new.now ∷ [])) }
@@ -166,7 +168,7 @@ fn call_of_four(name: &Value, key: &Value, old: &Value, new: &Value) -> Option<C
     replace(name.as_str()?, key.as_u64()?, old.as_u64()?, new.as_u64()?)
 }
 
-/// The call of this name with one number.
+/// Returns the call of this name with one number.
 fn get_or_remove(name: &str, key: u64) -> Option<Call>
     ensures some { IfSome result (λ call. call_data call
         ≡ list_data (string name.now ∷ number_data key ∷ [])) }
@@ -181,7 +183,7 @@ fn get_or_remove(name: &str, key: u64) -> Option<Call>
     }
 }
 
-/// The call of this name with two numbers, a scan only with its ends in order.
+/// Returns the call of this name with two numbers. The ends of a scan have to be in order.
 fn insert_or_scan(name: &str, first: u64, second: u64) -> Option<Call>
     ensures some { IfSome result (λ call. call_data call
         ≡ list_data (string name.now ∷ number_data first ∷ number_data second ∷ [])) }
@@ -198,7 +200,7 @@ fn insert_or_scan(name: &str, first: u64, second: u64) -> Option<Call>
     }
 }
 
-/// The call of this name with three numbers.
+/// Returns the call of this name with three numbers.
 fn replace(name: &str, key: u64, old: u64, new: u64) -> Option<Call>
     ensures some { IfSome result (λ call. call_data call
         ≡ list_data (string name.now ∷ number_data key ∷ number_data old ∷ number_data new ∷ [])) }
@@ -214,7 +216,7 @@ fn replace(name: &str, key: u64, old: u64, new: u64) -> Option<Call>
     }
 }
 
-/// The reply that a value spells.
+/// Returns the reply that a value spells.
 pub fn reply_of(alloc: Global, value: &Value) -> Result<Option<Reply>, Memory>
     ensures some { IfOk result (λ found. IfSome found (λ reply. view value.now ≡ reply_data reply)) }
     ensures none { IfOk result (λ found. IfNone found ((reply : Reply)
@@ -229,7 +231,7 @@ pub fn reply_of(alloc: Global, value: &Value) -> Result<Option<Reply>, Memory>
     }
 }
 
-/// The reply of this name.
+/// Returns the reply of this name.
 fn named_reply(name: &str) -> Option<Reply>
     ensures some { IfSome result (λ reply. reply_data reply ≡ string name.now) }
     ensures none { IfNone result ((reply : Reply) → reply_data reply ≡ string name.now → ⊥) }
@@ -243,14 +245,14 @@ fn named_reply(name: &str) -> Option<Reply>
     }
 }
 
-/// The reply that lists the pairs.
+/// Returns the reply that lists the pairs.
 fn pairs_reply(pairs: Vec<(u64, u64)>) -> Reply
     ensures { result ≡ replies.Pairs pairs.items }
 {
     Reply::Pairs(Pairs::new(pairs))
 }
 
-/// The pairs that the items of an array spell.
+/// Returns the pairs that the items of an array spell.
 pub fn pairs_of(alloc: Global, items: &[Value]) -> Result<Option<Vec<(u64, u64)>>, Memory>
     ensures some { IfOk result (λ found. IfSome found
         (λ pairs. map view items.now ≡ map pair_data pairs.items)) }
@@ -267,8 +269,8 @@ pub fn pairs_of(alloc: Global, items: &[Value]) -> Result<Option<Vec<(u64, u64)>
     Ok(Some(pairs))
 }
 
-/// The pair at a place of a text's start. Otherwise why it is refused: `TooMany` past `MAX_START`, whatever it is,
-/// or `Start`.
+/// Returns the pair at a place of a text's start. Otherwise it returns why the pair is refused:
+/// `TooMany` from place `MAX_START` on, whatever the value is, or `Start`.
 pub fn starting_pair(place: usize, value: &Value) -> Result<(u64, u64), HistoryFault>
     ensures ok { IfOk result (λ pair. view value.now ≡ pair_data pair) }
     ensures room { OnOk result (place < start_limit) }
@@ -280,7 +282,7 @@ pub fn starting_pair(place: usize, value: &Value) -> Result<(u64, u64), HistoryF
     pair_of(value).ok_or(HistoryFault::Start { pair: place })
 }
 
-/// The pair of numbers that a value spells.
+/// Returns the pair of numbers that a value spells.
 pub fn pair_of(value: &Value) -> Option<(u64, u64)>
     ensures some { IfSome result (λ pair. view value.now ≡ pair_data pair) }
     ensures none { IfNone result ((pair : ℕ × ℕ) → view value.now ≡ pair_data pair → ⊥) }

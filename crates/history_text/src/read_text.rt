@@ -22,11 +22,12 @@ use events::{History, HistoryFault, Turns};
 use serde_json::Value;
 use std::alloc::Global;
 
-/// The history that a text spells: JSON in UTF-8, in any spacing and order of members. Otherwise the text's
-/// first fault, or `Memory`: its length is tested first, then that it is JSON, then its top level
-/// (`Version`), then its starting pairs from the first on (`TooMany`, `Start`), then its events from the first
-/// on; of an event its shape is tested first, then the limits, then its turn. Beside the reading of the JSON it
-/// takes time in proportion to the pairs and the events.
+/// Reads the history that a text spells: JSON in UTF-8, with any spacing and any order of members.
+/// Otherwise it returns the text's first fault, or `Memory`. It tests the length first, then that
+/// the text is JSON, then its top level (`Version`). Then it tests the starting pairs from the
+/// first on (`TooMany`, `Start`), then the events from the first on. Of each event it tests the
+/// shape, then the limits, then the turn. Without the reading of the JSON it takes time in
+/// proportion to the pairs and the events.
 pub fn read_history(alloc: Global, text: &[u8]) -> Result<History, HistoryFault>
     ensures spelled { IfOk result (Spells text.now) }
     ensures history { IfOk result IsHistory }
@@ -39,7 +40,7 @@ pub fn read_history(alloc: Global, text: &[u8]) -> Result<History, HistoryFault>
     Ok(history.history(alloc)?)
 }
 
-/// The JSON value of a text that is not too long.
+/// Returns the JSON value of a text that is not too long.
 fn value_of(alloc: Global, text: &[u8]) -> Result<Value, HistoryFault>
     ensures ok { IfOk result (λ value. IsJson text.now (view value)) }
     ensures refused { IfErr result (IsTextFault text.now) }
@@ -52,7 +53,7 @@ fn value_of(alloc: Global, text: &[u8]) -> Result<Value, HistoryFault>
     }
 }
 
-/// The starting pairs and the events that a value spells, which are a history.
+/// Returns the starting pairs and the events that a value spells. Together they are a history.
 fn turns_of(alloc: Global, value: &Value) -> Result<Turns, HistoryFault>
     ensures spelled { IfOk result (SpellsAs (view value.now)) }
     ensures history { IfOk result IsHistory }
@@ -67,7 +68,8 @@ fn turns_of(alloc: Global, value: &Value) -> Result<Turns, HistoryFault>
     }
 }
 
-/// The starting pairs that the first values spell, and the events that the others spell after them.
+/// Returns the starting pairs that the first values spell, and the events that the others spell
+/// after them.
 fn turns_after(
     alloc: Global,
     version: TextVersion,
@@ -85,7 +87,7 @@ fn turns_after(
     events_of(alloc, start, version, items)
 }
 
-/// The values of the events of a document without a start, where its top level is right.
+/// Returns the values of the events of a document without a start, if its top level is right.
 fn events_alone(value: &Value) -> Option<&[Value]>
     ensures some { IfSome result (λ items. IsDocument versions.One None (map view items.now) (view value.now)) }
     ensures none { IfNone result ((version : TextVersion) (items : List Data)
@@ -99,7 +101,8 @@ fn events_alone(value: &Value) -> Option<&[Value]>
     }
 }
 
-/// The version of a document with a start, and the values of its start and of its events, where its top level is right.
+/// Returns the version of a document with a start, and the values of its start and of its events,
+/// if its top level is right.
 fn start_and_events(value: &Value) -> Option<(TextVersion, &[Value], &[Value])>
     ensures some { IfSome result (λ found. IsDocument found.0 (Some (map view found.1.now)) (map view found.2.now) (view value.now)) }
     ensures none { IfNone result ((version : TextVersion) (start items : List Data)
@@ -110,7 +113,7 @@ fn start_and_events(value: &Value) -> Option<(TextVersion, &[Value], &[Value])>
     Some((version, items_of(start)?, items_of(events)?))
 }
 
-/// The version that a value names, of those whose texts have a start.
+/// Returns the version that a value names, if its texts have a start.
 pub fn version_with_start(value: &Value) -> Option<TextVersion>
     ensures some { IfSome result (λ version. view value.now ≡ number_data (version_number version)) }
     ensures start { IfSome result (λ version. IsTrue (has_start version)) }
@@ -139,7 +142,7 @@ fn start_of(alloc: Global, items: &[Value]) -> Result<Turns, HistoryFault>
     Ok(turns)
 }
 
-/// The events that the values spell, after the starting pairs: together they are a history.
+/// Returns the events that the values spell, after the starting pairs. Together they are a history.
 fn events_of(
     alloc: Global,
     start: Turns,

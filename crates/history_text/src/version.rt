@@ -6,19 +6,19 @@ ghost use Rattle.history_text.specs.Versions.{version_number, has_start, may_tel
 
 use events::{Call, Reply};
 
-/// The version of a text: what it may say.
+/// The version of a text, which says what it may contain.
 #[derive(Clone, Copy)]
 pub enum TextVersion {
     /// The map is empty at the start, and there is no replace.
     One,
-    /// It says what the map holds at the start, and may have a replace.
+    /// The text says what the map holds at the start, and may have a replace.
     Two,
-    /// Its answers may tell less than the map answers, and its events may have notes, which nothing reads.
+    /// The text may have partial answers, and its events may have notes, which nothing reads.
     Three,
 }
 
 impl TextVersion {
-    /// The number by which a text names it.
+    /// Returns the number by which a text names its version.
     pub fn number(self) -> u64
         ensures { result ≡ version_number self }
     {
@@ -29,28 +29,29 @@ impl TextVersion {
         }
     }
 
-    /// Whether its texts have a start.
+    /// Returns whether texts of this version have a start.
     pub fn has_start(self) -> bool
         ensures { result ≡ has_start self }
     {
         !matches!(self, TextVersion::One)
     }
 
-    /// Whether the events of its texts may have a note.
+    /// Returns whether the events of texts of this version may have a note.
     pub fn has_notes(self) -> bool
         ensures { result ≡ has_notes self }
     {
         matches!(self, TextVersion::Three)
     }
 
-    /// Whether a call may stand in its texts: a replace in those with a start alone.
+    /// Returns whether a text of this version may have a call: a replace needs a version with a
+    /// start.
     pub fn may_have_call(self, call: &Call) -> bool
         ensures { result ≡ (has_start self || not (is_replace call.now)) }
     {
         self.has_start() || !matches!(call, Call::Replace(..))
     }
 
-    /// Whether a reply may stand in its texts: one that tells less than the map answers in version 3 alone.
+    /// Returns whether a text of this version may have a reply: a partial one needs version 3.
     pub fn may_have_reply(self, reply: &Reply) -> bool
         ensures { result ≡ (may_tell_less self || is_told reply.now) }
     {

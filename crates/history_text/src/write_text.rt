@@ -15,10 +15,10 @@ use events::{Call, Event, History, Memory, Reply};
 use serde_json::{Map, Value, push, put};
 use std::alloc::{AllocError, Global};
 
-/// The text of a history in the compact form: no spaces, members by rising bytes, numbers in plain decimal. It is
-/// of version 1 where the history has neither starting pairs nor a replace and its answers tell all, else of version 2
-/// where these tell all, else of version 3.
-/// A text of more than `MAX_TEXT` bytes is written too, and the reader refuses it.
+/// Writes the text of a history in the compact form: no spaces, members by rising bytes, numbers in
+/// plain decimal. The version is 1 if the history has neither starting pairs nor a replace, and
+/// complete answers only. Otherwise it is 2 if all answers are complete, and else 3. A text of more
+/// than `MAX_TEXT` bytes is written too, although the reader refuses it.
 pub fn write_history(alloc: Global, history: &History) -> Result<String, Memory>
     ensures compact { IfOk result
         (λ text. string_bytes text ≡ compact_text (history_data history.now)) }
@@ -29,7 +29,7 @@ pub fn write_history(alloc: Global, history: &History) -> Result<String, Memory>
     Ok(value.to_string(alloc)?)
 }
 
-/// The JSON value of a history.
+/// Returns the JSON value of a history.
 fn history_value(alloc: Global, history: &History) -> Result<Value, AllocError>
     ensures { IfOk result (λ value. view value ≡ history_data history.now) }
 {
@@ -38,7 +38,7 @@ fn history_value(alloc: Global, history: &History) -> Result<Value, AllocError>
     Ok(Value::Object(members))
 }
 
-/// Puts what is written of a history into an object without members.
+/// Writes the members of a history into an object without members.
 fn put_history(
     alloc: Global,
     members: &mut Map<String, Value>,
@@ -66,7 +66,7 @@ fn put_history(
     put(members, alloc, "version", Value::from(version.number()))
 }
 
-/// The least version whose texts say all of a history.
+/// Returns the lowest version that can represent a history.
 fn least_version(history: &History) -> TextVersion
     ensures { result ≡ least_version history.now }
 {
@@ -79,7 +79,7 @@ fn least_version(history: &History) -> TextVersion
     }
 }
 
-/// Whether a history has neither starting pairs nor a replace, and its answers tell all.
+/// Returns whether a history has neither starting pairs nor a replace, and complete answers only.
 fn is_plain(history: &History) -> bool
     ensures { result ≡ is_plain history.now }
 {
@@ -106,7 +106,7 @@ fn is_plain_event(event: &Event) -> bool
     }
 }
 
-/// Whether the answers of the events tell all.
+/// Returns whether each answer of the events is complete.
 fn are_told(events: &[Event]) -> bool
     ensures { result ≡ are_told events.now }
 {
@@ -162,7 +162,7 @@ fn response_value(alloc: Global, process: u8, reply: &Reply) -> Result<Value, Al
     turn_value(alloc, "answer", reply, process)
 }
 
-/// The value of what a process did, under a name, with the number of the process.
+/// Returns the value of what a process did, under a name, with the number of the process.
 fn turn_value(alloc: Global, name: &str, done: Value, process: u8) -> Result<Value, AllocError>
     ensures { IfOk result (λ value. view value
         ≡ object (with_member (codes "process") (number_data process) (with_member name.now (view done) no_members))) }
@@ -186,7 +186,7 @@ fn put_turn(
     put(members, alloc, "process", Value::from(process))
 }
 
-/// The JSON value of a call: an array of its name and its numbers.
+/// Returns the JSON value of a call: an array of its name and its numbers.
 pub fn call_value(alloc: Global, call: &Call) -> Result<Value, AllocError>
     ensures { IfOk result (λ value. view value ≡ call_data call.now) }
 {
@@ -199,7 +199,7 @@ pub fn call_value(alloc: Global, call: &Call) -> Result<Value, AllocError>
     }
 }
 
-/// An array of a name and the numbers that follow it.
+/// Returns an array of a name and the numbers that follow it.
 fn named_numbers(alloc: Global, name: &str, numbers: &[u64]) -> Result<Value, AllocError>
     ensures { IfOk result (λ value. view value
         ≡ list_data (string name.now ∷ map number_data numbers.now)) }
@@ -212,7 +212,7 @@ fn named_numbers(alloc: Global, name: &str, numbers: &[u64]) -> Result<Value, Al
     Ok(Value::from(items))
 }
 
-/// The JSON value of a reply.
+/// Returns the JSON value of a reply.
 pub fn reply_value(alloc: Global, reply: &Reply) -> Result<Value, AllocError>
     ensures { IfOk result (λ value. view value ≡ reply_data reply.now) }
 {
@@ -227,7 +227,7 @@ pub fn reply_value(alloc: Global, reply: &Reply) -> Result<Value, AllocError>
     }
 }
 
-/// The JSON value of pairs: an array of arrays of a key and a value.
+/// Returns the JSON value of pairs: an array of arrays of a key and a value.
 pub fn pairs_value(alloc: Global, pairs: &[(u64, u64)]) -> Result<Value, AllocError>
     ensures { IfOk result (λ value. view value ≡ list_data (map pair_data pairs.now)) }
 {

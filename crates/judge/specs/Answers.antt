@@ -3,7 +3,7 @@ use Rattle.std.specs.Prelude.{◌≡◌, ℕ, ◌<◌, List, [], ◌∷◌, Some
 use Rattle.search.specs.declared.found.Found.{Found}
 use Rattle.search.specs.declared.found.Found.TheVariants.{Order}
 
--- this answer stands at the place, and at none before it
+-- this answer is at the place, and not at an earlier one
 pub record IsFirstAt (sought : Found) (answers : List Found) (place : ℕ) : Type 0 where
   pub here : slice_get answers place ≡ Some sought
   pub first : (n : ℕ) → n < place → slice_get answers n ≡ Some sought → ⊥

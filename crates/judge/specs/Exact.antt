@@ -11,7 +11,8 @@ use Rattle.search.specs.Exact.{IsLeastOrderOf, CountIsWithinOf, CountIsAboveOf}
 use Rattle.judge.specs.declared.verdict.Verdict.{Verdict}
 use Rattle.judge.specs.declared.verdict.Verdict.TheVariants.{Yes, No, Undecided}
 
--- this is the least order of the segment, and at most as many of its configurations count as the budget
+-- this is the least order of the segment, and at most as many of its configurations count as the
+-- budget
 abbrev pub IsOrderedBy : ℕ → SegmentView → List ℕ → Type 0
 IsOrderedBy budget segment order = IsLeastOrderOf segment order × CountIsWithinOf segment budget
 
@@ -19,7 +20,7 @@ IsOrderedBy budget segment order = IsLeastOrderOf segment order × CountIsWithin
 abbrev pub IsOrdered : ℕ → SegmentView → Type 0
 IsOrdered budget segment = (order : List ℕ) × IsOrderedBy budget segment order
 
--- it has none, and at most as many of its configurations count as the budget
+-- the segment has no order, and at most as many of its configurations count as the budget
 abbrev pub IsRefuted : ℕ → SegmentView → Type 0
 IsRefuted budget segment = HasNoOrder segment × CountIsWithinOf segment budget
 
@@ -31,7 +32,8 @@ IsSpent budget segment = CountIsAboveOf segment budget
 abbrev pub IsOrderedOrSpent : ℕ → SegmentView → Type 0
 IsOrderedOrSpent budget segment = IsOrdered budget segment ⊎ IsSpent budget segment
 
--- yes: each segment has an order within the budget, and the order answered merges the least orders of all segments
+-- yes: each segment has an order within the budget, and the order of the verdict merges the least
+-- orders of all segments
 pub record IsExactYes (start : Contents) (budget : ℕ) (calls : List Operation) (order : List ℕ) : Type 0 where
   pub segments : List SegmentView
   pub orders : List (List ℕ)
@@ -47,7 +49,8 @@ pub record IsExactNo (start : Contents) (budget : ℕ) (calls : List Operation) 
   pub refuted : IsRefuted budget segment
   pub lowest : All (IsOrderedOrSpent budget) below
 
--- undecided: the named segment is the lowest that is spent, and no segment is refuted within the budget
+-- undecided: the named segment is the lowest that is spent, and no segment is refuted within the
+-- budget
 pub record IsExactUndecided (start : Contents) (budget : ℕ) (calls : List Operation) (segment : SegmentView) : Type 0 where
   pub below : List SegmentView
   pub above : List SegmentView

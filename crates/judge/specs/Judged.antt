@@ -1,4 +1,4 @@
--- What is answered to a text: a verdict with its report, or why there is none.
+-- The answer to a text: a verdict with its report, or why there is none.
 use Rattle.std.specs.Prelude.{◌≡◌, ◌≢◌, ℕ, List, ⊤}
 use Rattle.serde_json.specs.Written.{compact_text}
 use Rattle.events.specs.HistoryView.{HistoryView}
@@ -15,7 +15,8 @@ use Rattle.judge.specs.Shown.{IsShown}
 use Rattle.judge.specs.Exact.{IsExactVerdict}
 use Rattle.judge.specs.Reports.{verdict_data}
 
--- the text spells a history, what the verdict says of its calls is so, it is the exact verdict, and this is its report
+-- the text spells a history, what the verdict says of its calls is true, the verdict is the exact
+-- one, and this is its report
 pub record IsJudged (budget : ℕ) (text : List ℕ) (verdict : Verdict) (report : List ℕ) : Type 0 where
   pub history : HistoryView
   pub spelled : Spells text history
@@ -24,7 +25,7 @@ pub record IsJudged (budget : ℕ) (text : List ℕ) (verdict : Verdict) (report
   pub exact : IsExactVerdict history.start budget (operations history.events) verdict
   pub reported : report ≡ compact_text (verdict_data verdict)
 
--- the judge's fault for a reader's: want of memory is one fault, whoever met it
+-- the judge's fault for a reader's fault; out-of-memory is one fault, whoever met it
 abbrev pub fault_of : HistoryFault → JudgeFault
 fault_of histories.Memory = Memory
 fault_of fault = History fault

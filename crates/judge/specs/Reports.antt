@@ -10,7 +10,7 @@ use Rattle.judge.specs.declared.verdict.Verdict.TheVariants.{Yes, No, Undecided}
 abbrev pub numbers_data : List ℕ → Data
 numbers_data numbers = list_data (map number_data numbers)
 
--- a segment that a verdict names, by this word
+-- the report of a segment that a verdict names, under this word
 abbrev pub segment_data : SegmentView → List ℕ → Data
 segment_data segment word =
     object (member (codes "calls") (numbers_data segment.numbers)

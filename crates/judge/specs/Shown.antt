@@ -6,7 +6,7 @@ use Rattle.judge.specs.declared.verdict.Verdict.{Verdict}
 use Rattle.judge.specs.declared.verdict.Verdict.TheVariants.{Yes, No, Undecided}
 use Rattle.judge.specs.Shows.{ShowsYes, ShowsNo, ShowsUndecided}
 
--- what the verdict says of the calls is so
+-- what the verdict says of the calls is true
 abbrev pub IsShown : Contents → ℕ → List Operation → Verdict → Type 0
 IsShown start budget calls (Yes order) = ShowsYes start calls order.items
 IsShown start budget calls (No segment) = ShowsNo start budget calls segment

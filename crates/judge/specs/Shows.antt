@@ -1,6 +1,5 @@
--- What a verdict shows of the calls of a history, where these pairs stand in the map before the first call. Orders are the linearizations
--- of Herlihy and Wing
--- 1990, section 2.
+-- What a verdict shows of the calls of a history, from the pairs that the map holds before the
+-- first call. Orders are the linearizations of Herlihy and Wing 1990, section 2.
 use Rattle.std.specs.Prelude.{◌⊎◌, ℕ, List, ◌∷◌, ◌++◌, All}
 use Rattle.std.specs.List.{AllZip}
 use Rattle.events.specs.declared.operation.Operation.{Operation}
@@ -24,9 +23,9 @@ IsBeyond budget segment = ReachesMoreThan segment.start segment.calls budget
 abbrev pub IsUnrefuted : ℕ → SegmentView → Type 0
 IsUnrefuted budget segment = HasOrder segment ⊎ IsBeyond budget segment
 
--- yes: an order of the whole history, with all completed and some pending calls, that keeps each
--- response-before-invocation pair and in which a sorted list used alone gives every recorded reply;
--- it merges orders of the segments
+-- yes: an order of the whole history, with all completed and some pending calls. It keeps each
+-- response before the invocations that follow it, and a sorted list that does the calls one by one
+-- gives every recorded reply. It merges orders of the segments
 pub record ShowsYes (start : Contents) (calls : List Operation) (order : List ℕ) : Type 0 where
   pub segments : List SegmentView
   pub orders : List (List ℕ)
@@ -35,7 +34,8 @@ pub record ShowsYes (start : Contents) (calls : List Operation) (order : List �
   pub found : AllZip IsOrderOf segments orders
   pub merged : IsMergedOrder calls orders order
 
--- no: no such order exists, and the calls of the named segment have none by themselves either; no segment below it had to be named
+-- no: no such order exists, and the calls of the named segment have none on their own either. Each
+-- segment below it has an order, or more reachable configurations than the budget
 pub record ShowsNo (start : Contents) (budget : ℕ) (calls : List Operation) (segment : SegmentView) : Type 0 where
   pub below : List SegmentView
   pub above : List SegmentView
@@ -44,8 +44,9 @@ pub record ShowsNo (start : Contents) (budget : ℕ) (calls : List Operation) (s
   pub are_segments : AreSegments start calls (below ++ segment ∷ above)
   pub lowest : All (IsUnrefuted budget) below
 
--- undecided: the named segment has more reachable configurations than the budget; those below it have orders, and no segment above it makes
--- it a no
+-- undecided: the named segment has more reachable configurations than the budget. Each segment
+-- below it has an order. Each segment above it has one too, or more reachable configurations than
+-- the budget
 pub record ShowsUndecided (start : Contents) (budget : ℕ) (calls : List Operation) (segment : SegmentView) : Type 0 where
   pub below : List SegmentView
   pub above : List SegmentView

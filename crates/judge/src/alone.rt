@@ -12,10 +12,11 @@ use events::{History, Memory};
 use pool::{OpenGate, search_alone};
 use std::alloc::Global;
 
-/// Judges a history, by a search of at most `budget` configurations in each of its segments, one after
-/// another by rising key. The lowest segment without order refutes the history; else the lowest segment whose
-/// search needs more than the budget is named; else the orders of all segments are merged. Want of memory is
-/// an error and decides nothing. It costs what the cut, the searches and the merge cost.
+/// Judges a history: searches its segments one by one by rising key, each for at most `budget`
+/// configurations. The verdict is no if a segment has no order, and names the lowest one. Otherwise
+/// it is undecided if a search needs more than the budget, and names the lowest such segment.
+/// Otherwise it is yes, with the merged orders of all segments. If memory runs out, that is an
+/// error and no verdict. It costs what the cut, the searches and the merge cost.
 pub fn judge_alone(alloc: Global, history: &History, budget: u32) -> Result<Verdict, Memory>
     requires { (1 ≤ budget) × (budget ≤ budget_limit) }
     ensures shown { IfOk result (IsShown history.now.start budget (operations history.now.events)) }

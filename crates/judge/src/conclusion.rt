@@ -1,4 +1,4 @@
-// What the answers on all segments of a history say of the history.
+// From the answers on all segments of a history to the verdict on the history.
 ghost use Rattle.std.specs.Prelude.{◌≡◌, ◌≢◌, ◌<◌, length, map, slice_get, All, Some, IfOk, IfSome, IfNone};
 ghost use Rattle.std.specs.List.{AllZip};
 ghost use Rattle.events.specs.Operations.{operations};
@@ -20,8 +20,9 @@ use search::Found;
 use segments::Segment;
 use std::alloc::Global;
 
-/// The verdict on a history whose segments have these answers, found at the budget: no with the lowest segment
-/// without order; else undecided with the lowest that needs more than the budget; else yes with the merged order.
+/// Returns the verdict on a history whose segments have these answers at the budget. It is no if a
+/// segment has no order, and names the lowest one. Otherwise it is undecided if a search needs more
+/// than the budget, and names the lowest such segment. Otherwise it is yes, with the merged order.
 pub(crate) fn conclude(
     alloc: Global,
     history: &History,
@@ -45,7 +46,7 @@ pub(crate) fn conclude(
     Ok(Verdict::Yes(merge_answers(alloc, history, answers)?))
 }
 
-/// The place of the first answer that there is no order.
+/// Returns the place of the first answer that there is no order.
 fn first_without_order(answers: &[Found]) -> Option<usize>
     ensures found { IfSome result (IsFirstAt NoOrder answers.now) }
     ensures none { IfNone result (All (λ answer. answer ≢ NoOrder) answers.now) }
@@ -58,7 +59,7 @@ fn first_without_order(answers: &[Found]) -> Option<usize>
     None
 }
 
-/// The place of the first answer of a search that needs more than the budget.
+/// Returns the place of the first answer of a search that needs more than the budget.
 fn first_spent(answers: &[Found]) -> Option<usize>
     ensures found { IfSome result (IsFirstAt Spent answers.now) }
     ensures none { IfNone result (All (λ answer. answer ≢ Spent) answers.now) }
@@ -71,7 +72,7 @@ fn first_spent(answers: &[Found]) -> Option<usize>
     None
 }
 
-/// The segment at a place.
+/// Returns the segment at a place.
 fn segment_at(mut segments: Vec<Segment>, place: usize) -> Segment
     requires { place < length segments.items }
     ensures { slice_get segments.items place ≡ Some result }
@@ -79,7 +80,7 @@ fn segment_at(mut segments: Vec<Segment>, place: usize) -> Segment
     segments.swap_remove(place)
 }
 
-/// The merged order of the orders among the answers.
+/// Returns the merged order of the orders among the answers.
 fn merge_answers(alloc: Global, history: &History, answers: Vec<Found>) -> Result<Vec<u32>, Memory>
     requires { AreOrdersOfSegments history.now.start (operations history.now.events) (orders_in answers.items) }
     ensures merged { IfOk result (λ v. IsMergedOrder (operations history.now.events) (orders_in answers.items) v.items) }
@@ -89,7 +90,7 @@ fn merge_answers(alloc: Global, history: &History, answers: Vec<Found>) -> Resul
     merge(alloc, history, &orders)
 }
 
-/// The orders among the answers.
+/// Returns the orders among the answers.
 fn orders_of(alloc: Global, answers: Vec<Found>) -> Result<Vec<Vec<u32>>, Memory>
     ensures { IfOk result (λ orders. map (λ order. order.items) orders.items ≡ orders_in answers.items) }
 {

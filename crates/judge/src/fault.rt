@@ -4,7 +4,7 @@ use events::{HistoryFault, Memory};
 /// Why a text has no verdict.
 #[derive(Debug, Drop)]
 pub enum JudgeFault {
-    /// The text spells no history. This is never the reader's want of memory.
+    /// The text spells no history. The fault in it is never `Memory`.
     History(HistoryFault),
     /// Memory ran out, in reading or in judging.
     Memory,

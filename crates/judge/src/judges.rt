@@ -1,4 +1,4 @@
-// Who makes a verdict on a history: this thread, or calls of one that may have others.
+// Who makes a verdict on a history: this thread, or calls of a function that may use others.
 ghost use Rattle.std.specs.Prelude.{◌≤◌, ⊤};
 ghost use Rattle.std.specs.Fn.{FnReturnsAt};
 ghost use Rattle.judge.specs.Judging.{AnswersVerdict, JudgesExactly};
@@ -9,8 +9,8 @@ use crate::verdict::Verdict;
 use events::{History, Memory};
 use std::alloc::Global;
 
-/// Who makes verdicts on histories, each by searches of at most as many configurations as its budget. What needs a verdict
-/// takes one of these, and so knows of no threads.
+/// Makes verdicts on histories, each by searches of at most as many configurations as its budget.
+/// Code that needs a verdict takes a `Judge`, and so does not know of threads.
 pub trait Judge {
     ghost use Rattle.std.specs.Prelude.{◌≡◌, ◌≤◌, ℕ, IfOk, OnOk};
     ghost use Rattle.events.specs.HistoryView.{HistoryView};
@@ -19,16 +19,16 @@ pub trait Judge {
     ghost use Rattle.judge.specs.Shown.{IsShown};
     ghost use Rattle.search.specs.Limits.{budget_limit};
 
-    // That it may be asked.
+    // The judge may be asked.
     ghost ready: { Self → Type 0 };
 
     // Its budget.
     ghost budget: { Self → ℕ };
 
-    // That it was asked for the verdict on this history.
+    // The judge was asked for the verdict on this history.
     ghost was_asked: { Self → HistoryView → Type 0 };
 
-    /// Its budget.
+    /// Returns the budget of its searches.
     fn budget(&self) -> u32
         ensures budget { result ≡ budget self.now }
         ensures within { (1 ≤ result) × (result ≤ budget_limit) };
@@ -65,7 +65,8 @@ impl Judge for OneThread {
     }
 }
 
-/// Calls of a function judge, which is to answer as `judge` and `judge_alone` do at this budget.
+/// A judge that calls a function, which has to answer as `judge` and `judge_alone` do at this
+/// budget.
 #[derive(Drop)]
 pub struct ByCalls<F> {
     pub budget: u32,

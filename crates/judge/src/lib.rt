@@ -1,7 +1,8 @@
-//! The judge of recorded histories: whether a history of an ordered map is linearizable, and the report of
-//! the verdict.
+//! The judge of recorded histories: whether a history of an ordered map is linearizable, and the
+//! report of the verdict.
 //!
-//! What an order of a history is stands in `orders`' definitions, and what each verdict shows in `specs/`.
+//! The definitions of `orders` say what an order of a history is, and those in `specs/` what each
+//! verdict shows.
 #![tactic(auto)]
 
 mod alone;

@@ -11,9 +11,9 @@ use segments::Segment;
 use serde_json::{Map, Value, put};
 use std::alloc::{AllocError, Global};
 
-/// The report of a verdict, one JSON object without spaces, its members by rising bytes: the numbers of the
-/// order, or those of the named segment with its least and its greatest key. It takes time in proportion to
-/// the numbers.
+/// Writes the report of a verdict: one JSON object without spaces, with members by rising bytes. It
+/// has the numbers of the order, or those of the named segment with its least and its greatest key.
+/// It takes time in proportion to the numbers.
 pub fn report(alloc: Global, verdict: &Verdict) -> Result<String, Memory>
     ensures { IfOk result (λ text. string_bytes text ≡ compact_text (verdict_data verdict.now)) }
 {
@@ -29,7 +29,7 @@ fn verdict_value(alloc: Global, verdict: &Verdict) -> Result<Value, AllocError>
     Ok(Value::Object(members))
 }
 
-/// Puts the members of a verdict's report where none are.
+/// Adds the members of a verdict's report to an object without members.
 fn put_verdict(
     members: &mut Map<String, Value>,
     alloc: Global,

@@ -1,4 +1,4 @@
-// From a history's text to its verdict and the report of it.
+// From a history's text to its verdict and the report.
 ghost use Rattle.std.specs.Prelude.{◌≡◌, ◌≤◌, IfOk, IfErr, OnOk, string_bytes};
 ghost use Rattle.events.specs.HistoryView.{HistoryView};
 ghost use Rattle.events.specs.Histories.{IsHistory};
@@ -20,8 +20,8 @@ use pool::Gate;
 use std::alloc::Global;
 use std::thread::Threads;
 
-/// Reads a history's text and judges it as `judge` does: the verdict, with its report. `History` comes with the
-/// text's first fault, where it spells no history.
+/// Reads a history's text and judges it as `judge` does. Returns the verdict with its report, or
+/// `History` with the text's first fault if it spells no history.
 pub fn judge_text<R: Threads + Sync, G: Gate + Sync>(
     rt: &R,
     alloc: Global,
@@ -48,7 +48,8 @@ pub fn judge_text<R: Threads + Sync, G: Gate + Sync>(
     judge_text_by(alloc, text, &by_workers)
 }
 
-/// Reads a history's text and has it judged: the answer of `judge_text`, whoever judges.
+/// Reads a history's text and lets a judge judge it. The answer is that of `judge_text`, whoever
+/// judges.
 pub fn judge_text_by<J: Judge>(
     alloc: Global,
     text: &[u8],

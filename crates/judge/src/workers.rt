@@ -15,8 +15,9 @@ use pool::{Gate, search_all};
 use std::alloc::Global;
 use std::thread::Threads;
 
-/// Judges a history as `judge_alone` does, where so many workers search its segments side by side. The number of
-/// workers and their turns change no verdict. A worker passes the gate before each segment that it searches.
+/// Judges a history as `judge_alone` does, with this many workers that search its segments side by
+/// side. Neither the number of workers nor their turns change the verdict. A worker passes the gate
+/// before each segment that it searches.
 pub fn judge<R: Threads + Sync, G: Gate + Sync>(
     rt: &R,
     alloc: Global,

@@ -1,4 +1,4 @@
-// What the words of the command line ask of a history or of a stream, done.
+// Does what the command line asks of a history or of a stream.
 ghost use Rattle.std.specs.Prelude.{◌≡◌, ◌<◌};
 ghost use Rattle.clap.specs.Walk.{texts};
 ghost use Rattle.outcomes.specs.Ends.{change};
@@ -13,8 +13,9 @@ use std::alloc::Global;
 use std::thread::Threads;
 use streams::{Sink, Source};
 
-/// Does what the words of the command line ask of a history or of a stream, the program's name first, and answers the exit status. Words
-/// that ask for a plan or a tree are told that it has none. How far a stream was followed is shown.
+/// Does what the command line asks of a history or of a stream, and returns the exit status. The
+/// command line begins with the program's name. If it asks for a plan or a tree, it gets a line
+/// that says that there is none here. A terminal shows how far a stream was followed.
 pub fn run<R: Threads + Sync, S: Source, O: Sink, F: Sink, H: Sink, P: ProgressDisplay>(
     rt: &R,
     alloc: Global,
@@ -30,14 +31,15 @@ pub fn run<R: Threads + Sync, S: Source, O: Sink, F: Sink, H: Sink, P: ProgressD
     requires faults { F.failures faults.old < u64.MAX }
     requires hints { H.failures hints.old < u64.MAX }
 
-    // What the words ask for comes out so, or the fault that they have, or that they ask for something else.
+    // The outcome is that of what the command line asks for, or of its fault, or says that it asks
+    // for something else.
     ensures run { IsRun
         (IsJudgeWordsOutcome (texts words.entry.now) (change S.remaining S.failures source.old source.new))
         (change O.written O.failures output.old output.new)
         (change F.written F.failures faults.old faults.new)
         (change H.written H.failures hints.old hints.new) result }
 
-    // For words with a fault, and for those that ask for something else, nothing is read.
+    // If the command line has a fault, or asks for something else, nothing is read.
     ensures unread { result ≡ words_status → source.new ≡ source.old }
 {
     match asked_line(alloc, words) {

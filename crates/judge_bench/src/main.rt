@@ -1,8 +1,8 @@
-//! The program's part that judges histories and streams, and says where and why one goes wrong. It uses no tree and no
-//! plan, so that it is proved and built in a fraction of the time.
+//! The program for all subcommands on histories and streams. It uses no tree and no plan, so it is
+//! proved and built in a fraction of the time.
 //!
-//! It takes the words of the whole program, and what it does for them is what the whole program does. Words that ask for
-//! a plan or a tree are refused, and nothing is read for them.
+//! It takes the same command line as the whole program, and does the same. If the command line asks
+//! for a plan or a tree, it is refused, and nothing is read.
 #![tactic(auto)]
 
 mod command;

@@ -1,5 +1,5 @@
-// A worker passes the gate to a segment before it searches it. What a search does cannot be seen from outside but for
-// the time that it takes, so this goes by the clock.
+// A worker passes the gate to a segment before it searches the segment. What a search does cannot
+// be seen from outside, except for the time that it takes. So this test uses the clock.
 ghost use Rattle.std.specs.Prelude.{⊤};
 
 use crate::worked::gets;
@@ -38,7 +38,7 @@ impl<C: Clock> Gate for Moments<'_, C> {
     }
 }
 
-/// How long it takes until the first segment is entered, and from then until the second one is, by one worker.
+/// How long one worker takes to enter the first segment, and from then on to enter the second one.
 fn until_entered<R: Threads + Clock + Sync>(
     rt: &R,
     alloc: Global,
@@ -56,9 +56,9 @@ fn until_entered<R: Threads + Clock + Sync>(
     Ok((first, second.saturating_sub(first)))
 }
 
-/// The first of two segments, of many gets at one key, takes long to search, and hardly anything is done before it is entered. So less
-/// time passes before it is entered than from then until the other one is, unless the thread is held up in between, hence the least of
-/// five tries.
+/// The first of two segments has many gets at one key, and takes long to search. Hardly anything is
+/// done before it is entered. So less time passes before it is entered than from then until the
+/// other one is. The thread may be held up in between, so the least of five tries counts.
 #[test]
 fn a_segment_is_entered_before_it_is_searched(rt: HostRuntime) -> Result<(), Fail> {
     let mut events = gets(rt.alloc(), 4095, 4095)?;

@@ -6,7 +6,7 @@ use std::alloc::{AllocError, Global};
 use std::sync::atomic::{AtomicBool, AtomicU64, Ordering};
 use std::thread;
 
-/// Counts the visits at each of some segments, and those at any other.
+/// Counts the visits at each of some segments, and the visits at any other.
 #[derive(Drop)]
 pub(crate) struct Visits {
     each: Vec<AtomicU64>,
@@ -14,7 +14,7 @@ pub(crate) struct Visits {
 }
 
 impl Visits {
-    /// No visits yet at so many segments.
+    /// No visits yet, at this many segments.
     pub(crate) fn at(alloc: Global, segments: usize) -> Result<Visits, AllocError> {
         let mut each = Vec::new(alloc);
         for _ in 0..segments {
@@ -50,8 +50,8 @@ const TURNS: u32 = 10_000_000;
 
 const STAY: u32 = 100;
 
-/// Holds each worker for some turns and until so many are inside at once, round after round. Each waits for a bounded number of turns,
-/// and once one has waited in vain, none waits any more.
+/// Holds each worker for some turns and until this many are inside at once, round after round. Each
+/// waits for a bounded number of turns. When one has waited in vain, none waits any more.
 #[derive(Drop)]
 pub(crate) struct Rounds {
     size: u64,
@@ -74,7 +74,8 @@ impl Rounds {
         }
     }
 
-    /// How many times a worker stood inside with all others of its round; none where more than a round ever were inside at once.
+    /// How many times a worker was inside with all others of its round; none if more than a round
+    /// were ever inside at once.
     pub(crate) fn count_met(&self) -> u64 {
         if self.was_crowded.load(Ordering::SeqCst) {
             return 0;
@@ -82,7 +83,8 @@ impl Rounds {
         self.met.load(Ordering::SeqCst)
     }
 
-    /// Waits until the round is full in which a worker came as the one of this number, from 0. Whether it came to that.
+    /// Waits until the round is full in which a worker came with this number, counted from 0.
+    /// Returns whether it became full.
     fn fills(&self, number: u64) -> bool {
         for turn in 0..TURNS {
             let full_rounds = self.entered.load(Ordering::SeqCst).checked_div(self.size);

@@ -1,4 +1,5 @@
-// The layers below a verdict: segments, their orders, the order that merges these, and a search turn by turn.
+// The layers below a verdict: segments, their orders, the order that merges these, and a search one
+// turn at a time.
 ghost use Rattle.std.specs.Prelude.{map, IfOk};
 ghost use Rattle.std.specs.List.{AllZip};
 ghost use Rattle.segments.specs.SegmentOrders.{IsOrderOf};
@@ -13,7 +14,7 @@ use segments::Segment;
 use std::alloc::Global;
 use std::test::Fail;
 
-/// An order of each segment, where each has one.
+/// An order of each segment, if each has one.
 fn orders_of(alloc: Global, segments: &[Segment]) -> Result<Vec<Vec<u32>>, Fail>
     ensures { IfOk result (λ v. AllZip IsOrderOf segments.now (map (λ order. order.items) v.items)) }
 {
@@ -40,7 +41,8 @@ fn orders_of_segments_are_merged(rt: HostRuntime) -> Result<(), Fail> {
     Ok(())
 }
 
-/// What a search of all calls finds that goes on turn by turn, and how many configurations count before the last turn.
+/// What a search of all calls finds, one turn at a time, and how many configurations count before
+/// the last turn.
 fn found_by_turns(alloc: Global, history: &History) -> Result<(Found, usize), Fail> {
     let Some(whole) = Segment::whole(alloc, history)? else {
         return Err(Fail::new("no call belongs to a segment"));
@@ -64,7 +66,8 @@ fn a_search_goes_on_turn_by_turn(rt: HostRuntime) -> Result<(), Fail> {
     Ok(())
 }
 
-/// As many calls as there may be, of which none overlaps another: one configuration more than there are calls.
+/// As many calls as there may be, of which none overlaps another. There is one more configuration
+/// than there are calls.
 #[test]
 fn a_search_of_most_calls_goes_on_turn_by_turn(rt: HostRuntime) -> Result<(), Fail> {
     let history = History::from_events(rt.alloc(), gets(rt.alloc(), MAX_CALLS, MAX_CALLS)?)?;

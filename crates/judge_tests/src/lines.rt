@@ -1,4 +1,5 @@
-// Sources that are cut at their line feeds, wherever a read of them ends or fails, lines that events are read from, and a history.
+// Sources that are cut at their line feeds, wherever a read ends or fails; lines from which events
+// are read; and a history.
 ghost use Rattle.std.specs.Prelude.{◌≡◌, ◌<◌};
 
 use history_text::{TextVersion, call_value, read_history, reply_value, write_history};
@@ -7,7 +8,8 @@ use std::test::Fail;
 use stream_text::{LineBuffer, NoLine, StreamEvent, next_line, read_event_line};
 use streams::memory_ends::MemorySource;
 
-/// The lines of a text with a bar behind each, and how many calls failed: at most so many bytes come at once, and a read may fail.
+/// The lines of a text with a bar after each, and how many calls failed. At most this many bytes
+/// come at once, and a read may fail.
 fn read_all(
     alloc: Global,
     text: &str,
@@ -23,7 +25,7 @@ fn read_all(
     Ok((lines, failed))
 }
 
-/// Puts all lines that a source has, with a bar behind each, and counts the calls that failed.
+/// Adds all lines that a source has, with a bar after each, and counts the calls that failed.
 fn put_lines(
     buffer: &mut LineBuffer,
     source: &mut MemorySource,
@@ -53,7 +55,8 @@ const FOUR: &str = "first\nsecond\nthird\nfourth";
 
 const FOUR_LINES: &str = "first|second|third|fourth|";
 
-// Three bytes at a time the four lines take nine reads, the tenth finds the end of the last line, and the eleventh that there is no other.
+// Three bytes at a time, the four lines take nine reads. The tenth finds the end of the last line,
+// and the eleventh finds that there is no other line.
 static CASES: [Case<'static>; 16] = [
     ("", 1, None, "", 0),
     ("", 1, Some(0), "", 1),
@@ -126,7 +129,7 @@ static EVENTS: [(&'static str, u16, &'static str); 12] = [
     (r#"{"answer":"other","process":3}"#, 3, r#""other""#),
 ];
 
-/// The process of an event, and its call or its reply as it is written.
+/// The process of an event, and its call or its reply in its written form.
 fn process_and_words(alloc: Global, event: &StreamEvent) -> Result<(u16, String), Fail> {
     Ok(match event {
         StreamEvent::Invoke { process, call } => (
@@ -151,7 +154,7 @@ fn events_are_read_from_lines(rt: HostRuntime) -> Result<(), Fail> {
     Ok(())
 }
 
-/// A text with notes, and what is written of its history.
+/// A text with notes, and the text that is written of its history.
 const NOTED: &str =
     r#"{"version":3,"start":[],"events":[{"note":{"line":[7,null]},"process":0,"invoke":["insert",5,7]},
     {"process":0,"answer":"done","note":"12:00"},{"process":0,"invoke":["get",5],"note":1.5}]}"#;

@@ -1,4 +1,4 @@
-// Workers that meet at a gate: so many of them search side by side, and pass the caller's gate on their way.
+// Workers that meet at a gate: this many search side by side, and pass the caller's gate first.
 ghost use Rattle.std.specs.Prelude.{◌≤◌};
 
 use crate::gates::Rounds;
@@ -13,8 +13,8 @@ use std::process::Abort;
 use std::test::Fail;
 use std::thread::Threads;
 
-/// By so many workers, behind one gate, searches so many segments, and judges their history and its text. How many times a worker stood at
-/// the gate with as many as there are.
+/// Searches this many segments by this many workers with one gate, and judges their history and its
+/// text. Returns how many times a worker was at the gate together with all the others.
 fn met_behind<R: Threads + Sync + Abort>(
     rt: &R,
     alloc: Global,

@@ -38,7 +38,7 @@ fn judge_and_report(alloc: Global, history: &History, budget: u32) -> Result<Str
 fn histories_are_judged_by_one_thread(rt: HostRuntime) -> Result<(), Fail> {
     let yes = r#"{"order":[1,0,2],"verdict":"yes"}"#;
     assert!(rt; is_judged(rt.alloc(), TWO_KEYS, 1000, yes)?);
-    // The later no decides where the segment before it is spent.
+    // The segment before it is spent, so the later no decides.
     let no = r#"{"calls":[2],"hi":9,"lo":9,"verdict":"no"}"#;
     assert!(rt; is_judged(rt.alloc(), THREE_KEYS, 3, no)?);
     let undecided = r#"{"calls":[0,1],"hi":1,"lo":1,"verdict":"undecided"}"#;
@@ -83,7 +83,8 @@ fn segments_of(alloc: Global, text: &[u8]) -> Result<Vec<Segment>, Fail> {
     Ok(cut(alloc, &history)?)
 }
 
-/// Whether the first of three segments was spent, the second has no order, and the third that of call 3.
+/// Whether the first of three segments was spent, the second has no order, and the third has the
+/// order of call 3.
 fn are_spent_none_and_third(found: &[Found]) -> bool {
     match found {
         [Found::Spent, Found::NoOrder, Found::Order(order)] => order.as_slice() == [3].as_slice(),
@@ -106,7 +107,8 @@ fn each_segment_is_entered_once(rt: HostRuntime) -> Result<(), Fail> {
     Ok(())
 }
 
-/// The fewest and the most times that a segment of so many as there may be is entered by one thread.
+/// The fewest and the most times that one thread enters a segment, of as many segments as there may
+/// be.
 fn entered_alone<R: Abort>(
     rt: &R,
     alloc: Global,
@@ -117,7 +119,7 @@ fn entered_alone<R: Abort>(
     Ok(visits.fewest_and_most())
 }
 
-/// The same by so many workers.
+/// The fewest and the most times that this many workers enter a segment.
 fn entered_by_workers<R: Threads + Sync + Abort>(
     rt: &R,
     alloc: Global,

@@ -12,8 +12,9 @@ use recorder::Subject;
 use std::alloc::Global;
 use std::sync::{Mutex, Wait};
 
-/// A sorted map under a lock. It starts empty. A call is refused, and changes nothing, where memory was wanted or where
-/// a scan would list more than `MAX_PAIRS` pairs; so a get, a remove, a replace and an insert at a key that is there never are.
+/// A sorted map under a lock. It starts empty. A call is refused, and changes nothing, if memory
+/// runs out or if a scan would list more than `MAX_PAIRS` pairs. So a get, a remove, a replace, and
+/// an insert at a key with a value are never refused.
 #[derive(Drop)]
 pub struct LockedMap<'a, R: Wait> {
     rt: &'a R,
@@ -22,7 +23,7 @@ pub struct LockedMap<'a, R: Wait> {
 }
 
 impl<'a, R: Wait> LockedMap<'a, R> {
-    /// The empty map.
+    /// Returns the empty map.
     pub fn new(rt: &'a R, alloc: Global) -> LockedMap<'a, R> {
         let map = Mutex::new(SortedMap::new(alloc));
         LockedMap { rt, alloc, map }
@@ -58,14 +59,15 @@ fn answer(alloc: Global, map: &mut SortedMap, call: &Call) -> Reply
     reply
 }
 
-/// Its keys rise, by which a map is made: it costs nothing.
+/// Shows that the keys of the map rise, by looking at its pairs. It costs nothing.
 fn are_rising(map: &SortedMap)
     ensures { IsRising map.now }
 {
     let _pairs = map.pairs();
 }
 
-/// The reply, or that the call is refused where it lists too many pairs: only a scan's does, which changes nothing.
+/// Returns the reply, or a refusal if it lists too many pairs. Only a scan's reply can, and a scan
+/// changes nothing.
 fn within_limit(reply: Reply) -> Reply
     ensures short { pair_count result ≤ pair_limit }
     ensures same { pair_count reply ≤ pair_limit → result ≡ reply }

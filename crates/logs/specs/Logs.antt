@@ -6,12 +6,12 @@ use Rattle.events.specs.declared.event.Event.{Event}
 abbrev pub Stamped : Type 0
 Stamped = ℕ × Event
 
--- before the first event that is not stamped lower
+-- the list with the event inserted before the first one whose stamp is not lower
 abbrev pub placed : Stamped → List Stamped → List Stamped
 placed e [] = e ∷ []
 placed e (f ∷ fs) = if nat_le e.0 f.0 then e ∷ f ∷ fs else f ∷ placed e fs
 
--- the same events, by rising stamp
+-- these events, sorted by stamp
 abbrev pub by_stamp : List Stamped → List Stamped
 by_stamp [] = []
 by_stamp (e ∷ es) = placed e (by_stamp es)

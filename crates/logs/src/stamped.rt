@@ -7,8 +7,9 @@ ghost use Rattle.logs.specs.Logs.{events_by_stamp};
 use events::{Event, History, Memory};
 use std::alloc::Global;
 
-/// The history of stamped events, where the map holds these pairs at the start: the events by rising stamp, and those
-/// of one stamp in the order in which they stand. For n events it takes time n log n. `Err` is want of memory.
+/// Returns the history of stamped events from these pairs at the start. The events are sorted by
+/// stamp, and events with one stamp stay in their order. For n events it takes time n log n. It
+/// returns `Err` if memory runs out.
 pub fn history_by_stamp(
     alloc: Global,
     start: Vec<(u64, u64)>,
@@ -24,7 +25,7 @@ pub fn history_by_stamp(
     History::with_calls(alloc, start, events)
 }
 
-/// The events in the same order.
+/// Returns the events without their stamps, in the same order.
 fn without_stamps(alloc: Global, stamped: Vec<(u64, Event)>) -> Result<Vec<Event>, Memory>
     ensures { IfOk result (λ events. events.items ≡ map (λ e. e.1) stamped.items) }
 {
@@ -32,7 +33,7 @@ fn without_stamps(alloc: Global, stamped: Vec<(u64, Event)>) -> Result<Vec<Event
     Ok(events)
 }
 
-/// Copies a log's events behind others. `Err` is want of memory.
+/// Appends copies of a log's events to others. It returns `Err` if memory runs out.
 pub fn append_log(
     alloc: Global,
     stamped: &mut Vec<(u64, Event)>,

@@ -34,12 +34,12 @@ within low high m = filter (λ pair. nat_le low pair.0 && nat_le pair.0 high) m
 abbrev pub put : ℕ → ℕ → Contents → Contents
 put key value m = below key m ++ (key, value) ∷ above key m
 
--- whether a value or none is this value
+-- whether there is a value and it is this one
 abbrev pub is_just : Option ℕ → ℕ → Bool
 is_just None value = false
 is_just (Some found) value = found == value
 
--- a value or none, as a reply
+-- a value, or none, as a reply
 abbrev pub value_reply : Option ℕ → Reply
 value_reply None = replies.None
 value_reply (Some value) = replies.Some value
@@ -60,12 +60,12 @@ after m (Remove key) = below key m ++ above key m
 after m (Scan low high) = m
 after m (Replace key expected value) = if is_just (value_at m key) expected then put key value m else m
 
--- the pairs after a call that was answered so: a refused call changes nothing
+-- the pairs after a call with this answer; a refused call changes nothing
 abbrev pub after_reply : Contents → Call → Reply → Contents
 after_reply m call replies.Refused = m
 after_reply m call reply = after m call
 
--- whether a whole answer is a value, and so not that there is none, nor a list
+-- whether a complete answer is a value; a list is not one
 abbrev pub is_value : Reply → Bool
 is_value replies.None = false
 is_value (replies.Some value) = true
@@ -75,7 +75,7 @@ is_value replies.Done = false
 is_value replies.Found = false
 is_value replies.Other = false
 
--- whether a whole answer is none, or another value than this one
+-- whether a complete answer is none, or another value than this one
 abbrev pub is_none_or_other : ℕ → Reply → Bool
 is_none_or_other expected replies.None = true
 is_none_or_other expected (replies.Some value) = not (value == expected)
@@ -85,7 +85,7 @@ is_none_or_other expected replies.Done = false
 is_none_or_other expected replies.Found = false
 is_none_or_other expected replies.Other = false
 
--- whether a whole answer says that a replace did not find the value that it expects
+-- whether a complete answer says that a replace did not find the expected value
 abbrev pub misses : Call → Reply → Bool
 misses (Get key) whole = false
 misses (Insert key value) whole = false
@@ -93,14 +93,15 @@ misses (Remove key) whole = false
 misses (Scan low high) whole = false
 misses (Replace key expected value) whole = is_none_or_other expected whole
 
--- a reply tells of the whole answer all, or less: only that the call was done, that it found a value, or that it did not find the expected one
+-- a reply says all that the complete answer says, or a part of it: that the call was done, that it
+-- found a value, or that it did not find the expected one
 abbrev pub TellsOf : Call → Reply → Reply → Type 0
 TellsOf call whole replies.Done = ⊤
 TellsOf call whole replies.Found = IsTrue (is_value whole)
 TellsOf call whole replies.Other = IsTrue (misses call whole)
 TellsOf call whole reply = reply ≡ whole
 
--- a reply is legal where it is `refused`, at any call, or tells of the answer that the map gives
+-- a reply is legal if it is `refused`, or if it says all or a part of the answer that the map gives
 abbrev pub IsLegalReply : Contents → Call → Reply → Type 0
 IsLegalReply m call reply = (reply ≡ replies.Refused) ⊎ TellsOf call (reply_to m call) reply
 

@@ -4,7 +4,7 @@ use Rattle.events.specs.declared.event.Call.{Call}
 use Rattle.events.specs.declared.event.Call.TheVariants.{Get, Insert, Remove, Scan, Replace}
 use Rattle.map_object.specs.MapObject.{Contents, value_at}
 
--- the call takes memory of its own: an insert at a key that is not there, and a scan
+-- the call takes memory of its own: a scan, and an insert at a key without a value
 abbrev pub TakesMemory : Contents → Call → Type 0
 TakesMemory m (Get key) = ⊥
 TakesMemory m (Insert key value) = value_at m key ≡ None

@@ -1,5 +1,5 @@
-//! The sequential object: an ordered map from `u64` to `u64`, kept as pairs sorted by key. What it
-//! answers, and which pairs a call leaves, stands in `specs/MapObject`.
+//! The sequential object: an ordered map from `u64` to `u64`, stored as pairs sorted by key.
+//! `specs/MapObject` says what the map answers, and which pairs a call leaves.
 #![tactic(auto)]
 
 mod replies;

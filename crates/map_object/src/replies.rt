@@ -5,7 +5,7 @@ ghost use Rattle.events.specs.declared.event.Reply.TheVariants as replies;
 
 use events::Reply;
 
-/// A value or none, as a reply.
+/// Returns a value, or none, as a reply.
 pub fn value_reply(value: Option<u64>) -> Reply
     ensures { result ≡ value_reply value }
 {
@@ -15,7 +15,7 @@ pub fn value_reply(value: Option<u64>) -> Reply
     }
 }
 
-/// Whether a reply is this value or none.
+/// Returns whether a reply is this value, or none if there is no value.
 pub fn is_value(reply: &Reply, value: Option<u64>) -> bool
     ensures { IsTrue result ↔ (reply.now ≡ value_reply value) }
 {
@@ -26,7 +26,7 @@ pub fn is_value(reply: &Reply, value: Option<u64>) -> bool
     }
 }
 
-/// Whether a reply lists exactly these pairs.
+/// Returns whether a reply lists exactly these pairs.
 pub fn is_list(reply: &Reply, pairs: &[(u64, u64)]) -> bool
     ensures { IsTrue result ↔ (reply.now ≡ replies.Pairs pairs.now) }
 {

@@ -38,7 +38,7 @@ impl Model for SortedMap {
 }
 
 impl SortedMap {
-    /// The empty map. It takes no memory.
+    /// Returns the empty map. It takes no memory.
     pub fn new(alloc: Global) -> SortedMap
         ensures { result ≡ [] }
     {
@@ -47,7 +47,7 @@ impl SortedMap {
         }
     }
 
-    /// The map of these pairs, whose keys rise. They are copied.
+    /// Returns the map of these pairs, whose keys rise. They are copied.
     pub fn of(alloc: Global, pairs: &[(u64, u64)]) -> Result<SortedMap, Memory>
         requires { IsRising pairs.now }
         ensures { IfOk result (λ m. m ≡ pairs.now) }
@@ -56,7 +56,7 @@ impl SortedMap {
         Ok(SortedMap { pairs })
     }
 
-    /// The pairs of a key and a value, by rising key.
+    /// Returns the pairs of a key and a value, by rising key.
     pub fn pairs(&self) -> &[(u64, u64)]
         ensures pairs { result.now ≡ self.now }
         ensures rising { IsRising self.now }
@@ -64,7 +64,7 @@ impl SortedMap {
         self.pairs.as_slice()
     }
 
-    /// The same map again.
+    /// Copies the map.
     pub fn copy(&self, alloc: Global) -> Result<SortedMap, Memory>
         ensures { IfOk result (λ m. m ≡ self.now) }
     {
@@ -72,7 +72,7 @@ impl SortedMap {
         Ok(SortedMap { pairs })
     }
 
-    /// The value at a key, found by halves.
+    /// Returns the value at a key, found by binary search.
     pub fn value(&self, key: u64) -> Option<u64>
         ensures value { result ≡ value_at self.now key }
         ensures rising { IsRising self.now }
@@ -83,9 +83,9 @@ impl SortedMap {
         }
     }
 
-    /// Does the call and answers it, never by `Refused`. On `Memory`, which only a scan or an insert at a new key can
-    /// answer, nothing has changed. Each call searches by halves; an insert and a remove also move the
-    /// pairs above the key, and a scan copies those that it lists.
+    /// Does the call and answers it, never by `Refused`. On `Memory` nothing has changed; only a
+    /// scan or an insert at a new key can answer it. Each call makes a binary search. An insert and
+    /// a remove also move the pairs above the key, and a scan copies the pairs that it lists.
     pub fn step(&mut self, alloc: Global, call: &Call) -> Result<Reply, Memory>
         ensures reply { IfOk result (λ reply. reply ≡ reply_to self.old call.now) }
         ensures after { OnOk result (self.new ≡ after self.old call.now) }
@@ -106,8 +106,9 @@ impl SortedMap {
         }
     }
 
-    /// Whether the reply is legal at this call: `Refused` and `Done` always are, and else only what tells of the answer that
-    /// the map would give. It takes no memory, and compares the pairs of a scan one by one.
+    /// Returns whether the reply is legal for this call. `Refused` and `Done` always are. Any other
+    /// reply has to agree with the answer that the map would give. It takes no memory, and compares
+    /// the pairs of a scan one by one.
     pub fn fits(&self, call: &Call, reply: &Reply) -> bool
         ensures { IsTrue result ↔ IsLegalReply self.now call.now reply.now }
     {
@@ -119,7 +120,7 @@ impl SortedMap {
         }
     }
 
-    /// Whether the reply is the whole answer to the call.
+    /// Returns whether the reply is the complete answer to the call.
     fn gives(&self, call: &Call, reply: &Reply) -> bool
         ensures { IsTrue result ↔ (reply.now ≡ reply_to self.now call.now) }
     {
@@ -130,7 +131,7 @@ impl SortedMap {
         }
     }
 
-    /// Whether the call finds a value. A scan finds a list.
+    /// Returns whether the call finds a value. A scan finds a list.
     fn finds_value(&self, call: &Call) -> bool
         ensures { result ≡ is_value (reply_to self.now call.now) }
     {
@@ -141,7 +142,8 @@ impl SortedMap {
         }
     }
 
-    /// Whether the call is a replace that finds another value than the one that it expects, or none.
+    /// Returns whether the call is a replace that finds another value than the expected one, or
+    /// none.
     fn finds_other(&self, call: &Call) -> bool
         ensures { result ≡ misses call.now (reply_to self.now call.now) }
     {
@@ -186,7 +188,8 @@ impl SortedMap {
         }
     }
 
-    /// Puts the replacement at the key where the expected value is there, and gives the value that was there.
+    /// Stores the replacement at the key if the expected value is there. Returns the value that was
+    /// there.
     fn replace(&mut self, key: u64, expected: u64, replacement: u64) -> Option<u64>
         ensures old { result ≡ value_at self.old key }
         ensures after { self.new ≡ after self.old (Replace key expected replacement) }
@@ -203,7 +206,8 @@ impl SortedMap {
         }
     }
 
-    /// The pairs from the first key to the last, both included: none where the first is the greater.
+    /// Returns the pairs from the first key to the last, both included. There are none if the first
+    /// key is the greater one.
     fn range(&self, low: u64, high: u64) -> &[(u64, u64)]
         ensures { result.now ≡ within low high self.now }
     {
@@ -213,7 +217,7 @@ impl SortedMap {
         &rest[..count]
     }
 
-    /// Where the key is, or where it would go.
+    /// Returns the place of the key, or the place at which it would be inserted.
     fn place(&self, key: u64) -> Result<usize, usize>
         ensures found { IfOk result (IsAt self.now key) }
         ensures absent { IfErr result (IsGapFor self.now key) }

@@ -1,4 +1,5 @@
--- The digest of a configuration: a sum modulo 2^64, so one more call or another pair changes it by what it mixes.
+-- The digest of a configuration is a sum modulo 2^64. So one more call, or another pair, changes it
+-- by its own mixed number.
 use Rattle.std.specs.Prelude.{◌≡◌, ℕ, ◌+◌, ◌*◌, ◌/◌, ◌%◌, ◌^◌, bit_xor, List, Option, Some, None}
 use Rattle.std.specs.List.{sum_by}
 use Rattle.configurations.specs.Configurations.{Configuration}
@@ -15,7 +16,7 @@ mix_place place = mix (place + 1)
 abbrev pub mix_pair : ℕ × ℕ → ℕ
 mix_pair pair = mix (mix pair.0 + pair.1)
 
--- what a key with a value or none adds
+-- what a key with a value adds; without a value it adds 0
 abbrev pub mix_value : ℕ → Option ℕ → ℕ
 mix_value key None = 0
 mix_value key (Some value) = mix_pair (key, value)

@@ -1,4 +1,4 @@
--- When two configurations are the same, as a test, with the proof that the test tells exactly this.
+-- A test whether two configurations are the same, with the proof that it decides exactly that.
 use Rattle.std.specs.Prelude.{◌≡◌, ℕ, Bool, true, ◌==◌, ◌&&◌}
 use Rattle.std.specs.Bool.{Decides}
 use Rattle.std.specs.Cmp.{IsEquivalence, decided, unsigned_Decides}
@@ -13,7 +13,7 @@ use Rattle.configurations.proofs.ConfigurationLemmas.{same_configuration}
 abbrev pub is_same_pair : ℕ × ℕ → ℕ × ℕ → Bool
 is_same_pair a b = a.0 == b.0 && a.1 == b.1
 
--- two configurations have the same calls taken and hold the same pairs
+-- whether two configurations have the same calls taken and hold the same pairs
 abbrev pub is_same : Configuration → Configuration → Bool
 is_same a b = pointwise ◌==◌ a.taken b.taken && pointwise is_same_pair a.pairs b.pairs
 
@@ -21,13 +21,13 @@ is_same a b = pointwise ◌==◌ a.taken b.taken && pointwise is_same_pair a.pai
 abbrev pair_of : ℕ → ℕ → ℕ × ℕ
 pair_of key value = (key, value)
 
--- pairs are the same where their keys and their values are
+-- two pairs are the same if their keys and their values are
 pub Decides-is_same_pair : (a b : ℕ × ℕ) → Decides (is_same_pair a b) (a ≡ b)
 Decides-is_same_pair a b =
     Decides-like (is_same_pair a b) (λ e. ap₂ pair_of e.0 e.1) (λ e. (ap (λ (p : ℕ × ℕ). p.0) e, ap (λ (p : ℕ × ℕ). p.1) e))
     (Decides-and (a.0 == b.0) (a.1 == b.1) (unsigned_Decides a.0 b.0) (unsigned_Decides a.1 b.1))
 
--- configurations are the same where their calls taken and their pairs are
+-- two configurations are the same if their calls taken and their pairs are
 pub Decides-is_same : (a b : Configuration) → Decides (is_same a b) (a ≡ b)
 Decides-is_same a b =
     Decides-like (is_same a b) (λ e. same_configuration a b e.0 e.1)
@@ -40,6 +40,6 @@ Decides-is_same a b =
 pub is_same-equivalence : IsEquivalence is_same
 is_same-equivalence = decided is_same Decides-is_same
 
--- configurations that are the same have the same digest, so what is fed of it is the same
+-- configurations that are the same have the same digest, so a hasher is fed the same
 pub same_digest : {X : Type 0} (f : ℕ → X) (a b : Configuration) → is_same a b ≡ true → f (digest_of a) ≡ f (digest_of b)
 same_digest f a b same = ap (λ (c : Configuration). f (digest_of c)) ((Decides-is_same a b).0 same)

@@ -1,4 +1,4 @@
--- A configuration as a memo keeps it: what differs from the start of the search.
+-- How a memo stores a configuration: by its differences from the start of the search.
 use Rattle.std.specs.Prelude.{◌≡◌, ℕ, Bool, true, ◌==◌, ◌&&◌, List}
 use Rattle.std.specs.Bool.{Decides}
 use Rattle.std.specs.Cmp.{IsEquivalence, decided, unsigned_Decides}
@@ -11,38 +11,39 @@ use Rattle.memo.specs.Digest.{HasDigest}
 use Rattle.memo.specs.Differences.{IsDifference, pairs_from}
 use Rattle.memo.specs.Equality.{is_same_pair, Decides-is_same_pair}
 
--- the calls taken, the pairs that are not so at the start, those at the start whose keys have no value now, and the digest
+-- the calls taken, the pairs that are not among those at the start, the pairs at the start whose
+-- keys have no value now, and the digest
 pub record Kept : Type 0 where
   pub taken : List ℕ
   pub put : Contents
   pub gone : Contents
   pub digest : ℕ
 
--- the configuration that is kept so
+-- the configuration that is stored so
 abbrev pub configuration_from : Contents → Kept → Configuration
 configuration_from start kept = record { taken = kept.taken; pairs = pairs_from start kept.put kept.gone }
 
--- a configuration is kept in its only form
+-- a configuration is stored in its only form
 pub record IsKept (start : Contents) (kept : Kept) : Type 0 where
   pub difference : IsDifference start (pairs_from start kept.put kept.gone) kept.put kept.gone
   pub digest : HasDigest kept.taken (pairs_from start kept.put kept.gone) kept.digest
 
--- two are kept in the same form
+-- whether two stored forms are the same
 abbrev pub is_kept_same : Kept → Kept → Bool
 is_kept_same a b =
     a.digest == b.digest && (pointwise ◌==◌ a.taken b.taken && (pointwise is_same_pair a.put b.put && pointwise is_same_pair a.gone b.gone))
 
--- what is kept, by its parts
+-- a stored form, by its parts
 abbrev pub kept_of : List ℕ → Contents → Contents → ℕ → Kept
 kept_of taken put gone digest = record { taken = taken; put = put; gone = gone; digest = digest }
 
--- what is kept with the same parts is the same
+-- stored forms with the same parts are the same
 pub same_kept : (a b : Kept) → (a.digest ≡ b.digest) × ((a.taken ≡ b.taken) × ((a.put ≡ b.put) × (a.gone ≡ b.gone))) → a ≡ b
 same_kept a b h =
     ap (λ t. kept_of t a.put a.gone a.digest) h.1.0 ∙ ap (λ p. kept_of b.taken p a.gone a.digest) h.1.1.0
     ∙ ap (λ g. kept_of b.taken b.put g a.digest) h.1.1.1 ∙ ap (λ d. kept_of b.taken b.put b.gone d) h.0
 
--- the test tells exactly this
+-- the test decides exactly that
 pub Decides-is_kept_same : (a b : Kept) → Decides (is_kept_same a b) (a ≡ b)
 Decides-is_kept_same a b =
     Decides-like (is_kept_same a b) (same_kept a b)
@@ -59,6 +60,6 @@ Decides-is_kept_same a b =
 pub is_kept_same-equivalence : IsEquivalence is_kept_same
 is_kept_same-equivalence = decided is_kept_same Decides-is_kept_same
 
--- the same has the same digest, so what is fed of it is the same
+-- stored forms that are the same have the same digest, so a hasher is fed the same
 pub same_kept_digest : {X : Type 0} (f : ℕ → X) (a b : Kept) → is_kept_same a b ≡ true → f a.digest ≡ f b.digest
 same_kept_digest f a b same = ap (λ (k : Kept). f k.digest) ((Decides-is_kept_same a b).0 same)

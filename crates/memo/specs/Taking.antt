@@ -5,11 +5,12 @@ use Rattle.map_object.specs.MapObject.{Contents}
 use Rattle.orders.specs.Orders.{after_call}
 use Rattle.configurations.specs.Configurations.{Configuration}
 
--- a rising list of places with one more: those below it, the place, and those above it
+-- a rising list of places with one more place inserted: those below it, then it, then those above
+-- it
 abbrev pub with_place : List ℕ → ℕ → List ℕ
 with_place taken place = filter (λ n. nat_lt n place) taken ++ place ∷ filter (λ n. nat_lt place n) taken
 
--- the configuration after one more call, the one at a place, which leaves these pairs
+-- the configuration after one more call: the call at a place, which leaves these pairs
 abbrev pub after_one : Configuration → ℕ → Contents → Configuration
 after_one c place pairs = record { taken = with_place c.taken place; pairs = pairs }
 

@@ -1,4 +1,4 @@
-// Pairs by rising key, and what differs in them from those at the start of a search.
+// Pairs by rising key, and their differences from the pairs at the start of a search.
 ghost use Rattle.std.specs.Prelude.{◌≡◌, ◌≤◌, length, take, drop, filter, is_none, IfOk, IfErr};
 ghost use Rattle.map_object.specs.MapObject.{IsRising, value_at, below, above};
 ghost use Rattle.map_object.specs.Places.{IsAt, IsGapFor};
@@ -7,7 +7,8 @@ ghost use Rattle.memo.specs.Differences.{with_value, value_put, value_gone, valu
 use events::Memory;
 use std::alloc::Global;
 
-/// Where the key is, or where it would go, found by halves.
+/// Returns the place of the key, or the place at which it would be inserted. It makes a binary
+/// search.
 fn place(pairs: &[(u64, u64)], key: u64) -> Result<usize, usize>
     requires { IsRising pairs.now }
     ensures found { IfOk result (IsAt pairs.now key) }
@@ -16,7 +17,7 @@ fn place(pairs: &[(u64, u64)], key: u64) -> Result<usize, usize>
     pairs.binary_search_by_key(&key, |pair| pair.0)
 }
 
-/// The value at a key.
+/// Returns the value at a key.
 pub(crate) fn value_at(pairs: &[(u64, u64)], key: u64) -> Option<u64>
     requires { IsRising pairs.now }
     ensures { result ≡ value_at pairs.now key }
@@ -27,7 +28,7 @@ pub(crate) fn value_at(pairs: &[(u64, u64)], key: u64) -> Option<u64>
     }
 }
 
-/// How many pairs are below a key, and how many are not above it.
+/// Returns how many pairs are below a key, and how many are below it or at it.
 fn around(pairs: &[(u64, u64)], key: u64) -> (usize, usize)
     requires { IsRising pairs.now }
     ensures within { (result.0 ≤ result.1) × (result.1 ≤ length pairs.now) }
@@ -40,7 +41,7 @@ fn around(pairs: &[(u64, u64)], key: u64) -> (usize, usize)
     }
 }
 
-/// The pairs with a value or none at a key.
+/// Returns the pairs with this value, or none, at a key.
 pub(crate) fn with_value(
     alloc: Global,
     pairs: &[(u64, u64)],
@@ -65,7 +66,7 @@ pub(crate) fn with_value(
     Ok(put)
 }
 
-/// The value, where it is not the one at the start.
+/// Returns the value, if it is not the one at the start.
 pub(crate) fn value_put(first: Option<u64>, value: Option<u64>) -> Option<u64>
     ensures { result ≡ value_put first value }
 {
@@ -75,7 +76,7 @@ pub(crate) fn value_put(first: Option<u64>, value: Option<u64>) -> Option<u64>
     }
 }
 
-/// The value at the start, where there is none now.
+/// Returns the value at the start, if there is none now.
 pub(crate) fn value_gone(first: Option<u64>, value: Option<u64>) -> Option<u64>
     ensures { result ≡ value_gone first value }
 {
@@ -85,7 +86,8 @@ pub(crate) fn value_gone(first: Option<u64>, value: Option<u64>) -> Option<u64>
     }
 }
 
-/// The value of a key, from its value at the start, the one put and the one gone.
+/// Returns the value of a key, from its value at the start, the value that was put, and the value
+/// that is gone.
 pub(crate) fn value_from(first: Option<u64>, put: Option<u64>, gone: Option<u64>) -> Option<u64>
     ensures { result ≡ value_from first put gone }
 {

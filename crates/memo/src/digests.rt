@@ -6,7 +6,8 @@ ghost use Rattle.memo.specs.Digest.{mix, mix_pair, mix_value};
 /// An odd number near 2^64 divided by the golden ratio: Knuth's multiplicative hashing.
 const MULTIPLIER: u64 = 11400714819323198485;
 
-/// Mixes a number, so that sums of mixed numbers tell most lists apart. It costs a multiplication.
+/// Mixes a number, so that most lists have different sums of mixed numbers. It costs one
+/// multiplication.
 pub fn mix(number: u64) -> u64
     ensures { result ≡ mix number }
 {
@@ -21,7 +22,7 @@ pub(crate) fn mix_pair(pair: (u64, u64)) -> u64
     mix(mix(pair.0).wrapping_add(pair.1))
 }
 
-/// Mixes a key with its value: 0 where it has none.
+/// Mixes a key with its value, or returns 0 if it has none.
 pub fn mix_value(key: u64, value: Option<u64>) -> u64
     ensures { result ≡ mix_value key value }
 {
@@ -31,7 +32,7 @@ pub fn mix_value(key: u64, value: Option<u64>) -> u64
     }
 }
 
-/// What pairs add to a digest.
+/// Returns what pairs add to a digest.
 pub(crate) fn sum_of(pairs: &[(u64, u64)]) -> u64
     ensures { result ≡ sum_by mix_pair pairs.now % 2 ^ 64 }
 {

@@ -1,5 +1,5 @@
-//! Configurations of a search, and the memo that finds whether one is new: Lowe 2017. Other searches
-//! use its sets of places and its digests too.
+//! Configurations of a search, and the memo that finds whether one is new: Lowe 2017. Other
+//! searches use its sets of places and its digests too.
 //!
 //! The definitions of `configurations` say what a configuration is, and which are reachable.
 #![tactic(auto)]

@@ -158,8 +158,8 @@ fn insert(visited: &mut IndexSet<Form>, form: Form) -> Result<bool, Form>
     }
 }
 
-/// Returns whether a form over the other pairs can be added as it is: those visited are over the
-/// same pairs, or there are none.
+/// Returns whether a form over the other pairs can be added as it is: the visited forms are over
+/// the same pairs, or no form was visited.
 fn may_share(visited: &IndexSet<Form>, base: &Base, other: &Base) -> bool
     ensures { IsTrue result ↔ ((visited.now.keys ≡ []) ⊎ (base.now ≡ other.now)) }
 {

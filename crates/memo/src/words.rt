@@ -7,7 +7,7 @@ ghost use Rattle.memo.specs.Words.{bit_of, IsTrimmed, AreWords, shifted_word};
 use events::Memory;
 use std::alloc::Global;
 
-/// The word at a place, 0 past the last one.
+/// Returns the word at a place, or 0 after the last one.
 fn word_at(words: &[u64], at: usize) -> u64
     ensures { result ≡ slice_index words.now at }
 {
@@ -17,14 +17,14 @@ fn word_at(words: &[u64], at: usize) -> u64
     }
 }
 
-/// Whether a bit is set.
+/// Returns whether a bit is set.
 pub(crate) fn is_set(words: &[u64], bit: usize) -> bool
     ensures { IsTrue result ↔ (bit_of words.now bit ≡ 1) }
 {
     (word_at(words, bit / 64) >> (bit % 64)) % 2 == 1
 }
 
-/// The words with one more bit set.
+/// Returns the words with one more bit set.
 pub(crate) fn with_bit(alloc: Global, words: &[u64], bit: usize) -> Result<Vec<u64>, Memory>
     requires { IsTrimmed words.now }
     ensures set { IfOk result (λ v. bit_of v.items bit ≡ 1) }
@@ -40,7 +40,8 @@ pub(crate) fn with_bit(alloc: Global, words: &[u64], bit: usize) -> Result<Vec<u
     Ok(set)
 }
 
-/// How many bits from the lowest on are set: whole words, and bits of the next word.
+/// Returns how many bits are set from the lowest bit up to the first one that is not: whole words,
+/// and bits of the next word.
 pub(crate) fn ones_of(words: &[u64]) -> (usize, u32)
     ensures words { result.0 ≤ length words.now }
     ensures bits { result.1 < 64 }
@@ -54,7 +55,7 @@ pub(crate) fn ones_of(words: &[u64]) -> (usize, u32)
     (full, word_at(words, full).trailing_ones())
 }
 
-/// The words without their lowest bits: some, and the one after them.
+/// Returns the words without their lowest `count + 1` bits.
 pub(crate) fn without_lowest(alloc: Global, words: &[u64], count: u32) -> Result<Vec<u64>, Memory>
     requires { count < 64 }
     ensures bits { IfOk result (λ v. (n : ℕ) → bit_of v.items n ≡ bit_of words.now (n + (count + 1))) }
@@ -65,7 +66,7 @@ pub(crate) fn without_lowest(alloc: Global, words: &[u64], count: u32) -> Result
     Ok(without_zeros(moved))
 }
 
-/// The words, with each bit moved down by one more place than `count`.
+/// Returns the words, with each bit moved down by `count + 1` places.
 fn shift_down(alloc: Global, words: &[u64], count: u32) -> Result<Vec<u64>, Memory>
     requires { count < 64 }
     ensures { IfOk result (λ v. v.items ≡ map (shifted_word words.now count) (range_with_len 0 (length words.now))) }
@@ -78,7 +79,7 @@ fn shift_down(alloc: Global, words: &[u64], count: u32) -> Result<Vec<u64>, Memo
     Ok(moved)
 }
 
-/// The words without those at the end that are 0.
+/// Returns the words without the zeros at the end.
 fn without_zeros(words: Vec<u64>) -> Vec<u64>
     ensures bits { (n : ℕ) → bit_of result.items n ≡ bit_of words.items n }
     ensures trimmed { IsTrimmed result.items }

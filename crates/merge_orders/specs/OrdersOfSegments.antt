@@ -7,11 +7,11 @@ use Rattle.segments.specs.SegmentView.{SegmentView}
 use Rattle.segments.specs.Segments.{AreSegments}
 use Rattle.segments.specs.SegmentOrders.{IsOrderOf}
 
--- one order for each segment of the calls, by rising key, and none where there is no segment
+-- one order for each segment of the calls, by rising key; no order if there is no segment
 abbrev pub AreOrdersOfSegments : Contents → List Operation → List (List ℕ) → Type 0
 AreOrdersOfSegments start calls orders = (segments : List SegmentView) × AreSegments start calls segments × AllZip IsOrderOf segments orders
 
--- the orders name calls, each of them once, and no call is in two of them
+-- the orders name only calls, each at most once, and no call is in two of them
 pub record NameCallsOnce (calls : List Operation) (orders : List (List ℕ)) : Type 0 where
   pub known : All (λ order. All (λ n. n < length calls) order) orders
   pub distinct : All (AllPairs (λ m n. m ≢ n)) orders

@@ -8,6 +8,6 @@ use Rattle.merge_orders.specs.declared.points.CallAtPoint.{CallAtPoint}
 abbrev pub at_point_in : List Operation → List ℕ → ℕ → CallAtPoint
 at_point_in calls order n = record { point = point_in calls order n; number = n }
 
--- a call with its point, where each call stands in one of the orders
+-- a call with its point, if each call is in one of the orders
 abbrev pub at_point : List Operation → List (List ℕ) → ℕ → CallAtPoint
 at_point calls orders n = record { point = point_of calls orders n; number = n }

@@ -1,5 +1,6 @@
-//! The merge: orders of a history's segments become one order of the whole history. Each call has a point,
-//! the greatest place of an invocation up to it in its order, and the merged order goes by these points.
+//! The merge: orders of a history's segments become one order of the whole history. The point of a
+//! call is the greatest place of an invocation up to it in its order. The merged order is sorted by
+//! these points.
 #![tactic(auto)]
 
 mod laws;

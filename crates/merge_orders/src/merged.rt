@@ -9,8 +9,9 @@ use crate::points::{calls_at_points, numbers_of};
 use events::{History, Memory};
 use std::alloc::Global;
 
-/// The merged order of the segments' orders: their calls by rising point, and those of one segment as its
-/// order has them. It is an order of the history. For n calls it takes time n log n. `Err` is want of memory.
+/// Merges the segments' orders: their calls by rising point, and calls of one segment in its order.
+/// The result is an order of the history. For n calls it takes time n log n. It returns `Err` if
+/// memory runs out.
 pub fn merge(alloc: Global, history: &History, orders: &[Vec<u32>]) -> Result<Vec<u32>, Memory>
     requires { AreOrdersOfSegments history.now.start (operations history.now.events)
         (map (λ v. v.items) orders.now) }

@@ -1,4 +1,4 @@
-// The points of calls, as they stand in the orders of the segments.
+// The points of calls in the orders of the segments.
 ghost use Rattle.std.specs.Prelude.{◌≡◌, ◌≢◌, ◌<◌, ◌++◌, map, length, All, AllPairs, IfOk, OnOk};
 ghost use Rattle.std.specs.List.{concat};
 ghost use Rattle.merge_orders.specs.OrdersOfSegments.{NameCallsOnce};
@@ -14,7 +14,7 @@ pub struct CallAtPoint {
     pub number: u32,
 }
 
-/// The calls of all orders with their points, one order after another.
+/// Returns the calls of all orders with their points, one order after another.
 pub fn calls_at_points(
     alloc: Global,
     calls: &[Operation],
@@ -52,7 +52,7 @@ fn push_order(
     Ok(())
 }
 
-/// The numbers of the calls.
+/// Returns the numbers of the calls.
 pub fn numbers_of(alloc: Global, calls: &[CallAtPoint]) -> Result<Vec<u32>, Memory>
     ensures { IfOk result (λ v. v.items ≡ map (λ c. c.number) calls.now) }
 {

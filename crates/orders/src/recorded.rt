@@ -7,8 +7,8 @@ use events::{Call, Memory, Operation, Reply};
 use map_object::SortedMap;
 use std::alloc::Global;
 
-/// Whether a call may come next at a map: a completed one only where the map gives it its recorded reply, and a
-/// pending one always.
+/// Returns whether a call may come next at a map. A completed call may only if the map gives it its
+/// recorded reply, and a pending one always may.
 pub fn may_come_next(map: &SortedMap, call: &Operation) -> bool
     ensures { IsTrue result ↔ IsLegalCall map.now call.now.call call.now.response }
 {
@@ -18,7 +18,7 @@ pub fn may_come_next(map: &SortedMap, call: &Operation) -> bool
     }
 }
 
-/// Does a call at a map: a refused one changes nothing. Nothing changes where memory is wanting.
+/// Does a call at a map. A refused call changes nothing, and nothing changes if memory runs out.
 pub fn apply(alloc: Global, map: &mut SortedMap, call: &Operation) -> Result<(), Memory>
     ensures ok { OnOk result (map.new ≡ after_call map.old call.now.call call.now.response) }
     ensures unchanged { OnErr result (map.new ≡ map.old) }
@@ -29,7 +29,7 @@ pub fn apply(alloc: Global, map: &mut SortedMap, call: &Operation) -> Result<(),
     Ok(())
 }
 
-/// Whether a call may change the map: not where it was refused, nor where it only reads.
+/// Returns whether a call may change the map. A call that was refused, or that only reads, may not.
 fn may_change(call: &Operation) -> bool
     ensures { (m : Contents) → after_call m call.now.call call.now.response
         ≡ (if result then after m call.now.call else m) }

@@ -1,4 +1,4 @@
--- Laws of what calls tell.
+-- Laws of the pairs that calls report.
 use Rattle.std.specs.Prelude.{◌≡◌, ◌⊎◌, ℕ, true, List, Contains}
 use Rattle.events.specs.declared.operation.Operation.{Operation}
 use Rattle.events.specs.Keys.{low_key}
@@ -11,20 +11,20 @@ use Rattle.origins.specs.External.{holds}
 use Rattle.origins.specs.Writers.{writes}
 use Rattle.origins.specs.Missed.{missed_by}
 
--- where calls have an order, each pair that their answers tell was there at the start, or one of
--- the calls puts it
+-- if calls have an order, each pair that they report was there at the start, or one of the calls
+-- puts it
 abbrev pub WhatIsToldWasPut : Type 0
 WhatIsToldWasPut =
     (start : Contents) (calls : List Operation) (pair : ℕ × ℕ) → IsRising start → IsLinearizable start calls → Contains (all_told calls) pair
     → (holds start pair ≡ true) ⊎ ((a : Operation) × Contains calls a × (writes pair a ≡ true))
 
--- where one of some calls misses another, they have no order
+-- if one of some calls misses another, they have no order
 abbrev pub MissedCallsRefute : Type 0
 MissedCallsRefute =
     (start : Contents) (calls : List Operation) (r b : Operation) → IsRising start → InvocationsRise calls → NonePrecedesItself calls
     → Contains calls r → Contains (missed_by r calls) b → IsLinearizable start calls → ⊥
 
--- of each key a call misses one at most
+-- at each key a call misses at most one call
 abbrev pub OneIsMissedAtAKey : Type 0
 OneIsMissedAtAKey =
     (calls : List Operation) (r a b : Operation) → Contains (missed_by r calls) a → Contains (missed_by r calls) b

@@ -1,4 +1,4 @@
--- The pairs of a key and a value that answers tell.
+-- The pairs of a key and a value that answers report.
 use Rattle.events.specs.declared.event.Reply.TheVariants as replies
 use Rattle.std.specs.Prelude.{ℕ, ◌==◌, if◌then◌else◌, List, [], ◌∷◌, ◌++◌, Option, Some, None}
 use Rattle.events.specs.declared.event.Call.{Call}
@@ -11,7 +11,7 @@ use Rattle.events.specs.Keys.{low_key, high_key}
 abbrev pub value_told : Call → ℕ → List (ℕ × ℕ)
 value_told call value = if low_key call == high_key call then (low_key call, value) ∷ [] else []
 
--- the pairs that an answer tells: those that it lists, or its value at the key of the call
+-- the pairs that an answer reports: those that it lists, or its value at the key of the call
 abbrev pub pairs_told : Call → Reply → List (ℕ × ℕ)
 pairs_told call replies.None = []
 pairs_told call (replies.Some value) = value_told call value
@@ -21,12 +21,12 @@ pairs_told call replies.Done = []
 pairs_told call replies.Found = []
 pairs_told call replies.Other = []
 
--- those that a call tells: none where it has no answer
+-- the pairs that a call reports; none if it has no answer
 abbrev pub told_by : Call → Option Response → List (ℕ × ℕ)
 told_by call None = []
 told_by call (Some response) = pairs_told call response.reply
 
--- those that calls tell, one call after another
+-- the pairs that calls report, one call after another
 abbrev pub all_told : List Operation → List (ℕ × ℕ)
 all_told [] = []
 all_told (a ∷ calls) = told_by a.call a.response ++ all_told calls

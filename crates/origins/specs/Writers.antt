@@ -20,7 +20,7 @@ expects_other (Scan low high) found = false
 expects_other (Replace key expected value) found = not (expected == found)
 
 -- whether an answer says that the call was not done: it was refused, or a replace did not find the
--- value that it expects
+-- expected value
 abbrev pub says_undone : Call → Reply → Bool
 says_undone call replies.None = is_replace call
 says_undone call (replies.Some found) = expects_other call found
@@ -39,6 +39,6 @@ is_undone call (Some response) = says_undone call response.reply
 abbrev pub writes : ℕ × ℕ → Operation → Bool
 writes pair a = low_key a.call == pair.0 && (is_put (put_by a.call) pair.1 && not (is_undone a.call a.response))
 
--- those of some calls that do
+-- the calls that put this value at this key
 abbrev pub writers_of : ℕ × ℕ → List Operation → List Operation
 writers_of pair calls = filter (writes pair) calls

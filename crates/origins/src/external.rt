@@ -1,4 +1,4 @@
-// Which of the pairs that calls tell come from outside of them.
+// Which of the pairs that calls report come from outside of them.
 ghost use Rattle.std.specs.Prelude.{◌≡◌, ◌↔◌, ℕ, not, filter, AllPairs, Contains, IfOk};
 ghost use Rattle.std.specs.List.{list_any};
 ghost use Rattle.origins.specs.External.{is_put, may_put, may_change, is_internal, IsBelow, AreExternal};
@@ -10,10 +10,10 @@ use explaining::put_of;
 use map_object::SortedMap;
 use std::alloc::Global;
 
-/// The pairs of a key and a value that answers of the calls tell, and that come from outside: none
-/// of the calls may put them, and the map does not hold them at the start, or one of the calls may
-/// change their key. Each once, by rising key, and of one key by rising value. Each pair that is
-/// told is compared with each of the calls.
+/// Returns the pairs of a key and a value that the calls report, and that come from outside. None
+/// of the calls may put such a pair. Either the map does not hold it at the start, or one of the
+/// calls may change its key. Each pair is listed once, by rising key, and at one key by rising
+/// value. Each pair reported is compared with each call.
 pub fn external_pairs(
     alloc: Global,
     start: &SortedMap,
@@ -25,7 +25,7 @@ pub fn external_pairs(
     external_of(alloc, start, calls, &told)
 }
 
-/// The same pairs by rising key and value, each once.
+/// Sorts the pairs by rising key and value, and leaves each once.
 fn in_order(mut pairs: Vec<(u64, u64)>) -> Vec<(u64, u64)>
     ensures rising { AllPairs IsBelow result.items }
     ensures same { (pair : ℕ × ℕ) → Contains result.items pair ↔ Contains pairs.items pair }
@@ -35,7 +35,7 @@ fn in_order(mut pairs: Vec<(u64, u64)>) -> Vec<(u64, u64)>
     pairs
 }
 
-/// Those of some pairs that come from outside.
+/// Returns the pairs that come from outside.
 fn external_of(
     alloc: Global,
     start: &SortedMap,
@@ -54,15 +54,15 @@ fn external_of(
     Ok(pairs)
 }
 
-/// Whether one of the calls may put a pair, or the map holds it at the start and none of them may
-/// change its key.
+/// Returns whether one of the calls may put a pair, or the map holds it at the start and none of
+/// them may change its key.
 fn is_internal(start: &SortedMap, calls: &[Operation], pair: (u64, u64)) -> bool
     ensures { result ≡ is_internal start.now calls.now pair }
 {
     is_one_put(calls, pair) || (holds(start, pair) && !is_key_changed(calls, pair.0))
 }
 
-/// Whether one of the calls may put a pair.
+/// Returns whether one of the calls may put a pair.
 fn is_one_put(calls: &[Operation], pair: (u64, u64)) -> bool
     ensures { result ≡ list_any (may_put pair) calls.now }
 {
@@ -74,7 +74,7 @@ fn is_one_put(calls: &[Operation], pair: (u64, u64)) -> bool
     false
 }
 
-/// Whether one of the calls may change a key.
+/// Returns whether one of the calls may change a key.
 fn is_key_changed(calls: &[Operation], key: u64) -> bool
     ensures { result ≡ list_any (may_change key) calls.now }
 {
@@ -86,14 +86,15 @@ fn is_key_changed(calls: &[Operation], key: u64) -> bool
     false
 }
 
-/// Whether a call, as far as its answer says, may put this value at this key.
+/// Returns whether a call, as far as its answer says, may put this value at this key.
 fn may_put(call: &Operation, pair: (u64, u64)) -> bool
     ensures { result ≡ may_put pair call.now }
 {
     call.call.low_key() == pair.0 && is_put(put_of(&call.call, &call.response), pair.1)
 }
 
-/// Whether a call, as far as its answer says, may put anything at this key, or take it away.
+/// Returns whether a call, as far as its answer says, may put anything at this key, or remove its
+/// value.
 fn may_change(call: &Operation, key: u64) -> bool
     ensures { result ≡ may_change key call.now }
 {

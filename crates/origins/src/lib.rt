@@ -1,7 +1,7 @@
-//! Where the values come from that a few calls report: which of these values none of the few puts, so
-//! that they were read from outside, and which calls of the whole history put them. Which calls of it
-//! one of the few misses. A read and the write whose value it returns are known in the field as
-//! reads-from.
+//! Where the values come from that a few calls report. Some of these values none of the few puts:
+//! they were read from outside, and this crate finds the calls of the whole history that put them.
+//! It also finds the calls of the history that one of the few misses. In the field, a read and the
+//! write of its value are in the relation *reads-from*.
 #![tactic(auto)]
 
 mod external;

@@ -16,10 +16,10 @@ pub struct Missed {
     pub event: usize,
 }
 
-/// Of some calls, in the order in which they began, those that one of them misses: it was answered
-/// as where their keys have other values than those that they left there, though they were answered
-/// before it began, and no call may have put there again what it tells. Of each key it is one at
-/// most, the last. Each call is compared with all of them at worst.
+/// Returns those of some calls, in the order in which they began, that one call misses. They were
+/// answered before it began, and its answer shows other values at their keys than they left there.
+/// No call may have put there again what it reports. At each key there is at most one such call,
+/// the last. At worst each call is compared with all of them.
 pub fn missed_by(
     alloc: Global,
     calls: &[Operation],
@@ -36,7 +36,7 @@ pub fn missed_by(
     Ok(missed)
 }
 
-/// What is told of a call that another misses.
+/// Returns what is reported of a call that another misses.
 fn missed_of(call: &Operation) -> Missed
     ensures { result ≡ missed_of call.now }
 {
@@ -46,14 +46,14 @@ fn missed_of(call: &Operation) -> Missed
     }
 }
 
-/// Whether of some calls one misses another, behind which these began.
+/// Returns whether of some calls one misses another, given those that began after that one.
 fn is_missed(calls: &[Operation], call: &Operation, other: &Operation, later: &[Operation]) -> bool
     ensures { result ≡ is_missed calls.now call.now other.now later.now }
 {
     gainsays(call, other) && !gainsays_later(call, other, later) && !is_mended(calls, call, other)
 }
 
-/// Whether a call gainsays one of these of the same key.
+/// Returns whether a call contradicts one of these later calls of the same key.
 fn gainsays_later(call: &Operation, other: &Operation, later: &[Operation]) -> bool
     ensures { result ≡ gainsays_later call.now other.now later.now }
 {
@@ -65,7 +65,8 @@ fn gainsays_later(call: &Operation, other: &Operation, later: &[Operation]) -> b
     false
 }
 
-/// Whether one of these may have put behind the second call what the first tells.
+/// Returns whether one of these calls may have put, after the second call, what the first one
+/// reports.
 fn is_mended(calls: &[Operation], call: &Operation, other: &Operation) -> bool
     ensures { result ≡ list_any (may_mend call.now other.now) calls.now }
 {
@@ -77,8 +78,8 @@ fn is_mended(calls: &[Operation], call: &Operation, other: &Operation) -> bool
     false
 }
 
-/// Whether a third call may have put at the second one's key, behind it and before the first, what
-/// the first tells.
+/// Returns whether a third call may have put at the second one's key, after that one and before the
+/// first, what the first one reports.
 fn may_mend(call: &Operation, other: &Operation, third: &Operation) -> bool
     ensures { result ≡ may_mend call.now other.now third.now }
 {
@@ -89,8 +90,8 @@ fn may_mend(call: &Operation, other: &Operation, third: &Operation) -> bool
         && !precedes(call, third)
 }
 
-/// Whether a call was answered as where one of its keys has another value than what another call
-/// left there before it began.
+/// Returns whether the answer of a call shows that one of its keys had another value than another
+/// call left there before it began.
 fn gainsays(call: &Operation, other: &Operation) -> bool
     ensures { result ≡ gainsays call.now other.now }
 {
@@ -100,8 +101,8 @@ fn gainsays(call: &Operation, other: &Operation) -> bool
         && is_gainsaid(&call.call, &call.response, key, left_by(other))
 }
 
-/// Whether a call was answered as where a key has another value than what was left there, if
-/// anything was.
+/// Returns whether the answer of a call shows that a key had another value than the one that was
+/// left there, if anything was.
 fn is_gainsaid(
     call: &Call,
     response: &Option<Response>,
@@ -116,7 +117,8 @@ fn is_gainsaid(
     }
 }
 
-/// The same of a reply.
+/// Returns whether a reply shows that a key had another value than the one that was left there, if
+/// anything was.
 fn is_other(call: &Call, reply: &Reply, key: u64, left: Option<Option<u64>>) -> bool
     ensures { result ≡ is_other call.now reply.now key left }
 {
@@ -126,7 +128,7 @@ fn is_other(call: &Call, reply: &Reply, key: u64, left: Option<Option<u64>>) -> 
     }
 }
 
-/// What a call left at its key, as its answer says: a value, or none in place of one.
+/// Returns what a call left at its key, as its answer says: a value, or none in place of one.
 fn left_by(call: &Operation) -> Option<Option<u64>>
     ensures { result ≡ left_by call.now }
 {
@@ -137,7 +139,7 @@ fn left_by(call: &Operation) -> Option<Option<u64>>
     }
 }
 
-/// Whether an answer says something of what its call found.
+/// Returns whether an answer says something about what its call found.
 fn says_found(reply: &Reply) -> bool
     ensures { result ≡ says_found reply.now }
 {

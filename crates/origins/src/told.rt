@@ -1,11 +1,11 @@
-// The pairs of a key and a value that calls tell.
+// The pairs of a key and a value that calls report.
 ghost use Rattle.std.specs.Prelude.{◌≡◌, ◌++◌, IfOk, OnOk};
 ghost use Rattle.origins.specs.Told.{value_told, pairs_told, told_by, all_told};
 
 use events::{Call, Memory, Operation, Reply};
 use std::alloc::Global;
 
-/// The pairs that calls tell, one call after another.
+/// Returns the pairs that calls report, one call after another.
 pub(crate) fn all_told(alloc: Global, calls: &[Operation]) -> Result<Vec<(u64, u64)>, Memory>
     ensures { IfOk result (λ pairs. pairs.items ≡ all_told calls.now) }
 {
@@ -16,7 +16,7 @@ pub(crate) fn all_told(alloc: Global, calls: &[Operation]) -> Result<Vec<(u64, u
     Ok(pairs)
 }
 
-/// Notes the pairs that a call tells: none where it has no answer.
+/// Adds the pairs that a call reports; none if it has no answer.
 fn note_call(pairs: &mut Vec<(u64, u64)>, call: &Operation) -> Result<(), Memory>
     ensures { OnOk result (pairs.new.items ≡ pairs.old.items ++ told_by call.now.call
         call.now.response) }
@@ -27,7 +27,7 @@ fn note_call(pairs: &mut Vec<(u64, u64)>, call: &Operation) -> Result<(), Memory
     }
 }
 
-/// Notes those that an answer tells.
+/// Adds the pairs that an answer reports.
 fn note_reply(pairs: &mut Vec<(u64, u64)>, call: &Call, reply: &Reply) -> Result<(), Memory>
     ensures { OnOk result (pairs.new.items ≡ pairs.old.items ++ pairs_told call.now reply.now) }
 {
@@ -38,7 +38,7 @@ fn note_reply(pairs: &mut Vec<(u64, u64)>, call: &Call, reply: &Reply) -> Result
     }
 }
 
-/// Notes a value at the key of a call, where the call is of one key.
+/// Adds a value at the key of a call, if the call is of one key.
 fn note_value(pairs: &mut Vec<(u64, u64)>, call: &Call, value: u64) -> Result<(), Memory>
     ensures { OnOk result (pairs.new.items ≡ pairs.old.items ++ value_told call.now value) }
 {

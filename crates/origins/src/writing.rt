@@ -9,9 +9,9 @@ use explaining::put_by;
 use map_object::SortedMap;
 use std::alloc::Global;
 
-/// The events at which calls were invoked that put this value at this key, by rising event where
-/// the calls stand so: those without an answer too, and those that found the same value there, but
-/// not those whose answers say that they were not done.
+/// Returns the events at which calls were invoked that put this value at this key, in the order of
+/// the calls. Calls without an answer count, and so do calls that found the same value there. Calls
+/// whose answers say that they were not done do not count.
 pub fn writers_of(
     alloc: Global,
     calls: &[Operation],
@@ -28,7 +28,7 @@ pub fn writers_of(
     Ok(places)
 }
 
-/// Whether a map holds this value at this key.
+/// Returns whether a map holds this value at this key.
 pub fn holds(map: &SortedMap, pair: (u64, u64)) -> bool
     ensures { result ≡ holds map.now pair }
 {
@@ -38,7 +38,7 @@ pub fn holds(map: &SortedMap, pair: (u64, u64)) -> bool
     }
 }
 
-/// Whether a call puts this value at this key, unless its answer says that it was not done.
+/// Returns whether a call puts this value at this key, unless its answer says that it was not done.
 fn writes(call: &Operation, pair: (u64, u64)) -> bool
     ensures { result ≡ writes pair call.now }
 {
@@ -47,7 +47,7 @@ fn writes(call: &Operation, pair: (u64, u64)) -> bool
         && !is_undone(&call.call, &call.response)
 }
 
-/// Whether what is put at a key, if anything, is this value.
+/// Returns whether this value is put at a key.
 pub(crate) fn is_put(put: Option<Option<u64>>, value: u64) -> bool
     ensures { result ≡ is_put put value }
 {
@@ -57,7 +57,7 @@ pub(crate) fn is_put(put: Option<Option<u64>>, value: u64) -> bool
     }
 }
 
-/// Whether a call was answered, and so that it was not done.
+/// Returns whether a call was answered, and so that it was not done.
 pub(crate) fn is_undone(call: &Call, response: &Option<Response>) -> bool
     ensures { result ≡ is_undone call.now response.now }
 {
@@ -67,8 +67,8 @@ pub(crate) fn is_undone(call: &Call, response: &Option<Response>) -> bool
     }
 }
 
-/// Whether a reply says that the call was not done: it was refused, or a replace did not find the
-/// value that it expects.
+/// Returns whether a reply says that the call was not done: it was refused, or a replace did not
+/// find the expected value.
 pub fn says_undone(call: &Call, reply: &Reply) -> bool
     ensures { result ≡ says_undone call.now reply.now }
 {
@@ -80,14 +80,14 @@ pub fn says_undone(call: &Call, reply: &Reply) -> bool
     }
 }
 
-/// Whether a call is a replace.
+/// Returns whether a call is a replace.
 fn is_replace(call: &Call) -> bool
     ensures { result ≡ is_replace call.now }
 {
     matches!(call, Call::Replace(_, _, _))
 }
 
-/// Whether a call is a replace that expects another value than this one.
+/// Returns whether a call is a replace that expects another value than this one.
 fn expects_other(call: &Call, found: u64) -> bool
     ensures { result ≡ expects_other call.now found }
 {

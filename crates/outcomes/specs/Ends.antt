@@ -3,8 +3,8 @@ use Rattle.std.specs.Prelude.{◌≡◌, ◌⊎◌, ℕ, ◌+◌, List, Option}
 use Rattle.std.specs.Io.KnownBytes.{Appends, Keeps}
 use Rattle.streams.specs.Progress.{AppendsBeginning}
 
--- an end: the bytes still to come of a source, or those written to a sink, where they are told; and
--- how many calls have failed
+-- an end: the bytes that are still to come from a source, or that were written to a sink, if they
+-- are known; and how many calls have failed
 pub record End : Type 0 where
   pub bytes : Option (List ℕ)
   pub failures : ℕ

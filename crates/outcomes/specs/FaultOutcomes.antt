@@ -1,4 +1,4 @@
--- How a run comes out that meets the fault of an order.
+-- The outcome of a run that meets the fault of an order.
 use Rattle.std.specs.Prelude.{◌≡◌, ◌≢◌, ⊤, string_bytes}
 use Rattle.certificate.specs.declared.fault.OrderFault.{OrderFault}
 use Rattle.certificate.specs.declared.fault.OrderFault.TheVariants as orders

@@ -12,7 +12,7 @@ line text = text ++ 10 ∷ []
 abbrev pub ok_line : List ℕ
 ok_line = line (codes "ok")
 
--- want of memory
+-- out of memory
 abbrev pub memory_line : List ℕ
 memory_line = line (codes "memory")
 
@@ -20,7 +20,7 @@ memory_line = line (codes "memory")
 abbrev pub io_line : List ℕ
 io_line = line (codes "io")
 
--- why an order is none
+-- why a list of numbers is not an order
 abbrev pub order_fault_line : OrderFault → List ℕ
 order_fault_line (orders.Unknown place) = line (codes "fault: 1 Unknown at place " ++ decimal place)
 order_fault_line (orders.Repeated place) = line (codes "fault: 2 Repeated at place " ++ decimal place)

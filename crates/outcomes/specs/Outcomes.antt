@@ -1,12 +1,12 @@
--- How a run that reads a text comes out.
+-- The outcome of a run that reads a text.
 use Rattle.std.specs.Prelude.{◌⊎◌, ⊤, ℕ, List, Option, IfSome, string_bytes}
 use Rattle.outcomes.specs.declared.outcome.Answer.{Answer}
 use Rattle.outcomes.specs.declared.outcome.RunOutcome.{RunOutcome}
 use Rattle.outcomes.specs.declared.outcome.RunOutcome.TheVariants.{Answered, Noted, Refused, Memory, Words, Failed}
 use Rattle.outcomes.specs.Ends.{Change, IsSound, FailsOnce}
 
--- the outcome of a text: an answer to it, without a note, or its refusal with a hint, as far as the
--- text is told, or want of memory
+-- the outcome of a text, if the text is known: an answer to it, without a note, or its refusal with
+-- a hint; or out of memory
 abbrev pub IsTextOutcome : (List ℕ → Answer → List ℕ → Type 0) → (List ℕ → List ℕ → List ℕ → Type 0) → Option (List ℕ) → RunOutcome → Type 0
 IsTextOutcome IsAnswer IsRefusal told (Answered answer bytes) = IfSome told (λ text. IsAnswer text answer (string_bytes bytes))
 IsTextOutcome IsAnswer IsRefusal told (Noted answer bytes note) = ⊥
@@ -15,13 +15,13 @@ IsTextOutcome IsAnswer IsRefusal told Memory = ⊤
 IsTextOutcome IsAnswer IsRefusal told (Words bytes) = ⊥
 IsTextOutcome IsAnswer IsRefusal told Failed = ⊥
 
--- where the outcome is an answer, this holds
+-- if the outcome is an answer, this holds
 abbrev pub OnAnswered : RunOutcome → Type 0 → Type 0
 OnAnswered (Answered answer bytes) P = P
 OnAnswered (Noted answer bytes note) P = P
 OnAnswered outcome P = ⊤
 
--- the outcome where there is no text: memory was wanting, or a read failed
+-- the outcome without a text: memory ran out, or a read failed
 abbrev pub IsUnread : Change → RunOutcome → Type 0
 IsUnread source Memory = IsSound source
 IsUnread source Failed = FailsOnce source

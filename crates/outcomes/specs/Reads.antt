@@ -5,17 +5,16 @@ use Rattle.streams.specs.Progress.{ConsumesAtMost}
 use Rattle.outcomes.specs.Ends.{Change}
 use Rattle.outcomes.specs.Statuses.{memory_status, failed_status}
 
--- where the bytes to come are told: the first of them were read, so many, or all where there are no
--- more
+-- if the bytes to come are known, the first of them were read: this many, or all if there are fewer
 abbrev pub ReadsFirst : ℕ → Change → Type 0
 ReadsFirst count source = IfSome source.old.bytes (λ text. Consumes source.old.bytes source.new.bytes (take count text))
 
--- at most so many were read
+-- at most this many were read
 abbrev pub ReadsAtMost : ℕ → Change → Type 0
 ReadsAtMost count source = ConsumesAtMost count source.old.bytes source.new.bytes
 
--- a run that ends with this status read its text to the end, or one byte past the limit; and no
--- more where memory was wanting or a read or a write failed
+-- a run that ends with this status read its text to the end, or one byte past the limit. It did not
+-- read more if memory ran out, or if a read or a write failed
 pub record IsTextRead (limit : ℕ) (source : Change) (status : ℕ) : Type 0 where
   pub whole : status ≢ memory_status → status ≢ failed_status → ReadsFirst (limit + 1) source
   pub most : ReadsAtMost (limit + 1) source

@@ -1,4 +1,4 @@
--- What a run leaves at its three ends, for the outcome that it has.
+-- What a run leaves at its three sinks, by its outcome.
 use Rattle.std.specs.Prelude.{◌≡◌, ◌⊎◌, ℕ, ◌+◌, List, IfSome, take, string_bytes}
 use Rattle.outcomes.specs.declared.outcome.RunOutcome.{RunOutcome}
 use Rattle.outcomes.specs.declared.outcome.RunOutcome.TheVariants.{Answered, Noted, Refused, Memory, Words, Failed}
@@ -7,9 +7,9 @@ use Rattle.outcomes.specs.Lines.{memory_line, io_line}
 use Rattle.outcomes.specs.Outcomes.{IsUnread}
 use Rattle.outcomes.specs.Statuses.{answer_status, refused_status, memory_status, words_status, failed_status}
 
--- an answer is written to the output, all of it or a beginning until a call fails, and its note is
--- told to the hints behind it; anything else is told to the faults, with its hint to the hints
--- behind it, and the output is left alone; and this is the exit status
+-- an answer is written to the output: all of it, or a beginning until a call fails. Its note is
+-- then written to the hints. All else is written to the faults, and then its hint to the hints;
+-- nothing is written to the output. And this is the exit status
 abbrev pub Leaves : RunOutcome → Change → Change → Change → ℕ → Type 0
 Leaves (Answered answer bytes) output faults hints status =
     (Says output (string_bytes bytes) × IsSilent faults × IsSilent hints × (status ≡ answer_status answer))
@@ -24,20 +24,20 @@ Leaves (Words bytes) output faults hints status =
     IsSilent output × Tries faults (string_bytes bytes) × IsSilent hints × (status ≡ words_status)
 Leaves Failed output faults hints status = IsSilent output × Tries faults io_line × IsSilent hints × (status ≡ failed_status)
 
--- a run has one of these outcomes, and leaves at its sinks what that outcome leaves
+-- a run has one of these outcomes, and writes to its sinks what belongs to it
 pub record IsRun (IsOutcome : RunOutcome → Type 0) (output faults hints : Change) (status : ℕ) : Type 0 where
   pub outcome : RunOutcome
   pub comes : IsOutcome outcome
   pub leaves : Leaves outcome output faults hints status
 
--- what was read of a source until it ended or a text was too long: its first bytes, one more than a
--- limit, where they are told
+-- what was read of a source until it ended or the text was too long: its first bytes, at most one
+-- more than a limit, if they are known
 pub record WasRead (limit : ℕ) (source : Change) (text : List ℕ) : Type 0 where
   pub first : IfSome source.old.bytes (λ whole. text ≡ take (limit + 1) whole)
   pub sound : IsSound source
 
--- a run that reads a text has an outcome that is made of it, or none could be read; and it leaves
--- at its sinks what its outcome leaves
+-- a run that reads a text has an outcome that is made from the text, or no text could be read; and
+-- it writes to its sinks what belongs to its outcome
 pub record IsTextRun (Makes : List ℕ → RunOutcome → Type 0) (limit : ℕ) (source output faults hints : Change) (status : ℕ) : Type 0 where
   pub outcome : RunOutcome
   pub comes : IsUnread source outcome ⊎ ((text : List ℕ) × WasRead limit source text × Makes text outcome)

@@ -9,7 +9,7 @@ answer_status Yes = 0
 answer_status No = 1
 answer_status Undecided = 2
 
--- where the status is that of an answer, this holds
+-- if the status is that of an answer, this holds
 abbrev pub OnAnswerStatus : ℕ → Type 0 → Type 0
 OnAnswerStatus status P = (answer : Answer) → status ≡ answer_status answer → P
 
@@ -17,11 +17,11 @@ OnAnswerStatus status P = (answer : Answer) → status ≡ answer_status answer 
 abbrev pub refused_status : ℕ
 refused_status = 3
 
--- want of memory
+-- out of memory
 abbrev pub memory_status : ℕ
 memory_status = 4
 
--- the words of the command line ask for nothing that can be done, or for help
+-- the command line asks for nothing that can be done, or for help
 abbrev pub words_status : ℕ
 words_status = 5
 

@@ -1,10 +1,10 @@
--- What is said beside the line of a fault of a text: what was wanted.
+-- The hint next to the line of a fault of a text: what was expected.
 use Rattle.std.specs.Prelude.{ℕ, List, [], ◌++◌, codes}
 use Rattle.events.specs.declared.fault.HistoryFault.{HistoryFault}
 use Rattle.events.specs.declared.fault.HistoryFault.TheVariants as histories
 use Rattle.outcomes.specs.Lines.{line}
 
--- the hint that says what was wanted
+-- the hint that says what was expected
 abbrev pub wanted_hint : List ℕ → List ℕ
 wanted_hint wanted = line (codes "wanted " ++ wanted)
 
@@ -31,7 +31,7 @@ turn_wanted = codes "an invocation where the process has no open call, an answer
 abbrev pub pair_wanted : List ℕ
 pair_wanted = codes "[K,V] with K above that of the pair before; numbers are from 0 to 18446744073709551615"
 
--- in the place of each fault of a history text
+-- what was expected for each fault of a history text
 abbrev pub history_wanted : HistoryFault → List ℕ
 history_wanted histories.TooLong = length_wanted
 history_wanted histories.NotJson = json_wanted

@@ -10,8 +10,8 @@ use crate::outcome::{FAILED, MEMORY, REFUSED, RunOutcome, WORDS};
 use std::alloc::Global;
 use streams::{ReadFault, Sink, Source, read_up_to, write_whole};
 
-/// Reads to the end of the source, or until a text is too long: one byte more than `limit`. Where
-/// that cannot be done, the run comes out so.
+/// Reads to the end of the source, or until a text is too long: one byte more than `limit`. If that
+/// fails, it returns how the run comes out.
 pub fn text_from<S: Source>(
     alloc: Global,
     source: &mut S,
@@ -35,8 +35,8 @@ pub fn text_from<S: Source>(
     }
 }
 
-/// Reads to the end of the source, or until a text is too long, has an outcome made of what was
-/// read, and writes it. Answers the exit status.
+/// Reads to the end of the source, or until a text is too long. Makes an outcome of what was read,
+/// and writes it. Returns the exit status.
 pub fn run_text<S: Source, O: Sink, F: Sink, H: Sink, M: Fn(&[u8]) -> RunOutcome>(
     alloc: Global,
     source: &mut S,
@@ -65,9 +65,9 @@ pub fn run_text<S: Source, O: Sink, F: Sink, H: Sink, M: Fn(&[u8]) -> RunOutcome
     }
 }
 
-/// Writes an outcome to the output or to the faults, and answers the exit status; the hint on a
-/// refusal goes to the hints behind its line, and a note behind its answer. A failed write to the
-/// faults or to the hints changes nothing else.
+/// Writes an outcome to the output or to the faults, and returns the exit status. The hint of a
+/// refusal follows its line, and a note follows its answer; both go to the hints. A failed write to
+/// the faults or to the hints changes nothing else.
 pub fn write_outcome<O: Sink, F: Sink, H: Sink>(
     output: &mut O,
     faults: &mut F,
@@ -102,7 +102,7 @@ pub fn write_outcome<O: Sink, F: Sink, H: Sink>(
     }
 }
 
-// Writes bytes to a sink, whether it takes them or not, and answers the status.
+// Writes bytes to a sink, even if it does not take them, and returns the status.
 fn tell<K: Sink>(sink: &mut K, bytes: &[u8], status: u8) -> u8
     requires { K.failures sink.old < u64.MAX }
     ensures told { Tries (change K.written K.failures sink.old sink.new) bytes.now }

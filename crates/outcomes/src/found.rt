@@ -1,4 +1,4 @@
-// What is said of a text in the place of a fault: what stands there, and what was wanted.
+// The hint on a fault of a text: what is at its place, and what was expected.
 ghost use Rattle.std.specs.Prelude.{◌≡◌, ◌∷◌, [], ◌++◌, map, IfOk, OnOk, string_bytes};
 ghost use Rattle.outcomes.specs.Found.{shown_byte, shown, found_hint};
 
@@ -7,7 +7,7 @@ use std::alloc::{AllocError, Global};
 /// The most bytes that are shown of a text.
 const MAX_SHOWN: usize = 80;
 
-/// The hint that says what stands in the place of a fault, and what was wanted there.
+/// Returns the hint that says what is at the place of a fault, and what was expected there.
 pub fn found_hint(alloc: Global, text: &[u8], wanted: &str) -> Result<String, AllocError>
     ensures { IfOk result (λ hint. string_bytes hint ≡ found_hint text.now wanted.now) }
 {
@@ -19,7 +19,7 @@ pub fn found_hint(alloc: Global, text: &[u8], wanted: &str) -> Result<String, Al
     Ok(hint)
 }
 
-/// Adds a text, cut with two dots where it is long.
+/// Adds a text, cut with two dots if it is long.
 fn push_shown(out: &mut String, text: &[u8]) -> Result<(), AllocError>
     ensures { OnOk result (string_bytes out.new ≡ string_bytes out.old ++ shown text.now) }
 {
@@ -41,7 +41,7 @@ fn push_bytes(out: &mut String, text: &[u8]) -> Result<(), AllocError>
     Ok(())
 }
 
-/// Adds a byte of a text: one that is no printable ASCII as `?`.
+/// Adds a byte of a text; a byte that is not printable ASCII is written as `?`.
 fn push_byte(out: &mut String, byte: u8) -> Result<(), AllocError>
     ensures { OnOk result (string_bytes out.new ≡ string_bytes out.old ++ shown_byte byte ∷ []) }
 {

@@ -6,7 +6,7 @@ use certificate::OrderFault;
 use events::HistoryFault;
 use std::alloc::{AllocError, Global};
 
-/// The text, and a line feed.
+/// Returns the text, and a line feed.
 pub fn line_of(mut text: String) -> Result<String, AllocError>
     ensures { IfOk result (λ full. string_bytes full ≡ line (string_bytes text)) }
 {
@@ -14,7 +14,7 @@ pub fn line_of(mut text: String) -> Result<String, AllocError>
     Ok(text)
 }
 
-/// Why an order is none.
+/// Returns why a list of numbers is not an order.
 pub fn order_fault_line(alloc: Global, fault: &OrderFault) -> Result<String, AllocError>
     ensures { IfOk result (λ line. string_bytes line ≡ order_fault_line fault.now) }
 {
@@ -30,7 +30,7 @@ pub fn order_fault_line(alloc: Global, fault: &OrderFault) -> Result<String, All
     }
 }
 
-/// Why a history text was refused.
+/// Returns why a history text was refused.
 pub fn history_fault_line(alloc: Global, fault: &HistoryFault) -> Result<String, AllocError>
     ensures { IfOk result (λ line. string_bytes line ≡ history_fault_line fault.now) }
 {

@@ -13,22 +13,22 @@ pub const YES: u8 = 0;
 /// The exit status of an answer that is no, or the fault of an order.
 pub const NO: u8 = 1;
 
-/// The exit status where the budget was spent without an answer.
+/// The exit status if the budget was spent without an answer.
 pub const UNDECIDED: u8 = 2;
 
 /// The exit status of an input that is refused.
 pub const REFUSED: u8 = 3;
 
-/// The exit status of want of memory.
+/// The exit status if memory ran out.
 pub const MEMORY: u8 = 4;
 
-/// The exit status of words of the command line that ask for nothing that can be done, or for help.
+/// The exit status of a command line that asks for nothing that can be done, or for help.
 pub const WORDS: u8 = 5;
 
-/// The exit status where standard input or output failed.
+/// The exit status if standard input or output failed.
 pub const FAILED: u8 = 6;
 
-/// What is answered to an input.
+/// The answer to an input.
 #[derive(Clone, Copy)]
 pub enum Answer {
     /// It is yes, `ok`, or a text.
@@ -40,7 +40,7 @@ pub enum Answer {
 }
 
 impl Answer {
-    /// The exit status.
+    /// Returns the exit status.
     pub fn status(self) -> u8
         ensures { result ≡ answer_status self }
     {
@@ -59,22 +59,22 @@ pub enum RunOutcome {
         answer: Answer,
         line: String,
     },
-    /// The input is answered so, with a note on the answer for who reads along.
+    /// The input is answered, with a note on the answer for a person at the terminal.
     Noted {
         answer: Answer,
         line: String,
         note: String,
     },
-    /// The input is refused, with this line for standard error, and a hint on it for who reads
-    /// along: what was found and wanted.
+    /// The input is refused, with this line for standard error. The hint says what was found and
+    /// what was expected, for a person at the terminal.
     Refused {
         line: String,
         hint: String,
     },
     /// Memory was wanting.
     Memory,
-    /// The words of the command line ask for nothing that can be done, or for help. The text is
-    /// what the user is shown on standard error.
+    /// The command line asks for nothing that can be done, or for help. The user gets this text on
+    /// standard error.
     Words(String),
     /// The input could not be read.
     Failed,
@@ -103,7 +103,7 @@ impl Drop for RunOutcome {
 }
 
 impl RunOutcome {
-    /// An answer with this line, if there was memory for the line.
+    /// Returns an answer with this line, if there was memory for the line.
     pub fn from_answer(answer: Answer, line: Result<String, AllocError>) -> RunOutcome
         ensures { MatchResult line (λ text. result ≡ RunOutcome.Answered answer text)
             (λ _. result ≡ RunOutcome.Memory) }
@@ -114,7 +114,7 @@ impl RunOutcome {
         }
     }
 
-    /// An answer with this line and this note, if there was memory for both.
+    /// Returns an answer with this line and this note, if there was memory for both.
     pub fn with_note(
         answer: Answer,
         line: Result<String, AllocError>,
@@ -134,7 +134,7 @@ impl RunOutcome {
         }
     }
 
-    /// A refusal with this line and this hint, if there was memory for both.
+    /// Returns a refusal with this line and this hint, if there was memory for both.
     pub fn from_refusal(
         line: Result<String, AllocError>,
         hint: Result<String, AllocError>,
@@ -153,7 +153,7 @@ impl RunOutcome {
         }
     }
 
-    /// The answer that numbers are no order, or want of memory.
+    /// Returns the answer that numbers are not an order, or out of memory.
     pub fn of_order_fault(alloc: Global, fault: &OrderFault) -> RunOutcome
         ensures { IsOrderFaultOutcome fault.now result }
     {

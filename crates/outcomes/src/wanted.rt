@@ -1,11 +1,11 @@
-// What is said beside the line of a fault of a text: what was wanted.
+// The hint next to the line of a fault of a text: what was expected.
 ghost use Rattle.std.specs.Prelude.{◌≡◌, IfOk, string_bytes};
 ghost use Rattle.outcomes.specs.Wanted.{wanted_hint, length_wanted, json_wanted, event_wanted, turn_wanted, pair_wanted, history_wanted};
 
 use events::HistoryFault;
 use std::alloc::{AllocError, Global};
 
-/// The hint that says what was wanted.
+/// Returns the hint that says what was expected.
 pub fn wanted_hint(alloc: Global, wanted: &str) -> Result<String, AllocError>
     ensures { IfOk result (λ hint. string_bytes hint ≡ wanted_hint wanted.now) }
 {
@@ -15,21 +15,21 @@ pub fn wanted_hint(alloc: Global, wanted: &str) -> Result<String, AllocError>
     Ok(hint)
 }
 
-/// How long a text may be.
+/// Returns how long a text may be.
 pub fn length_wanted() -> &'static str
     ensures { result.now ≡ length_wanted }
 {
     "at most 16777216 bytes"
 }
 
-/// What a text is.
+/// Returns what a text is.
 pub fn json_wanted() -> &'static str
     ensures { result.now ≡ json_wanted }
 {
     "JSON in UTF-8"
 }
 
-/// What an event may be, in a history text and in a stream.
+/// Returns what an event may be, in a history text and in a stream.
 pub fn event_wanted() -> &'static str
     ensures { result.now ≡ event_wanted }
 {
@@ -39,21 +39,21 @@ pub fn event_wanted() -> &'static str
     numbers are from 0 to 18446744073709551615"
 }
 
-/// When an event comes in its turn.
+/// Returns when an event comes in its turn.
 pub fn turn_wanted() -> &'static str
     ensures { result.now ≡ turn_wanted }
 {
     "an invocation where the process has no open call, an answer where it has one"
 }
 
-/// What a starting pair may be.
+/// Returns what a starting pair may be.
 pub fn pair_wanted() -> &'static str
     ensures { result.now ≡ pair_wanted }
 {
     "[K,V] with K above that of the pair before; numbers are from 0 to 18446744073709551615"
 }
 
-/// What was wanted in the place of a fault of a history text.
+/// Returns what was expected for a fault of a history text.
 pub fn history_wanted(fault: &HistoryFault) -> &'static str
     ensures { result.now ≡ history_wanted fault.now }
 {

@@ -2,7 +2,8 @@
 use Rattle.std.specs.Prelude.{◌≡◌, ℕ, ◌<◌, List, ◌++◌, Option, All}
 use Rattle.packed_map.specs.Entries.{entry_if}
 
--- between entries of lower and of higher keys stands what a key had, and then what it has
+-- the entries of lower and of higher keys are the same in both; between them the first has the old
+-- value of the key, and the second the new one, if there is one
 pub record IsEdit {V : Type 0} (key : ℕ) (was is : Option V) (old new : List (ℕ × V)) : Type 0 where
   pub front : List (ℕ × V)
   pub back : List (ℕ × V)

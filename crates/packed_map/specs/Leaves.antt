@@ -1,4 +1,5 @@
--- Leaves of a map: each has the entries from its least key on that are below that of the next.
+-- Leaves of a map: each has the entries from its least key on that are below the least key of the
+-- next leaf.
 use Rattle.std.specs.Prelude.{◌≡◌, ℕ, ◌+◌, ◌<◌, ◌≤◌, List, [], ◌∷◌, length, All, AllPairs}
 use Rattle.std.specs.List.{flat_map, HoldsAt, AllWithin}
 use Rattle.packed_map.specs.declared.leaf.Leaf.{Leaf}
@@ -8,7 +9,7 @@ use Rattle.packed_map.specs.Entries.{KeysRise}
 abbrev pub entries_of : {V : Type 0} → List (Leaf V) → List (ℕ × V)
 entries_of leaves = flat_map (λ leaf. leaf.entries.items) leaves
 
--- the first leaf is there, and takes any key below those of the others
+-- there is a first leaf, and it takes any key below those of the others
 abbrev pub StartsAtZero : {V : Type 0} → List (Leaf V) → Type 0
 StartsAtZero [] = ⊥
 StartsAtZero (leaf ∷ leaves) = leaf.from ≡ 0
@@ -17,7 +18,7 @@ StartsAtZero (leaf ∷ leaves) = leaf.from ≡ 0
 abbrev pub IsFromLeast : {V : Type 0} → Leaf V → Type 0
 IsFromLeast leaf = All (λ e. leaf.from ≤ e.0) leaf.entries.items
 
--- the keys of a leaf are below the least of a later one
+-- the keys of a leaf are below the least key of a later leaf
 abbrev pub IsBefore : {V : Type 0} → Leaf V → Leaf V → Type 0
 IsBefore leaf later = (leaf.from ≤ later.from) × All (λ e. e.0 < later.from) leaf.entries.items
 

@@ -10,8 +10,8 @@ use crate::searching::place_of;
 use std::alloc::AllocError;
 use std::mem;
 
-/// Entries by rising key, none below the least key `from`. At `near` stands, or stood, what
-/// came, was replaced or went last.
+/// Entries by rising key, none below the least key `from`. `near` is the place of the last entry
+/// that was inserted, replaced or removed.
 #[derive(Drop)]
 pub(crate) struct Leaf<V> {
     pub(crate) from: u64,
@@ -20,7 +20,7 @@ pub(crate) struct Leaf<V> {
 }
 
 impl<V: Drop> Leaf<V> {
-    /// The value of a key.
+    /// Returns the value of a key.
     pub(crate) fn get(&self, key: u64) -> Option<&V>
         requires { KeysRise self.now.entries.items }
         ensures { IsEdit key (option_copied result) (option_copied result) self.now.entries.items
@@ -32,7 +32,7 @@ impl<V: Drop> Leaf<V> {
         }
     }
 
-    /// Gives a key a value; where its place is new and there is no room, makes room for `step`
+    /// Gives a key a value. If its place is new and there is no room, it allocates room for `step`
     /// entries.
     pub(crate) fn put(&mut self, key: u64, value: V, step: usize) -> Result<(), AllocError>
         requires { KeysRise self.old.entries.items }
@@ -54,7 +54,7 @@ impl<V: Drop> Leaf<V> {
         }
     }
 
-    /// Gives a key that has none a value, at its place.
+    /// Gives a value, at its place, to a key that has none.
     fn put_new(&mut self, place: usize, key: u64, value: V, step: usize) -> Result<(), AllocError>
         requires { place ≤ length self.old.entries.items }
         ensures from { self.new.from ≡ self.old.from }
@@ -69,7 +69,8 @@ impl<V: Drop> Leaf<V> {
         Ok(())
     }
 
-    /// Gives a key that has a value another one, and gives the old one back, or else the new one.
+    /// Gives a key that has a value another one, and returns the old value. If it has none, returns
+    /// the new value.
     pub(crate) fn replace(&mut self, key: u64, value: V) -> Result<V, V>
         requires { KeysRise self.old.entries.items }
         ensures from { self.new.from ≡ self.old.from }
@@ -87,7 +88,7 @@ impl<V: Drop> Leaf<V> {
         }
     }
 
-    /// Takes a key out.
+    /// Removes a key.
     pub(crate) fn remove(&mut self, key: u64) -> Option<V>
         requires { KeysRise self.old.entries.items }
         ensures from { self.new.from ≡ self.old.from }
@@ -104,14 +105,14 @@ impl<V: Drop> Leaf<V> {
         }
     }
 
-    /// Whether there is no entry.
+    /// Returns whether there is no entry.
     pub(crate) fn is_empty(&self) -> bool
         ensures { result ≡ (length self.now.entries.items == 0) }
     {
         self.entries.is_empty()
     }
 
-    /// Gives memory back where three quarters of it are empty.
+    /// Frees memory if three quarters of it are empty.
     fn give_back(&mut self)
         ensures from { self.new.from ≡ self.old.from }
         ensures entries { self.new.entries.items ≡ self.old.entries.items }

@@ -10,7 +10,7 @@ use crate::leaf::Leaf;
 use crate::searching::leaf_of;
 use std::alloc::AllocError;
 
-/// The value of a key.
+/// Returns the value of a key.
 pub(crate) fn get_in<V: Drop>(leaves: &[Leaf<V>], near: usize, key: u64) -> Option<&V>
     requires { AreLeaves leaves.now }
     ensures { IsEdit key (option_copied result) (option_copied result) (entries_of leaves.now)
@@ -38,7 +38,8 @@ pub(crate) fn put_in<V: Drop>(
     leaf.put(key, value, step)
 }
 
-/// Gives a key that has a value another one, and gives the old one back, or else the new one.
+/// Gives a key that has a value another one, and returns the old value. If it has none, returns the
+/// new value.
 pub(crate) fn replace_in<V: Drop>(
     leaves: &mut Vec<Leaf<V>>,
     near: &mut usize,
@@ -57,7 +58,7 @@ pub(crate) fn replace_in<V: Drop>(
     leaf.replace(key, value)
 }
 
-/// Takes a key out, and its leaf where that leaves it empty.
+/// Removes a key, and its leaf if that is empty then.
 pub(crate) fn remove_in<V: Drop>(leaves: &mut Vec<Leaf<V>>, near: &mut usize, key: u64) -> Option<V>
     requires { AreLeaves leaves.old.items }
     ensures leaves { AreLeaves leaves.new.items }
@@ -71,7 +72,7 @@ pub(crate) fn remove_in<V: Drop>(leaves: &mut Vec<Leaf<V>>, near: &mut usize, ke
     removed
 }
 
-/// Takes a key out of its leaf.
+/// Removes a key from its leaf.
 fn remove_at<V: Drop>(leaves: &mut Vec<Leaf<V>>, at: usize, key: u64) -> Option<V>
     requires leaves { AreLeaves leaves.old.items }
     requires place { IsLeafOf key leaves.old.items at }
@@ -84,7 +85,7 @@ fn remove_at<V: Drop>(leaves: &mut Vec<Leaf<V>>, at: usize, key: u64) -> Option<
     leaf.remove(key)
 }
 
-/// An empty leaf goes, but for the first.
+/// Removes an empty leaf, unless it is the first.
 fn drop_empty<V: Drop>(leaves: &mut Vec<Leaf<V>>, at: usize)
     requires leaves { AreLeaves leaves.old.items }
     requires place { at < length leaves.old.items }

@@ -1,6 +1,6 @@
-//! A sorted map of very many small keys in little memory: its entries lie side by side in leaves,
-//! which are full where keys came in rising order. It is a B+ tree of two levels, whose root is one
-//! list of the leaves.
+//! A sorted map of very many small keys in little memory. Its entries are next to one another in
+//! leaves, which are full if keys came in rising order. It is a B+ tree of two levels, and its root
+//! is one list of the leaves.
 #![tactic(auto)]
 
 mod leaf;

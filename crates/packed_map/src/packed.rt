@@ -11,8 +11,8 @@ use crate::splitting::insert_in;
 use std::alloc::{AllocError, Global};
 use std::marker::Model;
 
-/// A sorted map. A look-up is two binary searches, but where a key came, was replaced or went last.
-/// What comes or goes moves what stands behind it in its leaf.
+/// A sorted map. A look-up is two binary searches, unless the key is where the last one was
+/// inserted, replaced or removed. An insert or a removal moves the entries after it in its leaf.
 #[derive(Drop)]
 pub struct PackedMap<V> {
     leaves: Vec<Leaf<V>>,
@@ -32,7 +32,7 @@ impl<V> Model for PackedMap<V> {
 }
 
 impl<V: Drop> PackedMap<V> {
-    /// A map of no keys. It has one leaf from the start.
+    /// Returns a map of no keys. It has one leaf from the start.
     pub fn new(alloc: Global) -> Result<PackedMap<V>, AllocError>
         ensures { IfOk result (λ m. m ≡ []) }
     {
@@ -46,14 +46,14 @@ impl<V: Drop> PackedMap<V> {
         Ok(PackedMap { leaves, near: 0 })
     }
 
-    /// The value of a key.
+    /// Returns the value of a key.
     pub fn get(&self, key: u64) -> Option<&V>
         ensures { option_copied result ≡ value_at self.now key }
     {
         get_in(&self.leaves, self.near, key)
     }
 
-    /// Gives a key a value, its first or another. Want of memory leaves the map as it was.
+    /// Gives a key a value, its first or another. If memory runs out, the map is unchanged.
     pub fn insert(&mut self, key: u64, value: V) -> Result<(), AllocError>
         ensures put { OnOk result ((other : ℕ)
             → value_at self.new other
@@ -64,8 +64,8 @@ impl<V: Drop> PackedMap<V> {
         insert_in(&mut self.leaves, &mut self.near, key, value)
     }
 
-    /// Gives a key that has a value another one, and gives the old one back; where the key has
-    /// none, gives back the new one.
+    /// Gives a key that has a value another one, and returns the old value. If the key has none,
+    /// returns the new value.
     pub fn replace(&mut self, key: u64, value: V) -> Result<V, V>
         ensures was { result_ok result ≡ value_at self.old key }
         ensures replaced { (other : ℕ) → value_at self.new other
@@ -76,7 +76,7 @@ impl<V: Drop> PackedMap<V> {
         replace_in(&mut self.leaves, &mut self.near, key, value)
     }
 
-    /// Takes a key out.
+    /// Removes a key.
     pub fn remove(&mut self, key: u64) -> Option<V>
         ensures was { result ≡ value_at self.old key }
         ensures removed { (other : ℕ) → value_at self.new other
@@ -86,7 +86,7 @@ impl<V: Drop> PackedMap<V> {
         remove_in(&mut self.leaves, &mut self.near, key)
     }
 
-    /// All keys, rising.
+    /// Returns all keys, rising.
     pub fn keys(&self, alloc: Global) -> Result<Vec<u64>, AllocError>
         ensures rising { IfOk result (λ keys. AllPairs (λ k l. k < l) keys.items) }
         ensures each { IfOk result (λ keys. (key : ℕ) → Contains keys.items key
@@ -95,7 +95,7 @@ impl<V: Drop> PackedMap<V> {
         all_keys(alloc, &self.leaves)
     }
 
-    /// The keys of a range, rising.
+    /// Returns the keys of a range, rising.
     pub fn keys_within(&self, alloc: Global, low: u64, high: u64) -> Result<Vec<u64>, AllocError>
         requires { low ≤ high }
         ensures rising { IfOk result (λ keys. AllPairs (λ k l. k < l) keys.items) }

@@ -7,7 +7,7 @@ use crate::leaf::Leaf;
 use crate::searching::leaf_of;
 use std::alloc::{AllocError, Global};
 
-/// All keys.
+/// Returns all keys.
 pub(crate) fn all_keys<V>(alloc: Global, leaves: &[Leaf<V>]) -> Result<Vec<u64>, AllocError>
     ensures { IfOk result (λ keys. keys.items ≡ map (λ e. e.0) (entries_of leaves.now)) }
 {
@@ -28,7 +28,7 @@ fn push_keys<V>(keys: &mut Vec<u64>, entries: &[(u64, V)]) -> Result<(), AllocEr
     Ok(())
 }
 
-/// The keys of a range.
+/// Returns the keys of a range.
 pub(crate) fn keys_of<V>(
     alloc: Global,
     leaves: &[Leaf<V>],
@@ -74,7 +74,7 @@ fn push_if(keys: &mut Vec<u64>, key: u64, low: u64, high: u64) -> Result<(), All
     Ok(())
 }
 
-/// Whether a key is in a range.
+/// Returns whether a key is in a range.
 fn is_within(low: u64, high: u64, key: u64) -> bool
     ensures { result ≡ is_between low high key }
 {

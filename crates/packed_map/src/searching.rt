@@ -1,5 +1,6 @@
-// Where a key stands, or belongs. What came, was replaced or went last is often asked for next: so
-// its place is tried first. A key that is read moves nothing.
+// The place of a key, or the place at which it would be inserted. The key that was inserted,
+// replaced or removed last is often asked for next, so its place is tried first. Reading a key
+// changes no such place.
 ghost use Rattle.std.specs.Prelude.{◌<◌, length, IsTrue};
 ghost use Rattle.std.specs.List.Sorted.{IsBinarySearchResult, IsPartitionPoint, IsSearchInRange};
 ghost use Rattle.std.specs.Ordering.{nat_cmp, ordering_index};
@@ -8,7 +9,8 @@ ghost use Rattle.packed_map.specs.Searching.{IsGap};
 
 use crate::leaf::Leaf;
 
-/// The place of a key among entries by rising key, or that at which it would stand.
+/// Returns the place of a key among entries by rising key, or the place at which it would be
+/// inserted.
 pub(crate) fn place_of<V>(entries: &[(u64, V)], near: usize, key: u64) -> Result<usize, usize>
     ensures bound { IsSearchInRange result (length entries.now) }
     ensures position { IsBinarySearchResult (λ e. nat_cmp e.0 key) entries.now result }
@@ -22,7 +24,7 @@ pub(crate) fn place_of<V>(entries: &[(u64, V)], near: usize, key: u64) -> Result
     search_by_halves(entries, key)
 }
 
-/// The same, by halves.
+/// Returns the place of a key, or the place at which it would be inserted, by binary search.
 fn search_by_halves<V>(entries: &[(u64, V)], key: u64) -> Result<usize, usize>
     ensures bound { IsSearchInRange result (length entries.now) }
     ensures position { IsBinarySearchResult (λ e. nat_cmp e.0 key) entries.now result }
@@ -30,7 +32,7 @@ fn search_by_halves<V>(entries: &[(u64, V)], key: u64) -> Result<usize, usize>
     entries.binary_search_by_key(&key, |entry| entry.0)
 }
 
-/// Whether a key belongs between the entries before a place and the one there.
+/// Returns whether a key belongs between the entries before a place and the one there.
 fn is_gap<V>(entries: &[(u64, V)], near: usize, key: u64) -> bool
     ensures { IsTrue result → IsGap key entries.now near }
 {
@@ -40,7 +42,7 @@ fn is_gap<V>(entries: &[(u64, V)], near: usize, key: u64) -> bool
     near == entries.len() || key < entries[near].0
 }
 
-/// The leaf into which a key belongs.
+/// Returns the leaf into which a key belongs.
 pub(crate) fn leaf_of<V>(leaves: &[Leaf<V>], near: usize, key: u64) -> usize
     requires { AreLeaves leaves.now }
     ensures { IsLeafOf key leaves.now result }
@@ -51,7 +53,7 @@ pub(crate) fn leaf_of<V>(leaves: &[Leaf<V>], near: usize, key: u64) -> usize
     searched_leaf(leaves, key)
 }
 
-/// The same, by halves.
+/// Returns the leaf into which a key belongs, by binary search.
 fn searched_leaf<V>(leaves: &[Leaf<V>], key: u64) -> usize
     requires { AreLeaves leaves.now }
     ensures { IsLeafOf key leaves.now result }
@@ -59,7 +61,7 @@ fn searched_leaf<V>(leaves: &[Leaf<V>], key: u64) -> usize
     leaves.partition_point(|leaf| leaf.from <= key) - 1
 }
 
-/// Whether a key belongs into the leaf at a place.
+/// Returns whether a key belongs into the leaf at a place.
 fn is_leaf<V>(leaves: &[Leaf<V>], near: usize, key: u64) -> bool
     requires { AreLeaves leaves.now }
     ensures { IsTrue result → IsLeafOf key leaves.now near }

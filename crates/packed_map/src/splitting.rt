@@ -1,4 +1,4 @@
-// Keys come, and a full leaf is split.
+// Keys are inserted, and a full leaf is split.
 ghost use Rattle.std.specs.Prelude.{◌≡◌, ◌↔◌, ◌<◌, ◌≤◌, length, take, drop, All, Some, IsTrue, IfOk, OnErr, if◌then◌else◌};
 ghost use Rattle.std.specs.List.{HoldsAt};
 ghost use Rattle.std.specs.Result.{is_ok};
@@ -12,7 +12,7 @@ use crate::leaves::put_in;
 use crate::searching::leaf_of;
 use std::alloc::AllocError;
 
-/// A leaf is full at this many entries, or at a part of the number of leaves where that is more: so
+/// A leaf is full at this many entries, or at a part of the number of leaves if that is more. So
 /// neither the list of leaves nor a leaf gets long.
 const LEAST_FULL: usize = 64;
 
@@ -39,14 +39,14 @@ pub(crate) fn insert_in<V: Drop>(
     }
 }
 
-/// How many entries a leaf of so many may have.
+/// Returns how many entries a leaf may have if there are this many leaves.
 fn most_entries(leaves: usize) -> usize
     ensures { 0 < result }
 {
     LEAST_FULL.max(leaves / 32)
 }
 
-/// The leaf into which a key belongs, once it is split where it is full.
+/// Returns the leaf into which a key belongs, after it was split if it was full.
 fn room_for<V: Drop>(
     leaves: &mut Vec<Leaf<V>>,
     near: usize,
@@ -67,7 +67,7 @@ fn room_for<V: Drop>(
     Ok(leaf_of(leaves, at + 1, key))
 }
 
-/// Splits a leaf for a key that is to come.
+/// Splits a leaf for a key that will be inserted.
 fn split_leaf<V: Drop>(leaves: &mut Vec<Leaf<V>>, at: usize, key: u64) -> Result<(), AllocError>
     requires leaves { AreLeaves leaves.old.items }
     requires place { IsLeafOf key leaves.old.items at }
@@ -84,8 +84,9 @@ fn split_leaf<V: Drop>(leaves: &mut Vec<Leaf<V>>, at: usize, key: u64) -> Result
 }
 
 impl<V: Drop> Leaf<V> {
-    /// Cuts off entries before a key comes: none, where the key is above them all and theirs is the
-    /// last leaf, so that keys that come in rising order leave full leaves; or else the upper half.
+    /// Cuts off entries before a key is inserted. It cuts off none if the key is above them all and
+    /// this is the last leaf, so keys that come in rising order leave full leaves. Otherwise it
+    /// cuts off the upper half.
     fn cut(&mut self, key: u64, is_last: bool) -> Result<Leaf<V>, AllocError>
         requires rise { KeysRise self.old.entries.items }
         requires some { 0 < length self.old.entries.items }
@@ -104,7 +105,7 @@ impl<V: Drop> Leaf<V> {
     }
 }
 
-/// Where entries are cut before a key comes, and the least key behind that.
+/// Returns the place at which entries are cut before a key is inserted, and the least key after it.
 fn split_place<V>(entries: &[(u64, V)], key: u64, is_last: bool) -> (usize, u64)
     requires rise { KeysRise entries.now }
     requires some { 0 < length entries.now }
@@ -119,7 +120,7 @@ fn split_place<V>(entries: &[(u64, V)], key: u64, is_last: bool) -> (usize, u64)
     (half, entries[half].0)
 }
 
-/// Whether a key is above those of all entries.
+/// Returns whether a key is above those of all entries.
 fn is_above<V>(entries: &[(u64, V)], key: u64) -> bool
     requires { KeysRise entries.now }
     ensures { IsTrue result ↔ All (λ e. e.0 < key) entries.now }

@@ -16,7 +16,7 @@ escaped_byte byte = if byte == mark then codes "\\u003c" else byte ∷ []
 abbrev pub escaped : List ℕ → List ℕ
 escaped text = concat (map escaped_byte text)
 
--- a part of a page and a text after it
+-- a text, then a part of a page, then another text
 abbrev pub with_block : List ℕ → List ℕ → List ℕ → List ℕ
 with_block page before text = (page ++ before) ++ escaped text
 
@@ -33,6 +33,6 @@ page_text history judged located explained order =
 abbrev pub EscapedTextsHaveNoMark : Type 0
 EscapedTextsHaveNoMark = (text : List ℕ) → All (λ byte. byte ≢ mark) (escaped text)
 
--- a text that has none is escaped as it is
+-- a text without `<` is escaped as it is
 abbrev pub UnmarkedTextsStay : Type 0
 UnmarkedTextsStay = (text : List ℕ) → All (λ byte. byte ≢ mark) text → escaped text ≡ text

@@ -1,4 +1,4 @@
--- What the program answers to the text of a history that it is to draw.
+-- The program's answer to the text of a history that it draws.
 use Rattle.std.specs.Prelude.{◌≡◌, ℕ, List, Option, Some, None, length}
 use Rattle.events.specs.HistoryView.{HistoryView}
 use Rattle.events.specs.Operations.{operations}
@@ -31,7 +31,7 @@ event_of (locations.Undecided event number) = None
 abbrev pub whole : View
 whole = record { around = 0; calls = 0 }
 
--- the view that asks for nothing, since no history has such an event, or so many calls
+-- the view that asks for nothing: no history has such an event, or so many calls
 abbrev pub unasked : View
 unasked = record { around = 8192; calls = 4097 }
 
@@ -42,15 +42,15 @@ pub record IsPartShown (choice : Choice) (view : View) (history : HistoryView) (
   pub pictured : IsPictureOf history verdict wrong front picture
   pub viewed : IsShownAs choice (length history.events) wrong view picture part
 
--- the text is that of such a part
+-- the text is that of a part which this choice shows
 pub record IsDrawnText (choice : Choice) (view : View) (history : HistoryView) (verdict : Verdict) (wrong : Option ℕ)
     (front text : List ℕ) : Type 0 where
   pub part : Picture
   pub shown : IsPartShown choice view history verdict wrong front part
   pub text_is : IsSvgOf STYLE.now part text
 
--- the text is one of what is shown of a picture of the exact verdict on the history, which is this
--- answer; the event marked as wrong is that of a location of the history
+-- the text is that of the part shown of a picture of the exact verdict on the history, which is
+-- this answer. The event marked as wrong is that of a location of the history
 pub record IsDrawing (budget : ℕ) (view : View) (history : HistoryView) (answer : Answer) (text : List ℕ) : Type 0 where
   pub verdict : Verdict
   pub location : Location
@@ -68,8 +68,8 @@ pub record IsDrawing (budget : ℕ) (view : View) (history : HistoryView) (answe
   pub text_is : IsSvgOf STYLE.now part text
   pub answer_is : answer ≡ answer_of verdict
 
--- what `draw` answers to the text at the budget: what is shown of a picture of the verdict on the
--- history if this view is asked for
+-- the answer of `draw` to the text at the budget: the part of a picture of the verdict on the
+-- history that this view asks for
 pub record IsViewAnswer (budget : ℕ) (view : View) (text : List ℕ) (answer : Answer) (bytes : List ℕ) : Type 0 where
   pub history : HistoryView
   pub drawing : List ℕ
@@ -77,10 +77,10 @@ pub record IsViewAnswer (budget : ℕ) (view : View) (text : List ℕ) (answer :
   pub is_drawing : IsDrawing budget view history answer drawing
   pub bytes_are : bytes ≡ line drawing
 
--- or with the whole picture
+-- the answer of `draw` with the whole picture
 abbrev pub IsDrawAnswer : ℕ → List ℕ → Answer → List ℕ → Type 0
 IsDrawAnswer budget text answer bytes = IsViewAnswer budget whole text answer bytes
 
--- or with what is shown of it if nothing is asked for
+-- the answer of `draw` if the view asks for nothing
 abbrev pub IsUnaskedAnswer : ℕ → List ℕ → Answer → List ℕ → Type 0
 IsUnaskedAnswer budget text answer bytes = IsViewAnswer budget unasked text answer bytes

@@ -26,10 +26,10 @@ use pictures::View;
 use segments::Segment;
 use std::alloc::Global;
 
-/// What is shown of a verdict and of where the history goes wrong. If nothing is asked for: after a
-/// no a few calls that show it, with those that put what these read from outside and those that these
-/// miss; after an undecided the same of the events up to where the history goes wrong, if that was
-/// found. Otherwise the part that is asked for.
+/// Returns what is shown of a verdict and of a location. If the view asks for a part, it is that
+/// part. Otherwise it is a few calls that show a no, the calls that put what these read from
+/// outside, and those that these miss. After an undecided it is the same for the events up to where
+/// the history goes wrong, if that was found.
 pub(crate) fn choice_of(
     alloc: Global,
     history: &History,
@@ -49,7 +49,7 @@ pub(crate) fn choice_of(
     }
 }
 
-/// What is shown if nothing is asked for.
+/// Returns what is shown if the view asks for nothing.
 fn unasked_choice(
     alloc: Global,
     history: &History,
@@ -68,7 +68,7 @@ fn unasked_choice(
     }
 }
 
-/// The few calls of a segment that are shown.
+/// Returns the few calls of a segment that are shown.
 fn segment_choice(
     alloc: Global,
     history: &History,
@@ -84,7 +84,7 @@ fn segment_choice(
     Ok(choice)
 }
 
-/// The few calls that are shown of a location.
+/// Returns a few calls that show a location.
 fn located_choice(
     alloc: Global,
     history: &History,
@@ -99,7 +99,7 @@ fn located_choice(
     Ok(choice)
 }
 
-/// The few calls that are shown of what shows a location.
+/// Returns a few calls that show a location, from its evidence.
 fn evidence_choice(alloc: Global, history: &History, evidence: &Evidence) -> Result<Choice, Memory>
     requires refutes { Refutes history.now evidence.now }
     ensures { IfOk result (IsChoiceFor history.now evidence.now) }
@@ -111,8 +111,9 @@ fn evidence_choice(alloc: Global, history: &History, evidence: &Evidence) -> Res
     }
 }
 
-/// A few calls of a part that goes wrong on its own, with those that put what these read from outside,
-/// those that these miss, and those that put the values of their keys before them.
+/// Returns a few calls of a part that goes wrong on its own. With them are the calls that put what
+/// these read from outside, the calls that these miss, and the calls that put the values of their
+/// keys before them.
 fn part_choice(
     alloc: Global,
     history: &History,
@@ -138,7 +139,7 @@ fn push_begun(places: &mut Vec<usize>, losses: &[KeyLoss]) -> Result<(), Memory>
     Ok(())
 }
 
-/// Adds those at which the calls are invoked that put the values of a key.
+/// Adds the events at which the calls are invoked that put the values of a key.
 fn push_from(places: &mut Vec<usize>, from: &[Origin]) -> Result<(), Memory>
     ensures { OnOk result (places.new.items ≡ places.old.items ++ places_from from.now) }
 {
@@ -158,14 +159,15 @@ fn push_place(places: &mut Vec<usize>, place: Option<usize>) -> Result<(), Memor
     Ok(())
 }
 
-/// Whether a view of a history with so many events asks for no event and for no number of calls.
+/// Returns whether a view of a history with this many events asks for no event and for no number of
+/// calls.
 fn asks_for_nothing(events: usize, view: View) -> bool
     ensures { result ≡ asks_for_nothing events view }
 {
     view.around as usize >= events && view.calls as usize > MAX_CALLS
 }
 
-/// These few calls, with those that put what they read from outside, and those that they miss.
+/// Returns a few calls, with those that put what they read from outside, and those that they miss.
 fn few_shown(
     alloc: Global,
     history: &History,
@@ -179,8 +181,8 @@ fn few_shown(
     Ok(Choice::Few(places))
 }
 
-/// The events at which a few calls are invoked that have no order from these pairs, and those of the
-/// history that put what these read from outside, or that these miss.
+/// Returns the events at which a few calls without order from these pairs are invoked. Also the
+/// events of the calls of the history that put what these read from outside, or that these miss.
 fn places_of_few(
     alloc: Global,
     history: &History,
@@ -196,8 +198,8 @@ fn places_of_few(
     Ok(places)
 }
 
-/// The events at which a few calls are invoked, and those of the history that put what these read
-/// from outside, if the map holds these pairs at the start.
+/// Returns the events at which a few calls are invoked, and the events of the calls of the history
+/// that put what these read from outside. The map holds these pairs at the start.
 fn few_places(
     alloc: Global,
     history: &History,
@@ -214,14 +216,14 @@ fn few_places(
     Ok(places)
 }
 
-/// The events at which calls are invoked.
+/// Returns the events at which calls are invoked.
 fn places_of(alloc: Global, calls: &[Operation]) -> Result<Vec<usize>, Memory>
     ensures { IfOk result (λ places. places.items ≡ places_of calls.now) }
 {
     Ok(calls.iter().map(|call| call.inv).collect(alloc)?)
 }
 
-/// Adds those at which the calls are invoked that put one of some pairs.
+/// Adds the events at which the calls are invoked that put one of some pairs.
 fn push_puts(
     alloc: Global,
     places: &mut Vec<usize>,
@@ -237,7 +239,7 @@ fn push_puts(
     Ok(())
 }
 
-/// Adds those at which the calls are invoked that one of these few misses.
+/// Adds the events at which the calls are invoked that one of these few misses.
 fn push_missed(
     alloc: Global,
     places: &mut Vec<usize>,
@@ -253,7 +255,7 @@ fn push_missed(
     Ok(())
 }
 
-/// The events at which the calls are invoked that one misses.
+/// Returns the events at which the calls are invoked that one misses.
 fn events_missed(alloc: Global, calls: &[Operation], call: &Operation) -> Result<Vec<usize>, Memory>
     ensures { IfOk result (λ places. places.items ≡ places_of (missed_by call.now calls.now)) }
 {
@@ -262,7 +264,7 @@ fn events_missed(alloc: Global, calls: &[Operation], call: &Operation) -> Result
     Ok(places)
 }
 
-/// The events of calls that are missed.
+/// Returns the events of calls that are missed.
 fn events_of(alloc: Global, missed: &[Missed]) -> Result<Vec<usize>, Memory>
     ensures { IfOk result (λ places. places.items ≡ map (λ (m : Missed). m.event) missed.now) }
 {

@@ -34,12 +34,13 @@ use pictures::{Picture, View, few_of, front_of, part_of, picture_of};
 use std::alloc::Global;
 use streams::{Sink, Source};
 
-/// Reads a history text to the end of the source, or until it is too long, has it judged, and draws
-/// the verdict. A no or an undecided has two marks: the event at which the history goes wrong, if
-/// the judge's budget suffices to locate it, and the longest front that a search of the named
-/// segment meets. The part of the picture is drawn that the view asks for. If it asks for nothing, a
-/// few calls are drawn that show a no, or what was located after an undecided, with those that put
-/// what they read and those that they miss. Returns the exit status, that of the verdict.
+/// Reads a history text to the end of the source, or until it is too long, lets the judge judge it,
+/// and draws the verdict. A no or an undecided has two marks: the event at which the history goes
+/// wrong, if the judge's budget suffices to locate it, and the longest front that a search of the
+/// named segment meets. It draws the part of the picture that the view asks for. If the view asks
+/// for nothing, it draws a few calls that show a no, or what was located after an undecided. With
+/// them it draws the calls that put what they read, and those that they miss. Returns the exit
+/// status, which is that of the verdict.
 pub fn run_draw<S: Source, O: Sink, F: Sink, H: Sink, J: Judge>(
     alloc: Global,
     source: &mut S,
@@ -71,7 +72,8 @@ pub fn run_draw<S: Source, O: Sink, F: Sink, H: Sink, J: Judge>(
     run_text(alloc, source, output, faults, hints, MAX_TEXT, answer)
 }
 
-/// The part that the view asks for of a picture of the verdict on the history that the text spells.
+/// Draws the part that the view asks for, of a picture of the verdict on the history that the text
+/// spells.
 pub fn draw_outcome<J: Judge>(alloc: Global, text: &[u8], judge: &J, view: View) -> RunOutcome
     requires { J.ready judge.now }
     ensures outcome { IsTextOutcome (IsViewAnswer (J.budget judge.now) view) IsHistoryRefusal
@@ -84,7 +86,7 @@ pub fn draw_outcome<J: Judge>(alloc: Global, text: &[u8], judge: &J, view: View)
     }
 }
 
-/// How a drawing comes out, or that memory ran out.
+/// Returns the outcome of a drawing, or that memory ran out.
 fn outcome_of(drawn: Result<(Answer, String), Memory>) -> RunOutcome
     ensures outcome { (budget : ℕ) (view : View) (text : List ℕ) (history : HistoryView)
         → IsTextOf text history
@@ -98,7 +100,7 @@ fn outcome_of(drawn: Result<(Answer, String), Memory>) -> RunOutcome
     }
 }
 
-/// The text of a picture of the verdict on a history, with the answer that the verdict is.
+/// Returns the text of a picture of the verdict on a history, and the answer for the verdict.
 fn drawing_of<J: Judge>(
     alloc: Global,
     history: &History,
@@ -116,8 +118,8 @@ fn drawing_of<J: Judge>(
     drawing_with(alloc, history, budget, &verdict, &location, view)
 }
 
-/// The text of what a view shows of a picture of this verdict on a history, with the event of this
-/// location marked as wrong, and the answer that it is.
+/// Returns the text of what a view shows of a picture of this verdict on a history, and the answer
+/// for the verdict. The event of this location is marked as wrong.
 fn drawing_with(
     alloc: Global,
     history: &History,
@@ -141,7 +143,7 @@ fn drawing_with(
     Ok((answer_of(verdict), drawing))
 }
 
-/// The text of what is shown of the picture with this front.
+/// Returns the text of what is shown of the picture with this front.
 fn drawn_text(
     alloc: Global,
     history: &History,
@@ -160,7 +162,7 @@ fn drawn_text(
     Ok(text)
 }
 
-/// What is shown of the picture with this front.
+/// Returns what is shown of the picture with this front.
 fn part_shown(
     alloc: Global,
     history: &History,
@@ -178,7 +180,7 @@ fn part_shown(
     Ok(part)
 }
 
-/// What a choice shows of a picture of a history with so many events.
+/// Returns what a choice shows of a picture of a history with this many events.
 fn shown_as(
     alloc: Global,
     choice: &Choice,
@@ -195,7 +197,7 @@ fn shown_as(
     }
 }
 
-/// The event at which a location says that the history goes wrong.
+/// Returns the event at which a location says that the history goes wrong.
 fn event_of(location: &Location) -> Option<usize>
     ensures { result ≡ event_of location.now }
 {

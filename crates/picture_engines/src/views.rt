@@ -1,4 +1,4 @@
-// Views that hold for every history.
+// Two views, which mean the same for every history.
 ghost use Rattle.std.specs.Prelude.{◌≡◌, ℕ, ◌*◌, ◌≤◌, true};
 ghost use Rattle.events.specs.Limits.{call_limit};
 ghost use Rattle.picture_engines.specs.Choices.{asks_for_nothing};
@@ -6,7 +6,7 @@ ghost use Rattle.picture_engines.specs.Drawings.{unasked, whole};
 
 use pictures::View;
 
-/// The view that shows a whole picture.
+/// Returns the view that shows a whole picture.
 pub fn whole_view() -> View
     ensures { result ≡ whole }
 {
@@ -16,7 +16,8 @@ pub fn whole_view() -> View
     }
 }
 
-/// The view that asks for nothing: for an event, and for a number of calls, that no history has.
+/// Returns the view that asks for nothing: for an event, and for a number of calls, that no history
+/// has.
 pub fn unasked_view() -> View
     ensures view { result ≡ unasked }
     ensures asked { (events : ℕ) → events ≤ 2 * call_limit → asks_for_nothing events result ≡ true }

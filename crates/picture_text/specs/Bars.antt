@@ -1,4 +1,4 @@
--- The bars of a text. Each definition gives the text so far with one part more behind it.
+-- The bars of a text. Each definition gives the text so far with one more part at the end.
 use Rattle.std.specs.Prelude.{ℕ, ◌+◌, ◌-◌, nat_lt, Bool, true, false, if◌then◌else◌, List, [], ◌∷◌, ◌++◌, Option, Some, None, option_map, codes}
 use Rattle.std.specs.Prelude.{decimal, string_bytes}
 use Rattle.pictures.specs.declared.picture.Bar.{Bar}
@@ -18,7 +18,7 @@ abbrev pub answered_text : Option ℕ → List ℕ
 answered_text None = codes " on, pending"
 answered_text (Some res) = codes " to event " ++ decimal res
 
--- a reply, where there is one
+-- a reply, if there is one
 abbrev pub with_reply : List ℕ → Option (List ℕ) → List ℕ
 with_reply text None = text
 with_reply text (Some words) = text ++ codes ": " ++ escaped words
@@ -49,8 +49,8 @@ with_open text x y end =
     text ++ (codes "<path class='bar' d='M" ++ (decimal end ++ (codes " " ++ decimal y))) ++ (codes "H" ++ (decimal x ++ (codes "v18H"
     ++ (decimal end ++ codes "'/>"))))
 
--- a line to the right, down and back; a rectangle that is open at the left; and one that is at both
--- ends, whose line leaves out its right side
+-- a line to the right, down and back; a rectangle that is open at the left; a rectangle that is
+-- open at both ends, whose line leaves out its right side
 abbrev pub turn_text : ℕ → ℕ → List ℕ
 turn_text x end = codes "H" ++ (decimal end ++ (codes "v18H" ++ (decimal x ++ codes "'/>")))
 
@@ -65,7 +65,7 @@ abbrev pub with_both_open : List ℕ → ℕ → ℕ → ℕ → List ℕ
 with_both_open text x y end = text ++ dashes_text x y (end - x) ++ turn_text x end
 
 -- the shape of a bar: a rectangle from its invocation to its response, or one that is open to the
--- end, or from the beginning of what is shown
+-- end, or open from the beginning of the part that is shown
 abbrev pub with_shape_from : List ℕ → ℕ → ℕ → ℕ → ℕ → Bool → Option ℕ → List ℕ
 with_shape_from text width columns from y false (Some to) = text ++ rectangle_text (x_of width from) y (x_of width to - x_of width from)
 with_shape_from text width columns from y false None = with_open text (x_of width from) y (x_of width columns)
@@ -85,8 +85,8 @@ abbrev pub with_stripes : List ℕ → ℕ → ℕ → Bar → List ℕ
 with_stripes text width columns bar =
     if bar.is_wrong then text ++ stripes_text (x_of width bar.from) (y_of bar.lane + 28) (x_of width (end_of columns bar)) else text
 
--- how the number of a call is drawn: one of more than three digits smaller, so that it ends before
--- the circle in the next column
+-- how the number of a call is drawn: smaller if it has more than three digits, so that it ends
+-- before the circle in the next column
 abbrev pub number_class : ℕ → List ℕ
 number_class number = if nat_lt 999 number then codes "number long" else codes "number"
 
@@ -96,7 +96,7 @@ number_text width bar =
     codes "<text class='" ++ (number_class bar.number ++ (codes "' x='" ++ (decimal (x_of width bar.from + 3) ++ (codes "' y='"
     ++ (decimal (y_of bar.lane + 32) ++ (codes "'>" ++ (decimal bar.number ++ codes "</text>")))))))
 
--- words at a place, cut to their room
+-- words at a place, cut to the room that they have
 abbrev pub with_label : List ℕ → ℕ → ℕ → List ℕ → ℕ → List ℕ
 with_label text x y words room =
     text ++ (codes "<text x='" ++ (decimal x ++ (codes "' y='" ++ (decimal y ++ codes "'>")))) ++ shown room words ++ codes "</text>"

@@ -2,8 +2,8 @@
 use Rattle.std.specs.Prelude.{◌≢◌, ℕ, ◌-◌, ◌==◌, ◌&&◌, nat_le, if◌then◌else◌, List, [], ◌∷◌, ◌++◌, length, map, take, codes, All}
 use Rattle.std.specs.List.{concat}
 
--- a byte of a content: `<`, `>`, `&` and both quotes by their references, other printable ASCII as
--- it is, anything else as `?`
+-- a byte of a content: `<`, `>`, `&` and both quotes as references, other printable ASCII as it is,
+-- anything else as `?`
 abbrev pub escaped_byte : ℕ → List ℕ
 escaped_byte byte =
     if byte == 60 then codes "&lt;"
@@ -18,7 +18,7 @@ escaped_byte byte =
 abbrev pub escaped : List ℕ → List ℕ
 escaped content = concat (map escaped_byte content)
 
--- a content that has room for so many letters, cut with an ellipsis where it has more
+-- a content with room for this many letters, cut with an ellipsis if it has more
 abbrev pub shown : ℕ → List ℕ → List ℕ
 shown room content = if nat_le (length content) room then escaped content else escaped (take (room - 1) content) ++ codes "&#8230;"
 

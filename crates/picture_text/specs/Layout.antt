@@ -1,33 +1,35 @@
--- Where things stand, in the units of the text, at a width of a column.
+-- Positions in the picture, in the units of the text, for a width of a column.
 use Rattle.std.specs.Prelude.{ℕ, ◌+◌, ◌-◌, ◌*◌, ◌/◌, ◌≤◌, nat_le, if◌then◌else◌, max, min, List, length, map, Option, Some, None, option_map, string_bytes}
 use Rattle.list_laws.specs.Lists.{greatest}
 use Rattle.pictures.specs.declared.picture.Bar.{Bar}
 use Rattle.pictures.specs.declared.picture.PicturePart.{PicturePart}
 
--- how many columns stand between two columns of names: as many as fill 1,200 units with one
+-- how many columns are between two columns of names: together with one of these they fill 1,200
+-- units
 abbrev pub per_screen : ℕ → ℕ
 per_screen width = 1104 / max width 1
 
--- how many columns of names stand before a column, besides that at the left
+-- how many columns of names are before a column, apart from that at the left
 abbrev pub screens_before : ℕ → ℕ → ℕ
 screens_before width column = (column - 1) / max (per_screen width) 1
 
--- how wide the columns from one column of names to the next are, with it
+-- the width of a column of names together with the columns up to the next one
 abbrev pub screen_width : ℕ → ℕ
 screen_width width = width * per_screen width + 96
 
--- where the names of a column of names begin, from the left: 80 before the column behind it
+-- the left end of a column of names: 80 units before the column that follows it
 abbrev pub names_at : ℕ → ℕ → ℕ
 names_at width screen = 16 + width + screen_width width * screen
 
--- a column from the left, behind the columns of names before it, and a lane from above
+-- the position of a column from the left, after the columns of names before it, and of a lane from
+-- the top
 abbrev pub x_of : ℕ → ℕ → ℕ
 x_of width column = 96 + width * column + 96 * screens_before width column
 
 abbrev pub y_of : ℕ → ℕ
 y_of lane = 70 + 58 * lane
 
--- the column of a response, or that behind all columns
+-- the column of a response; for a pending call, the one after all columns
 abbrev pub end_from : ℕ → Option ℕ → ℕ
 end_from columns None = columns
 end_from columns (Some to) = to
@@ -52,12 +54,12 @@ letters_of bar = letters (string_bytes bar.call) (option_map string_bytes bar.re
 abbrev pub width_for : ℕ → Bar → ℕ
 width_for columns bar = (letters_of bar * 6 + 6) / (end_of columns bar - bar.from + 1) + 1
 
--- the width of a column that the words of all bars ask for, from 28 to 72
+-- the width of a column that the words of all bars need, from 28 to 72
 abbrev pub asked_width : ℕ → List Bar → ℕ
 asked_width columns bars = min 72 (max 28 (greatest (map (width_for columns) bars)))
 
--- the greatest width of a column: 72, or where so many columns can stand on 1,200 units at 28, one
--- at which they do
+-- the greatest width of a column: 72, or less if the columns then fit on 1,200 units, which they do
+-- if there are at most 38
 abbrev pub widest : ℕ → ℕ
 widest columns = if nat_le columns 38 then min 72 (1072 / max columns 1) else 72
 
@@ -65,17 +67,17 @@ widest columns = if nat_le columns 38 then min 72 (1072 / max columns 1) else 72
 abbrev pub column_width : ℕ → List Bar → ℕ
 column_width columns bars = min (widest columns) (asked_width columns bars)
 
--- what is said of a part has room below
+-- room below for the words on a part
 abbrev pub part_height : Option PicturePart → ℕ
 part_height None = 0
 part_height (Some part) = 16
 
--- how wide the words are before the pairs at the start
+-- the width of the words before the pairs at the start
 abbrev pub start_width : Option PicturePart → ℕ
 start_width None = 72
 start_width (Some part) = 198
 
--- how wide and how high a picture is: the words above and below its lanes have room
+-- the width and the height of a picture; there is room for the words above and below its lanes
 abbrev pub width_of : ℕ → ℕ → ℕ
 width_of width columns = max (x_of width columns + 32) 680
 
@@ -84,6 +86,6 @@ height_of lanes part = y_of lanes + 50 + part_height part
 
 -- ---- laws
 
--- few columns stand on 1,200 units
+-- at most 38 columns fit on 1,200 units
 abbrev pub FewColumnsFit : Type 0
 FewColumnsFit = (columns : ℕ) (bars : List Bar) → columns ≤ 38 → width_of (column_width columns bars) columns ≤ 1200

@@ -1,4 +1,4 @@
--- The marks of a text. The last definition gives the text so far with a mark more behind it.
+-- The marks of a text. The last definition gives the text so far with one more mark at the end.
 use Rattle.std.specs.Prelude.{ℕ, ◌+◌, ◌==◌, nat_lt, if◌then◌else◌, List, [], ◌∷◌, ◌++◌, Option, Some, None, find, codes, decimal}
 use Rattle.pictures.specs.declared.picture.Bar.{Bar}
 use Rattle.pictures.specs.declared.picture.Mark.{Mark}
@@ -13,7 +13,7 @@ place_title place = codes "<g class='mark'><title>place " ++ (decimal place ++ c
 abbrev pub bar_of : List Bar → ℕ → Option Bar
 bar_of bars number = find (λ bar. bar.number == number) bars
 
--- a call in full, where its bar is there, and else its number
+-- a call in full if the picture has its bar, otherwise its number
 abbrev pub with_call_of : List ℕ → ℕ → Option Bar → List ℕ
 with_call_of text number None = text ++ (codes "call " ++ decimal number)
 with_call_of text number (Some bar) = with_call text bar
@@ -26,7 +26,7 @@ with_mark_title text bars mark = with_call_of (text ++ place_title mark.place) m
 abbrev pub circle_text : ℕ → ℕ → List ℕ
 circle_text x y = codes "<circle cx='" ++ (decimal x ++ (codes "' cy='" ++ (decimal y ++ codes "' r='8'/>")))
 
--- how a place is drawn: one of more than three digits smaller, so that it fits the circle
+-- how a place is drawn: smaller if it has more than three digits, so that it fits the circle
 abbrev pub place_class : ℕ → List ℕ
 place_class place = if nat_lt 999 place then codes " class='long'" else codes ""
 

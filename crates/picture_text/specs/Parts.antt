@@ -1,4 +1,4 @@
--- What stands in a text where it is long, or shows a part of a picture.
+-- The additions to a text that is long, or that shows a part of a picture.
 use Rattle.std.specs.Prelude.{ℕ, zero, suc, ◌+◌, ◌==◌, if◌then◌else◌, Bool, true, false, List, [], ◌∷◌, ◌++◌, length, Option, Some, None, codes, decimal}
 use Rattle.pictures.specs.declared.picture.Heading.{Heading}
 use Rattle.pictures.specs.declared.picture.Heading.TheVariants.{Order, NoOrder, Undecided}
@@ -19,7 +19,7 @@ abbrev pub with_names : List ℕ → ℕ → ℕ → List ℕ → List ℕ
 with_names text x lane [] = text
 with_names text x lane (process ∷ processes) = with_names (text ++ again_text x (y_of lane + 32) process) x (lane + 1) processes
 
--- so many columns of names behind one
+-- this many columns of names after one of them
 abbrev pub with_screens : List ℕ → ℕ → List ℕ → ℕ → ℕ → List ℕ
 with_screens text width lanes screen zero = text
 with_screens text width lanes screen (suc more) =
@@ -32,7 +32,7 @@ abbrev pub line_text : ℕ → ℕ → List ℕ
 line_text x bottom =
     codes "<path stroke='#5c6b77' stroke-dasharray='4 3' d='M" ++ (decimal x ++ (codes " 70V" ++ (decimal bottom ++ codes "'/>")))
 
--- how many columns stand before it, and behind it
+-- the words on how many columns are before the part, and how many after it
 abbrev pub before_text : ℕ → List ℕ
 before_text count = codes "<text class='note' x='96' y='66'>&#8592; " ++ (decimal count ++ (codes " more columns</text>" ++ 10 ∷ []))
 
@@ -54,27 +54,28 @@ counts_text columns part =
     decimal columns ++ (codes " of " ++ (decimal (part.before + columns + part.behind) ++ (codes " columns, around event "
     ++ (decimal part.event ++ codes ". "))))
 
--- it is said where not all are shown
+-- the counts, if not all columns are shown
 abbrev pub with_counts : List ℕ → ℕ → PicturePart → List ℕ
 with_counts text columns part = if part.before + part.behind == 0 then text else text ++ counts_text columns part
 
--- that a part of a no or an undecided shows the named segment alone, or a few calls of it
+-- the words on which calls are left out: a part of a no or an undecided shows only the named
+-- segment, or a few calls of it
 abbrev pub alone_text : Bool → Heading → List ℕ
 alone_text true heading = codes "Calls that show where it goes wrong, with those that put what they read and those that they miss."
 alone_text false Order = codes ""
 alone_text false (NoOrder lo hi) = codes "Calls outside of the named segment are left out."
 alone_text false (Undecided lo hi) = codes "Calls outside of the named segment are left out."
 
--- where a line of words begins
+-- the beginning of a line of words
 abbrev pub note_text : ℕ → List ℕ
 note_text y = codes "<text class='note' x='16' y='" ++ (decimal y ++ codes "'>")
 
--- what is shown
+-- the words on what is shown
 abbrev pub with_note : List ℕ → ℕ → ℕ → PicturePart → Bool → Heading → List ℕ
 with_note text y columns part few heading =
     with_counts (text ++ note_text y) columns part ++ alone_text few heading ++ (codes "</text>" ++ 10 ∷ [])
 
--- what is said of a part
+-- the words on a part
 abbrev pub with_part_of : List ℕ → ℕ → Picture → Option PicturePart → List ℕ
 with_part_of text width picture None = text
 with_part_of text width picture (Some part) =

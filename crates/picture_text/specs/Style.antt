@@ -1,4 +1,4 @@
--- How the parts of a picture look, as its text has it: no script, and no name of anything outside.
+-- How the parts of a picture look. The text has no script, and names nothing outside of itself.
 use Rattle.std.specs.Prelude.{◌≡◌, ℕ, List, [], ◌∷◌, ◌++◌, codes}
 use Rattle.picture_text.specs.declared.style.TheConstants.{STYLE}
 
@@ -22,6 +22,6 @@ style_text = with_feeds (
     codes ".mark circle{fill:#1f5673;stroke:#fff}.mark text{fill:#fff;font-size:7.5px;text-anchor:middle}.mark text.long{font-size:5.5px}" ∷
     codes "</style>" ∷ [])
 
--- it is the program's
+-- the style is exactly that of the program
 abbrev pub StyleIsLiteral : Type 0
 StyleIsLiteral = STYLE.now ≡ style_text

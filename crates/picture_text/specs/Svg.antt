@@ -23,7 +23,7 @@ abbrev pub with_marks : List ℕ → ℕ → List Bar → List Mark → List ℕ
 with_marks text width bars [] = text
 with_marks text width bars (mark ∷ marks) = with_marks (with_mark text width bars mark) width bars marks
 
--- what stands above the lanes
+-- the text above the lanes
 unfoldable pub top_text : List ℕ → ℕ → Picture → List ℕ
 top_text style all picture =
     with_start (with_heading (head_text all (height_of (length picture.lanes.items) picture.part) ++ style) picture.heading)
@@ -34,7 +34,7 @@ abbrev pub with_legend_of : List ℕ → Picture → List ℕ
 with_legend_of text picture =
     with_legend text (y_of (length picture.lanes.items) + 20) picture.heading (has_wrong picture.bars.items)
 
--- the text of a picture, with these lines on how its parts look, at a width of a column
+-- the text of a picture, with these lines of style, at a width of a column
 abbrev pub svg_text : List ℕ → ℕ → Picture → List ℕ
 svg_text style width picture =
     let all = width_of width picture.columns in
@@ -44,6 +44,6 @@ svg_text style width picture =
     let legend = with_legend_of (with_marks names width picture.bars.items picture.marks.items) picture in
     with_part legend width picture ++ codes "</svg>"
 
--- the text of a picture: at the width of a column at which its words have room
+-- the text of a picture, at the width of a column that its words need
 abbrev pub IsSvgOf : List ℕ → Picture → List ℕ → Type 0
 IsSvgOf style picture text = text ≡ svg_text style (column_width picture.columns picture.bars.items) picture

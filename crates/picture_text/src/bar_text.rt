@@ -9,8 +9,8 @@ use crate::layout::{end_of, room_of, x_of, y_of};
 use events::Memory;
 use pictures::Bar;
 
-/// Adds a bar: its shape, the number of its call, and the call and its reply in words, cut to the
-/// room that they have; whole they stand in its title.
+/// Adds a bar: its shape, the number of its call, and the call and its reply in words. The words
+/// are cut to the room that they have; the title has them in full.
 pub fn push_bar(out: &mut String, width: u8, columns: usize, bar: &Bar) -> Result<(), Memory>
     ensures { OnOk result (string_bytes out.new ≡ with_bar (string_bytes out.old) width columns
         bar.now) }
@@ -34,8 +34,8 @@ fn push_opening(out: &mut String, bar: &Bar) -> Result<(), Memory>
     Ok(())
 }
 
-/// How a bar is drawn: as the one at which the history goes wrong, as one of which the verdict
-/// speaks, or pale.
+/// Returns how a bar is drawn: as the one at which the history goes wrong, as one that the verdict
+/// concerns, or pale.
 fn class_of(bar: &Bar) -> &'static str
     ensures { result.now ≡ class_of bar.now }
 {
@@ -103,8 +103,8 @@ fn push_replied(out: &mut String, bar: &Bar) -> Result<(), Memory>
     Ok(())
 }
 
-/// Adds the shape of a bar: a rectangle from the invocation to the response, or one that is open at
-/// the right, or at the left where the bar begins before what is shown, or at both.
+/// Adds the shape of a bar: a rectangle from the invocation to the response. It is open at the
+/// right if the call is pending, and at the left if the bar begins before the part that is shown.
 fn push_shape(out: &mut String, width: u8, columns: usize, bar: &Bar) -> Result<(), Memory>
     ensures { OnOk result (string_bytes out.new ≡ with_shape (string_bytes out.old) width columns
         bar.now) }
@@ -130,8 +130,8 @@ fn push_rectangle(out: &mut String, x: u128, y: u128, span: u128) -> Result<(), 
     Ok(())
 }
 
-/// Adds a rectangle that is open at the right: its line is that of one which is open at the left,
-/// from the other end.
+/// Adds a rectangle that is open at the right. Its line is that of one which is open at the left,
+/// drawn from the other end.
 fn push_open(out: &mut String, x: u128, y: u128, end: u128) -> Result<(), Memory>
     ensures { OnOk result (string_bytes out.new ≡ with_open (string_bytes out.old) x y end) }
 {
@@ -146,7 +146,7 @@ fn push_left_open(out: &mut String, x: u128, y: u128, end: u128) -> Result<(), M
     push_turn(out, x, end)
 }
 
-/// Adds a rectangle that is open at both ends: of its line the part at the right is left out.
+/// Adds a rectangle that is open at both ends. Its line leaves out the right side.
 fn push_both_open(out: &mut String, x: u128, y: u128, end: u128) -> Result<(), Memory>
     ensures { OnOk result (string_bytes out.new ≡ with_both_open (string_bytes out.old) x y end) }
 {
@@ -154,8 +154,7 @@ fn push_both_open(out: &mut String, x: u128, y: u128, end: u128) -> Result<(), M
     push_turn(out, x, end)
 }
 
-/// Adds the beginning of a line of which what is behind so much and before its last so much is left
-/// out.
+/// Adds the beginning of a line that leaves out a gap of 18 units after `span` units.
 fn push_dashes(out: &mut String, x: u128, y: u128, span: u128) -> Result<(), Memory>
     ensures { OnOk result (string_bytes out.new ≡ string_bytes out.old ++ dashes_text x y span) }
 {
@@ -174,7 +173,7 @@ fn push_turn(out: &mut String, x: u128, end: u128) -> Result<(), Memory>
     Ok(())
 }
 
-/// Adds stripes across the bar of the call whose answer is where the history goes wrong.
+/// Adds stripes to a bar if its response is where the history goes wrong.
 fn push_stripes(out: &mut String, width: u8, columns: usize, bar: &Bar) -> Result<(), Memory>
     ensures { OnOk result (string_bytes out.new ≡ with_stripes (string_bytes out.old) width columns
         bar.now) }
@@ -187,7 +186,7 @@ fn push_stripes(out: &mut String, width: u8, columns: usize, bar: &Bar) -> Resul
     push_dashed(out, x, y_of(bar.lane) + 28, end)
 }
 
-/// Adds stripes: a line as thick as a bar, of dashes.
+/// Adds stripes: a dashed line as thick as a bar.
 fn push_dashed(out: &mut String, x: u128, y: u128, end: u128) -> Result<(), Memory>
     ensures { OnOk result (string_bytes out.new ≡ string_bytes out.old ++ stripes_text x y end) }
 {
@@ -195,8 +194,8 @@ fn push_dashed(out: &mut String, x: u128, y: u128, end: u128) -> Result<(), Memo
     Ok(())
 }
 
-/// How the number of a call is drawn: one of more than three digits smaller, so that it ends before
-/// the circle in the next column.
+/// Returns how the number of a call is drawn: smaller if it has more than three digits, so that it
+/// ends before the circle in the next column.
 fn number_class(number: usize) -> &'static str
     ensures { result.now ≡ number_class number }
 {
@@ -234,7 +233,7 @@ fn push_words(out: &mut String, width: u8, columns: usize, bar: &Bar) -> Result<
     Ok(())
 }
 
-/// The words of a bar's reply, or that it is pending.
+/// Returns the words of a bar's reply, or that it is pending.
 fn reply_label(bar: &Bar) -> &[u8]
     ensures { result.now ≡ reply_label (option_map string_bytes bar.now.reply) }
 {

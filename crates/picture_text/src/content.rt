@@ -1,11 +1,11 @@
-// Contents: what stands between the tags of a text.
+// Contents: the text between the tags.
 ghost use Rattle.std.specs.Prelude.{◌≡◌, ◌++◌, OnOk, string_bytes};
 ghost use Rattle.picture_text.specs.Content.{escaped_byte, escaped, shown};
 
 use events::Memory;
 
-/// Adds a content to a text, escaped as XML asks: `<`, `>`, `&` and both quotes by their
-/// references. A byte that is no printable ASCII is written as `?`.
+/// Adds a content to a text, escaped as XML requires: `<`, `>`, `&` and both quotes become
+/// references. A byte that is not printable ASCII is written as `?`.
 pub fn push_content(out: &mut String, content: &[u8]) -> Result<(), Memory>
     ensures { OnOk result (string_bytes out.new ≡ string_bytes out.old ++ escaped content.now) }
 {
@@ -31,7 +31,7 @@ fn push_byte(out: &mut String, byte: u8) -> Result<(), Memory>
     Ok(())
 }
 
-/// Adds a content to a text, cut with an ellipsis where it has more bytes than there is room for.
+/// Adds a content to a text, cut with an ellipsis if it has more bytes than there is room for.
 pub fn push_shown(out: &mut String, content: &[u8], room: u128) -> Result<(), Memory>
     ensures { OnOk result (string_bytes out.new ≡ string_bytes out.old ++ shown room content.now) }
 {

@@ -1,4 +1,4 @@
-// What stands around the bars of a text: its head, the words at its top, and its lanes.
+// The parts of a text around the bars: its head, the words at its top, and its lanes.
 ghost use Rattle.std.specs.Prelude.{◌≡◌, ◌<◌, ◌^◌, ◌++◌, OnOk, string_bytes};
 ghost use Rattle.pictures.specs.declared.picture.Heading.TheVariants.{NoOrder, Undecided};
 ghost use Rattle.picture_text.specs.Frame.{head_text, keys_text, verdict_text, with_heading, whole_text, with_start, with_start_words, ground_text, name_text, with_lane, has_wrong, marks_text};
@@ -61,7 +61,7 @@ fn push_undecided(out: &mut String, lo: u64, hi: u64) -> Result<(), Memory>
     Ok(())
 }
 
-/// Adds a range of keys, or the only key of it.
+/// Adds a range of keys, or its only key.
 fn push_keys(out: &mut String, lo: u64, hi: u64) -> Result<(), Memory>
     ensures { OnOk result (string_bytes out.new ≡ string_bytes out.old ++ keys_text lo hi) }
 {
@@ -73,8 +73,8 @@ fn push_keys(out: &mut String, lo: u64, hi: u64) -> Result<(), Memory>
     Ok(())
 }
 
-/// Adds the pairs that the map holds at the start, cut to the room that they have; then they stand
-/// whole in a title.
+/// Adds the pairs that the map holds at the start, cut to the room that they have. If they are cut,
+/// a title has them in full.
 pub fn push_start(
     out: &mut String,
     alloc: Global,
@@ -108,7 +108,7 @@ fn push_start_words(
     Ok(())
 }
 
-/// What stands before the pairs at the start.
+/// Returns the words before the pairs at the start.
 fn start_text(part: &Option<PicturePart>) -> &'static str
     ensures { result.now ≡ start_text part.now }
 {
@@ -118,7 +118,7 @@ fn start_text(part: &Option<PicturePart>) -> &'static str
     }
 }
 
-/// Adds words whole in a title, where they have more letters than there is room for.
+/// Adds words in full in a title, if they have more letters than there is room for.
 fn push_whole(out: &mut String, words: &[u8], room: u128) -> Result<(), Memory>
     ensures { OnOk result (string_bytes out.new ≡ string_bytes out.old ++ whole_text room
         words.now) }
@@ -164,14 +164,14 @@ fn push_name(out: &mut String, y: u128, process: u8) -> Result<(), Memory>
     Ok(())
 }
 
-/// Whether a bar is drawn as the one at which the history goes wrong.
+/// Returns whether a bar is drawn as the one at which the history goes wrong.
 pub fn has_wrong(bars: &[Bar]) -> bool
     ensures { result ≡ has_wrong bars.now }
 {
     bars.iter().any(|bar| bar.is_wrong)
 }
 
-/// Adds what the shapes of a text mean, where a bar is red or none is.
+/// Adds the legend; `red` says whether a bar is red.
 pub fn push_legend(out: &mut String, y: u128, heading: &Heading, red: bool) -> Result<(), Memory>
     requires { y < 2 ^ 81 }
     ensures { OnOk result (string_bytes out.new ≡ with_legend (string_bytes out.old) y heading.now
@@ -192,7 +192,7 @@ fn push_bars_text(out: &mut String, y: u128) -> Result<(), Memory>
     Ok(())
 }
 
-/// Adds what a circle means, and a red and striped bar where there is one.
+/// Adds what a circle means, and what a red and striped bar means if there is one.
 fn push_marks_text(out: &mut String, y: u128, heading: &Heading, red: bool) -> Result<(), Memory>
     ensures { OnOk result (string_bytes out.new ≡ with_marks_text (string_bytes out.old) y
         heading.now red) }
@@ -203,7 +203,7 @@ fn push_marks_text(out: &mut String, y: u128, heading: &Heading, red: bool) -> R
     Ok(())
 }
 
-/// What a circle means, and a red and striped bar where there is one.
+/// Returns what a circle means, and what a red and striped bar means if there is one.
 fn marks_text(heading: &Heading, red: bool) -> &'static str
     ensures { result.now ≡ marks_text heading.now red }
 {

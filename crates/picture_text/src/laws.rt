@@ -1,14 +1,14 @@
-// Laws of what every text has: of contents, of the style, and of its width.
+// Laws that every text obeys: of contents, of the style, and of its width.
 ghost use Rattle.picture_text.specs.Content.{EscapedHasNoMarkup};
 ghost use Rattle.picture_text.specs.Layout.{FewColumnsFit};
 ghost use Rattle.picture_text.specs.Style.{StyleIsLiteral};
 
-/// What is escaped has no byte that begins or ends a tag, or ends a value.
+/// An escaped content has no byte that begins or ends a tag, or ends a value.
 pub fn contents_have_no_markup()
     ensures { EscapedHasNoMarkup }
 {}
 
-/// The style of a text is these lines, which have no script and refer to nothing outside.
+/// The style of a text is these lines. They have no script and name nothing outside.
 pub fn style_is_literal()
     ensures { StyleIsLiteral }
 {}

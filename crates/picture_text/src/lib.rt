@@ -1,7 +1,7 @@
 //! The text of a picture: one SVG that names nothing outside of itself, without a script.
 //!
-//! What stands in it is a function of the picture: its columns are as wide as its words ask, from
-//! 28 to 72, and up to 38 of them stand on 1,200 units.
+//! The text depends only on the picture. A column is as wide as the words need, from 28 to 72
+//! units. Up to 38 columns fit on 1,200 units.
 #![tactic(auto)]
 
 mod bar_text;

@@ -7,8 +7,8 @@ use crate::layout::{x_of, y_of};
 use events::Memory;
 use pictures::{Bar, Mark};
 
-/// Adds a mark of a picture with these bars: a circle at its column and in its lane, with its
-/// place. Its call stands in full in its title.
+/// Adds a mark of a picture with these bars: a circle in its column and its lane, with its place.
+/// Its title has the call in full.
 #[tactic(auto, unfolding(crate::specs::Marks::with_mark))]
 pub fn push_mark(out: &mut String, width: u8, bars: &[Bar], mark: &Mark) -> Result<(), Memory>
     ensures { OnOk result (string_bytes out.new ≡ with_mark (string_bytes out.old) width bars.now
@@ -42,14 +42,14 @@ fn push_opening(out: &mut String, place: usize) -> Result<(), Memory>
     Ok(())
 }
 
-/// The bar of the call with a number.
+/// Returns the bar of the call with a number.
 fn bar_of(bars: &[Bar], number: u32) -> Option<&Bar>
     ensures { option_copied result ≡ bar_of bars.now number }
 {
     bars.iter().find(|bar| bar.number == number as usize)
 }
 
-/// Adds a call in full, where its bar is there, and else its number.
+/// Adds a call in full if the picture has its bar, otherwise its number.
 fn push_call_of(out: &mut String, number: u32, bar: Option<&Bar>) -> Result<(), Memory>
     ensures { OnOk result (string_bytes out.new ≡ with_call_of (string_bytes out.old) number
         (option_copied bar.entry)) }
@@ -76,7 +76,8 @@ fn push_circle(out: &mut String, x: u128, y: u128) -> Result<(), Memory>
     Ok(())
 }
 
-/// How a place is drawn: one of more than three digits smaller, so that it fits the circle.
+/// Returns how a place is drawn: smaller if it has more than three digits, so that it fits the
+/// circle.
 fn place_class(place: usize) -> &'static str
     ensures { result.now ≡ place_class place }
 {

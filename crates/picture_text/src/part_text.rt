@@ -1,4 +1,4 @@
-// What stands in a text where it is long, or shows a part of a picture.
+// The additions to a text that is long, or that shows a part of a picture.
 ghost use Rattle.std.specs.Prelude.{◌≡◌, ◌++◌, OnOk, string_bytes};
 ghost use Rattle.picture_text.specs.Parts.{again_text, with_names, with_screens, line_text, before_text, behind_text};
 ghost use Rattle.picture_text.specs.Parts.{with_before, with_behind, counts_text, alone_text, note_text, with_counts, with_note, with_part};
@@ -7,7 +7,7 @@ use crate::layout::{names_at, x_of, y_of};
 use events::Memory;
 use pictures::{Heading, Picture, PicturePart};
 
-/// Adds so many columns of names behind that at the left.
+/// Adds this many columns of names after the one at the left.
 pub fn push_screens(out: &mut String, width: u8, screens: usize, lanes: &[u8]) -> Result<(), Memory>
     ensures { OnOk result (string_bytes out.new ≡ with_screens (string_bytes out.old) width
         lanes.now 0 screens) }
@@ -39,8 +39,8 @@ fn push_again(out: &mut String, x: u128, y: u128, process: u8) -> Result<(), Mem
     Ok(())
 }
 
-/// Adds what is said of a part, where the picture is one: a dashed line at each end at which there
-/// is more, with how many columns that is, and below the legend what is shown.
+/// Adds the words on a part, if the picture is one. Where there is more at an end, there is a
+/// dashed line with the number of columns. Below the legend it says what is shown.
 #[tactic(auto, unfolding(crate::specs::Parts::with_part))]
 pub fn push_part(out: &mut String, width: u8, picture: &Picture) -> Result<(), Memory>
     ensures { OnOk result (string_bytes out.new ≡ with_part (string_bytes out.old) width
@@ -57,7 +57,7 @@ pub fn push_part(out: &mut String, width: u8, picture: &Picture) -> Result<(), M
     Ok(())
 }
 
-/// Adds that there is more before it, where there is.
+/// Adds that there are more columns before the part, if there are.
 fn push_before(out: &mut String, count: usize, bottom: u128) -> Result<(), Memory>
     ensures { OnOk result (string_bytes out.new ≡ with_before (string_bytes out.old) count bottom) }
 {
@@ -72,7 +72,7 @@ fn push_before(out: &mut String, count: usize, bottom: u128) -> Result<(), Memor
     Ok(())
 }
 
-/// Adds that there is more behind it, where there is.
+/// Adds that there are more columns after the part, if there are.
 fn push_behind(out: &mut String, x: u128, count: usize, bottom: u128) -> Result<(), Memory>
     ensures { OnOk result (string_bytes out.new ≡ with_behind (string_bytes out.old) x count
         bottom) }
@@ -99,7 +99,7 @@ fn push_line(out: &mut String, x: u128, bottom: u128) -> Result<(), Memory>
     Ok(())
 }
 
-/// Adds what is shown.
+/// Adds the words on what is shown.
 fn push_note(out: &mut String, y: u128, part: PicturePart, picture: &Picture) -> Result<(), Memory>
     ensures { OnOk result (string_bytes out.new
         ≡ with_note (string_bytes out.old) y picture.now.columns part picture.now.is_few
@@ -120,7 +120,7 @@ fn push_opening(out: &mut String, y: u128) -> Result<(), Memory>
     Ok(())
 }
 
-/// Adds how many columns are shown, of how many, and around which event, where not all are.
+/// Adds how many columns are shown, of how many, and around which event, if not all are shown.
 fn push_counts(out: &mut String, columns: usize, part: PicturePart) -> Result<(), Memory>
     ensures { OnOk result (string_bytes out.new ≡ with_counts (string_bytes out.old) columns
         part) }
@@ -143,7 +143,8 @@ fn push_counted(out: &mut String, columns: usize, part: PicturePart) -> Result<(
     Ok(())
 }
 
-/// That a part of a no or an undecided shows the named segment alone, or a few calls of it.
+/// Returns the words on which calls are left out: a part of a no or an undecided shows only the
+/// named segment, or a few calls of it.
 fn alone_text(is_few: bool, heading: &Heading) -> &'static str
     ensures { result.now ≡ alone_text is_few heading.now }
 {

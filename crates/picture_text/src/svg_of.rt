@@ -14,7 +14,7 @@ use events::Memory;
 use pictures::{Bar, Mark, Picture};
 use std::alloc::Global;
 
-/// The text of a picture, one SVG. It takes time in proportion to its length.
+/// Returns the text of a picture, one SVG. It takes time in proportion to its length.
 pub fn svg(alloc: Global, picture: &Picture) -> Result<String, Memory>
     ensures { IfOk result (λ text. IsSvgOf STYLE.now picture.now (string_bytes text)) }
 {
@@ -25,7 +25,7 @@ pub fn svg(alloc: Global, picture: &Picture) -> Result<String, Memory>
     Ok(text)
 }
 
-/// What stands above the lanes.
+/// Returns the text above the lanes.
 fn top_of(alloc: Global, all: u128, picture: &Picture) -> Result<String, Memory>
     ensures { IfOk result (λ text. string_bytes text ≡ top_text STYLE.now all picture.now) }
 {
@@ -50,7 +50,7 @@ fn push_top(out: &mut String, alloc: Global, all: u128, picture: &Picture) -> Re
     push_start(out, alloc, &picture.part, &picture.start, room)
 }
 
-/// Adds the lanes, and what stands in them and below.
+/// Adds the lanes, with what is in them and below.
 fn push_below(out: &mut String, width: u8, all: u128, picture: &Picture) -> Result<(), Memory>
     requires width { width ≡ column_width picture.now.columns picture.now.bars.items }
     requires all { all ≡ width_of width picture.now.columns }
@@ -85,7 +85,7 @@ fn push_order(out: &mut String, width: u8, picture: &Picture) -> Result<(), Memo
     push_marks(out, width, &picture.bars, &picture.marks)
 }
 
-/// Adds what stands below the lanes, and what is said of a part.
+/// Adds the text below the lanes, and the words on a part.
 fn push_foot(out: &mut String, width: u8, picture: &Picture) -> Result<(), Memory>
     ensures { OnOk result (string_bytes out.new
         ≡ with_part (with_legend_of (string_bytes out.old) picture.now) width picture.now ++ codes

@@ -14,8 +14,8 @@ use Rattle.pictures.specs.Columns.{event_column}
 use Rattle.pictures.specs.Lanes.{lanes}
 use Rattle.pictures.specs.Words.{call_words, reply_words}
 
--- whether a verdict speaks of a call: a yes of all, a no and an undecided of those of the segment
--- that they name
+-- whether a verdict concerns a call: a yes concerns all calls, a no and an undecided those of the
+-- segment that they name
 abbrev pub speaks_of : Verdict → ℕ → Bool
 speaks_of (Yes order) n = true
 speaks_of (No segment) n = has_number segment.numbers n
@@ -27,8 +27,8 @@ is_response None response = false
 is_response (Some event) None = false
 is_response (Some event) (Some response) = response.res == event
 
--- a bar goes from the column of a call's invocation to that of its response, or is open where the
--- call is pending
+-- a bar goes from the column of a call's invocation to that of its response, or is open if the call
+-- is pending
 pub record IsSpanOf (points : List ℕ) (a : Operation) (bar : Bar) : Type 0 where
   pub from : bar.from ≡ event_column points a.inv
   pub to : bar.to ≡ option_map (λ r. event_column points r.res) a.response
@@ -39,7 +39,7 @@ pub record AreSpansOf (calls : List Operation) (points : List ℕ) (bars : List 
   pub each : (n : ℕ) (a : Operation) (bar : Bar) → slice_get calls n ≡ Some a → slice_get bars n ≡ Some bar → IsSpanOf points a bar
 
 -- the bar of a call: in the lane of the process that invokes it, from its invocation to its
--- response; with its keys, and with both in words
+-- response, with its keys, and with the call and the reply in words
 pub record IsBarOf (events : List Event) (points : List ℕ) (verdict : Verdict) (wrong : Option ℕ) (n : ℕ) (a : Operation)
     (bar : Bar) : Type 0 where
   pub number : bar.number ≡ n

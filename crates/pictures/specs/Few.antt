@@ -1,5 +1,5 @@
--- The picture of a few calls alone: some of a history's, told by the events at which they were
--- invoked, in columns of their own events.
+-- The picture of only a few calls of a history. They are named by the events of their invocations,
+-- and the columns are those of their own events.
 use Rattle.std.specs.Prelude.{◌≡◌, ◌≢◌, ℕ, ◌==◌, ◌*◌, ◌≤◌, ◌&&◌, Bool, true, not, List, map, filter, count_by, Option, AllPairs}
 use Rattle.std.specs.List.{list_any}
 use Rattle.events.specs.declared.operation.Operation.{Operation}
@@ -10,14 +10,14 @@ use Rattle.pictures.specs.declared.picture.Picture.{Picture}
 use Rattle.pictures.specs.Marks.{AreMarksOf}
 use Rattle.pictures.specs.Viewports.{column_of, event_meant, IsViewportAround}
 
--- a bar stands out where its call was invoked at one of some places
+-- a bar stands out if its call was invoked at one of some places
 abbrev pub stands_out : List ℕ → Bar → Bool
 stands_out places bar = has_number places bar.inv
 
 abbrev pub named_bar : List ℕ → Bar → Bar
 named_bar places bar = record bar { is_pale = not (stands_out places bar) }
 
--- whether a mark is of such a call
+-- whether a mark is of a call that was invoked at one of these places
 abbrev pub is_of_named : List ℕ → List Bar → Mark → Bool
 is_of_named places bars mark = list_any (λ bar. bar.number == mark.number && stands_out places bar) bars
 
@@ -25,7 +25,7 @@ is_of_named places bars mark = list_any (λ bar. bar.number == mark.number && st
 abbrev pub named_marks : List ℕ → List Bar → List Mark → List Mark
 named_marks places bars marks = filter (is_of_named places bars) marks
 
--- a picture in which these calls alone stand out and are marked
+-- a picture in which only these calls stand out and are marked
 pub record IsNarrowedTo (places : List ℕ) (whole narrowed : Picture) : Type 0 where
   pub heading : narrowed.heading ≡ whole.heading
   pub start : narrowed.start.items ≡ whole.start.items
@@ -38,7 +38,7 @@ pub record IsNarrowedTo (places : List ℕ) (whole narrowed : Picture) : Type 0 
 abbrev pub few_room : ℕ
 few_room = 60
 
--- these calls alone, in columns of their own events and marks; where these have no room, those
+-- only these calls, in columns of their own events and marks; if there is no room for all, those
 -- around the wrong event
 pub record IsFewOf (places : List ℕ) (wrong : Option ℕ) (whole part : Picture) : Type 0 where
   pub narrowed : Picture
@@ -48,8 +48,7 @@ pub record IsFewOf (places : List ℕ) (wrong : Option ℕ) (whole part : Pictur
 
 -- ---- a law
 
--- there are at most three columns of each call that stands out, where an order of distinct calls is
--- marked
+-- each call that stands out has at most three columns, if an order of distinct calls is marked
 abbrev pub FewHaveFewColumns : Type 0
 FewHaveFewColumns =
     (calls : List Operation) (order places : List ℕ) (wrong : Option ℕ) (whole part : Picture) → AllPairs (λ m n. m ≢ n) order

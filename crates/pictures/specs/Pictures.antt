@@ -12,20 +12,20 @@ use Rattle.pictures.specs.Columns.{order_points}
 use Rattle.pictures.specs.Lanes.{lanes}
 use Rattle.pictures.specs.Marks.{AreMarksOf}
 
--- the calls that are marked: those of the order of a yes, else those of a front
+-- the calls that are marked: those of the order of a yes, otherwise those of a front
 abbrev pub marked : Verdict → List ℕ → List ℕ
 marked (verdicts.Yes order) front = order.items
 marked (verdicts.No segment) front = front
 marked (verdicts.Undecided segment) front = front
 
--- what a picture says at its top: the verdict, with the keys of the segment that it names
+-- the heading of a picture: the verdict, with the keys of the segment that it names
 abbrev pub heading_of : Verdict → Heading
 heading_of (verdicts.Yes order) = Order
 heading_of (verdicts.No segment) = NoOrder segment.lo segment.hi
 heading_of (verdicts.Undecided segment) = Undecided segment.lo segment.hi
 
--- the picture of a verdict on a history, of the event at which it goes wrong where that is known,
--- and of a front
+-- the picture of a verdict on a history, with a front, and with the event at which the history goes
+-- wrong if that is known
 pub record IsPictureOf (history : HistoryView) (verdict : Verdict) (wrong : Option ℕ) (front : List ℕ) (picture : Picture) : Type 0 where
   pub heading : picture.heading ≡ heading_of verdict
   pub start : picture.start.items ≡ history.start

@@ -1,5 +1,5 @@
--- The part of a picture that a view shows: a viewport of the columns of the calls of which the
--- verdict speaks.
+-- The part of a picture that a view shows: a viewport of the columns of the calls that the verdict
+-- concerns.
 use Rattle.std.specs.Prelude.{◌≡◌, ℕ, ◌+◌, ◌-◌, ◌*◌, ◌/◌, ◌==◌, ◌<◌, ◌≤◌, Bool, true, not, ◌&&◌, ◌||◌, nat_lt, nat_le, if◌then◌else◌, min}
 use Rattle.std.specs.Prelude.{List, ◌++◌, length, map, filter, count_by, position, Option, Some, None, option_map, unwrap_or}
 use Rattle.std.specs.Prelude.{slice_get, MatchBool}
@@ -14,37 +14,38 @@ use Rattle.pictures.specs.Marks.{IsInside}
 
 -- ---- the event in the middle
 
--- the event behind which the last mark stands, and the first one where nothing is marked
+-- the event after which the last mark is, or the first event if nothing is marked
 abbrev pub last_point : List Mark → ℕ
 last_point marks = unwrap_or (option_map (λ m. m.point) (slice_get marks (length marks - 1))) 0
 
--- where none is asked for, the wrong event, and else that of the last mark
+-- the event in the middle if the view asks for none: the wrong event if there is one, otherwise
+-- that of the last mark
 abbrev pub event_meant : Option ℕ → List Mark → ℕ
 event_meant wrong marks = unwrap_or wrong (last_point marks)
 
--- the event that is asked for, where there is such an event
+-- the event that the view asks for, if the history has it; otherwise the event above
 abbrev pub event_shown : ℕ → Option ℕ → ℕ → List Mark → ℕ
 event_shown events wrong around marks = if nat_lt around events then around else event_meant wrong marks
 
--- the column of an event in the whole picture: as many stand before it as there are earlier events,
--- and marks whose points are before it
+-- the column of an event in the whole picture; before it are the columns of all earlier events, and
+-- of the marks whose points are before it
 abbrev pub column_of : List Mark → ℕ → ℕ
 column_of marks event = event + count_by (λ m. nat_lt m.point event) marks
 
--- ---- the columns of the calls of which the verdict speaks
+-- ---- the columns of the calls that the verdict concerns
 
--- the column of a call's invocation and that of its response, where the verdict speaks of it
+-- the columns of a call's invocation and of its response, if the verdict concerns the call
 abbrev pub start_of : Bar → Option ℕ
 start_of bar = if bar.is_pale then None else Some bar.from
 
 abbrev pub end_of : Bar → Option ℕ
 end_of bar = if bar.is_pale then None else bar.to
 
--- these columns, and those of the marks
+-- these columns, and the columns of the marks
 abbrev pub columns_of : List Bar → List Mark → List ℕ
 columns_of bars marks = (filter_map start_of bars ++ filter_map end_of bars) ++ map (λ m. m.column) marks
 
--- the place of a column among these: how many of them stand before it
+-- the place of a column among these: how many of them are before it
 abbrev pub rank : List ℕ → ℕ → ℕ
 rank columns column = count_by (λ c. nat_lt c column) columns
 
@@ -56,11 +57,11 @@ ranked_mark columns mark = record mark { column = rank columns mark.column }
 
 -- ---- a viewport
 
--- for how many calls there is room: 20 where more are named than a history can have
+-- for how many calls there is room: 20 if the view asks for more than a history can have
 abbrev pub calls_shown : ℕ → ℕ
 calls_shown calls = if nat_lt call_limit calls then 20 else calls
 
--- and for how many columns, three of each call
+-- for how many columns there is room: three for each call
 abbrev pub room_for : ℕ → ℕ
 room_for calls = calls_shown calls * 3
 
@@ -68,12 +69,12 @@ room_for calls = calls_shown calls * 3
 abbrev pub is_whole : ℕ → ℕ → Bool
 is_whole room columns = room == 0 || nat_le columns room
 
--- the first column of a viewport with so much room: half of it before the middle, where neither end
--- of the columns is passed
+-- the first column of a viewport with this much room: half the room is before the middle, if
+-- neither end of the columns is passed
 abbrev pub viewport_from : ℕ → ℕ → ℕ → ℕ
 viewport_from columns middle room = min (middle - room / 2) (columns - min room columns)
 
--- a bar has a part in the viewport from a column up to another one
+-- a part of a bar is in the viewport from a column up to another one
 abbrev pub ends_from : ℕ → Option ℕ → Bool
 ends_from from None = true
 ends_from from (Some end) = nat_le from end
@@ -81,24 +82,23 @@ ends_from from (Some end) = nat_le from end
 abbrev pub meets : ℕ → ℕ → Bar → Bool
 meets from to bar = nat_lt bar.from to && ends_from from bar.to
 
--- a mark stands in it
+-- a mark is in the viewport
 abbrev pub is_within : ℕ → ℕ → Mark → Bool
 is_within from to mark = nat_le from mark.column && nat_lt mark.column to
 
--- the part of a bar in it, where the verdict speaks of the call
+-- the part of a bar in the viewport, if the verdict concerns the call
 abbrev pub bar_in : List ℕ → ℕ → ℕ → Bar → Option Bar
 bar_in columns from to bar =
     if bar.is_pale then None else (if meets from to (ranked_bar columns bar) then Some (ranked_bar columns bar) else None)
 
--- the bars of the calls of which the verdict speaks that have a part in it, and the marks in it
+-- the bars in the viewport of the calls that the verdict concerns, and the marks in it
 abbrev pub bars_in : List ℕ → ℕ → ℕ → List Bar → List Bar
 bars_in columns from to bars = filter (meets from to) (map (ranked_bar columns) (filter (λ b. not b.is_pale) bars))
 
 abbrev pub marks_in : List ℕ → ℕ → ℕ → List Mark → List Mark
 marks_in columns from to marks = filter (is_within from to) (map (ranked_mark columns) marks)
 
--- the lanes of the processes that have such a bar, and where the lane of a process stands among
--- them
+-- the lanes of the processes that have such a bar, and the place of a process's lane among them
 abbrev pub lanes_kept : List Bar → List ℕ → List ℕ
 lanes_kept bars lanes = filter (λ p. list_any (λ b. b.process == p) bars) lanes
 
@@ -113,8 +113,8 @@ has_key key bar = nat_le bar.low key && nat_le key bar.high
 abbrev pub start_kept : List Bar → List (ℕ × ℕ) → List (ℕ × ℕ)
 start_kept bars start = filter (λ pair. list_any (has_key pair.0) bars) start
 
--- a bar as it stands there: open at the left where it begins before the viewport, and at the right
--- where it ends behind it
+-- a bar as the viewport shows it: open at the left if it begins before the viewport, and at the
+-- right if it ends after it
 abbrev pub cut_end : ℕ → ℕ → Option ℕ → Option ℕ
 cut_end from to None = None
 cut_end from to (Some end) = if nat_lt end to then Some (end - from) else None
@@ -127,15 +127,15 @@ cut_bar lanes from to bar = record bar {
   is_cut = nat_lt bar.from from;
 }
 
--- a mark as it stands there, where these are the lanes of the whole picture
+-- a mark as the viewport shows it, from the lanes of the whole picture
 abbrev pub cut_mark : List ℕ → List ℕ → ℕ → Mark → Mark
 cut_mark all lanes from mark = record mark {
   lane = place_of lanes (unwrap_or (slice_get all mark.lane) 0);
   column = mark.column - from;
 }
 
--- a picture is the viewport of another one from a column up to another one, among these columns,
--- around an event; the map's pairs at the start are those at keys of the calls that it shows
+-- a picture is the viewport of another one, from a column up to another one among these columns,
+-- around an event. The map's pairs at the start are those at keys of the calls that it shows
 pub record IsPartOf (among : List ℕ) (event from to : ℕ) (whole part : Picture) : Type 0 where
   pub heading : part.heading ≡ whole.heading
   pub start : part.start.items ≡ start_kept (bars_in among from to whole.bars.items) whole.start.items
@@ -146,7 +146,7 @@ pub record IsPartOf (among : List ℕ) (event from to : ℕ) (whole part : Pictu
   pub leaves : part.part ≡ Some (record { before = from; behind = length among - to; event = event })
   pub few : part.is_few ≡ whole.is_few
 
--- the viewport that has so much room around a column, in which an event stands
+-- the viewport with this much room around the column of an event
 abbrev pub IsViewportAround : ℕ → ℕ → ℕ → Picture → Picture → Type 0
 IsViewportAround room column event whole part =
     let among = columns_of whole.bars.items whole.marks.items in
@@ -157,8 +157,8 @@ IsViewportAround room column event whole part =
 abbrev pub IsViewportOf : ℕ → ℕ → Picture → Picture → Type 0
 IsViewportOf room event whole part = IsViewportAround room (column_of whole.marks.items event) event whole part
 
--- what a view shows of a picture of a history with so many events: the picture itself where all its
--- columns have room, else a viewport
+-- what a view shows of a picture of a history with this many events: the picture itself if there is
+-- room for all its columns, and otherwise a viewport
 abbrev pub IsShownOf : ℕ → Option ℕ → View → Picture → Picture → Type 0
 IsShownOf events wrong view whole part = MatchBool (is_whole (room_for view.calls) whole.columns) (part ≡ whole)
     (IsViewportOf (room_for view.calls) (event_shown events wrong view.around whole.marks.items) whole part)
@@ -171,20 +171,20 @@ ViewportHoldsMiddle = (columns middle room : ℕ) → (viewport_from columns mid
     × (middle < columns → 1 ≤ room → (viewport_from columns middle room ≤ middle)
     × (middle < viewport_from columns middle room + min room columns))
 
--- columns keep their order, each has a place of its own, and none is past their number
+-- columns keep their order, each has a place of its own, and no place is above the number of
+-- columns
 abbrev pub RanksRise : Type 0
 RanksRise = (columns : List ℕ) (a b : ℕ) → (a ≤ b → rank columns a ≤ rank columns b)
     × (Contains columns a → a < b → rank columns a < rank columns b) × (Contains columns a → rank columns a < length columns)
 
--- a mark is inside of a bar of a viewport: in its lane, behind its beginning or at the end at which
--- the bar is cut, and before its end
+-- a mark is inside a bar of a viewport: in its lane, not before the bar's beginning, and before its
+-- end
 pub record IsInsideCut (mark : Mark) (bar : Bar) : Type 0 where
   pub lane : mark.lane ≡ bar.lane
   pub behind : bar.from ≤ mark.column
   pub before : IfSome bar.to (λ to. mark.column < to)
 
--- a mark that is inside of a bar, and in the viewport, has the bar in the viewport, and is inside of it
--- there
+-- a mark that is inside a bar, and in the viewport, is inside the bar's part in the viewport
 abbrev pub MarksStayInside : Type 0
 MarksStayInside = (columns all lanes : List ℕ) (from to : ℕ) (bar : Bar) (mark : Mark) → IsInside mark bar → Contains columns bar.from
     → Contains columns mark.column → slice_get all bar.lane ≡ Some bar.process → is_within from to (ranked_mark columns mark) ≡ true

@@ -17,7 +17,7 @@ use events::{Event, History, Memory, Operation, Response};
 use judge::Verdict;
 use std::alloc::Global;
 
-/// What the bars of a picture are drawn from, besides the calls.
+/// The data from which the bars of a picture are drawn, apart from the calls.
 #[derive(Clone, Copy)]
 pub struct Scene<'a> {
     pub history: &'a History,
@@ -27,8 +27,8 @@ pub struct Scene<'a> {
     pub points: &'a [usize],
 }
 
-/// One bar for each call, by number. For n calls it takes time in proportion to n times the calls
-/// of the order, and to the length of all replies.
+/// Returns one bar for each call, by number. For n calls it takes time in proportion to n times the
+/// calls of the order, and to the length of all replies.
 pub fn bars_of(alloc: Global, scene: &Scene<'_>) -> Result<Vec<Bar>, Memory>
     requires lanes { scene.now.lanes.now ≡ lanes scene.now.history.now.events }
     requires history { IsHistory scene.now.history.now }
@@ -40,7 +40,7 @@ pub fn bars_of(alloc: Global, scene: &Scene<'_>) -> Result<Vec<Bar>, Memory>
     Ok(bars)
 }
 
-/// Adds one bar for each call, by number, where there is none yet.
+/// Adds one bar for each call, by number, to an empty list.
 fn push_bars(alloc: Global, scene: &Scene<'_>, bars: &mut Vec<Bar>) -> Result<(), Memory>
     requires lanes { scene.now.lanes.now ≡ lanes scene.now.history.now.events }
     requires history { IsHistory scene.now.history.now }
@@ -55,7 +55,7 @@ fn push_bars(alloc: Global, scene: &Scene<'_>, bars: &mut Vec<Bar>) -> Result<()
     Ok(())
 }
 
-/// The bar of a call.
+/// Returns the bar of a call.
 fn bar_of(alloc: Global, scene: &Scene<'_>, number: usize, call: &Operation) -> Result<Bar, Memory>
     requires lanes { scene.now.lanes.now ≡ lanes scene.now.history.now.events }
     requires history { IsHistory scene.now.history.now }
@@ -68,7 +68,7 @@ fn bar_of(alloc: Global, scene: &Scene<'_>, number: usize, call: &Operation) -> 
     Ok(bar_with(scene, number, call, words, reply))
 }
 
-/// The bar of a call with it and its reply in words.
+/// Returns the bar of a call, with the call and its reply in words.
 fn bar_with(
     scene: &Scene<'_>,
     number: usize,
@@ -105,7 +105,7 @@ fn bar_with(
     }
 }
 
-/// The process of the event at a place.
+/// Returns the process of the event at a place.
 fn process_at(events: &[Event], place: usize) -> u8
     requires { place < length events.now }
     ensures { IfSome (slice_get events.now place) (λ event. result ≡ process_of event) }
@@ -113,7 +113,7 @@ fn process_at(events: &[Event], place: usize) -> u8
     events[place].process()
 }
 
-/// The reply of a response in words.
+/// Returns the reply of a response in words.
 fn words_of_response(alloc: Global, response: &Option<Response>) -> Result<Option<String>, Memory>
     ensures { IfOk result (λ words. option_map string_bytes words ≡ option_map
         (λ r. reply_words r.reply) response.now) }
@@ -124,7 +124,7 @@ fn words_of_response(alloc: Global, response: &Option<Response>) -> Result<Optio
     }
 }
 
-/// The place of a response among the events.
+/// Returns the place of a response among the events.
 fn place_of(response: &Option<Response>) -> Option<usize>
     ensures { result ≡ option_map (λ r. r.res) response.now }
 {
@@ -134,7 +134,7 @@ fn place_of(response: &Option<Response>) -> Option<usize>
     }
 }
 
-/// The column of a response.
+/// Returns the column of a response.
 fn column_of(events: &[Event], points: &[usize], response: &Option<Response>) -> Option<usize>
     requires { IfSome response.now (λ r. r.res < length events.now) }
     ensures { result ≡ option_map (λ r. event_column points.now r.res) response.now }
@@ -145,8 +145,8 @@ fn column_of(events: &[Event], points: &[usize], response: &Option<Response>) ->
     }
 }
 
-/// Whether a verdict speaks of a call: a yes of all, a no and an undecided of those of the segment
-/// that they name.
+/// Returns whether a verdict concerns a call: a yes concerns all calls, a no and an undecided those
+/// of the segment that they name.
 fn speaks_of(verdict: &Verdict, number: usize) -> bool
     ensures { result ≡ speaks_of verdict.now number }
 {
@@ -162,7 +162,7 @@ fn has_number(numbers: &[u32], number: usize) -> bool
     numbers.iter().any(|other| *other as usize == number)
 }
 
-/// Whether an event is given, and is this response.
+/// Returns whether a wrong event is known, and this response is at it.
 fn is_response(event: Option<usize>, response: &Option<Response>) -> bool
     ensures { result ≡ is_response event response.now }
 {

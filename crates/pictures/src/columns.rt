@@ -5,8 +5,8 @@ ghost use Rattle.pictures.specs.Columns.{order_points, event_column, mark_column
 use events::{Event, Memory, Operation};
 use std::alloc::Global;
 
-/// The points of the calls of an order: the greatest place of an invocation up to each call's
-/// place.
+/// Returns the points of the calls of an order: the greatest place of an invocation up to each
+/// call's place.
 pub fn points_of(alloc: Global, calls: &[Operation], order: &[u32]) -> Result<Vec<usize>, Memory>
     requires known { All (λ n. n < length calls.now) order.now }
     requires distinct { AllPairs (λ m n. m ≢ n) order.now }
@@ -21,7 +21,7 @@ pub fn points_of(alloc: Global, calls: &[Operation], order: &[u32]) -> Result<Ve
     Ok(points)
 }
 
-/// The column of an event.
+/// Returns the column of an event.
 pub fn event_column(events: &[Event], points: &[usize], event: usize) -> usize
     requires { event < length events.now }
     ensures { result ≡ event_column points.now event }
@@ -29,7 +29,7 @@ pub fn event_column(events: &[Event], points: &[usize], event: usize) -> usize
     event + points.iter().filter(|point| **point < event).count()
 }
 
-/// The column of the mark of the call at a place of the order.
+/// Returns the column of the mark of the call at a place of the order.
 pub fn mark_column(events: &[Event], points: &[usize], place: usize) -> usize
     requires place { place < length points.now }
     requires point { slice_index points.now place < length events.now }

@@ -1,4 +1,4 @@
-// The picture of a few calls alone.
+// The picture of only a few calls.
 ghost use Rattle.std.specs.Prelude.{◌≡◌, map, IfOk};
 ghost use Rattle.list_laws.specs.Lists.{has_number};
 ghost use Rattle.pictures.specs.Few.{named_bar, is_of_named, named_marks, IsNarrowedTo, IsFewOf};
@@ -11,10 +11,11 @@ use std::alloc::Global;
 /// How many columns a picture of a few calls has at most.
 const FEW_ROOM: usize = 60;
 
-/// The calls of a picture that were invoked at these places alone, with their marks, in columns of
-/// their own events: all of them where there are at most 60, else those around the wrong event, and
-/// where there is none around the last mark of the picture. It takes time in proportion to the
-/// square of the columns, and to the bars times the places. `Err` is want of memory.
+/// Returns the picture of only the calls that were invoked at these places, with their marks, in
+/// columns of their own events. If there are more than 60 columns, it shows 60 around the wrong
+/// event, or around the last mark of the picture if no event is wrong. It takes time in proportion
+/// to the square of the columns, and to the bars times the places. It returns `Err` if memory runs
+/// out.
 pub fn few_of(
     alloc: Global,
     picture: Picture,
@@ -30,7 +31,7 @@ pub fn few_of(
     Ok(part)
 }
 
-/// The picture in which these calls alone stand out and are marked.
+/// Returns the picture in which only these calls stand out and are marked.
 fn narrowed_to(alloc: Global, picture: Picture, places: &[usize]) -> Result<Picture, Memory>
     ensures { IfOk result (IsNarrowedTo places.now picture) }
 {
@@ -48,7 +49,7 @@ fn narrowed_to(alloc: Global, picture: Picture, places: &[usize]) -> Result<Pict
     })
 }
 
-/// The bars, of which those of these calls alone stand out.
+/// Returns the bars, of which only those of these calls stand out.
 fn named_bars(alloc: Global, places: &[usize], bars: Vec<Bar>) -> Result<Vec<Bar>, Memory>
     ensures { IfOk result (λ v. v.items ≡ map (named_bar places.now) bars.items) }
 {
@@ -59,7 +60,7 @@ fn named_bars(alloc: Global, places: &[usize], bars: Vec<Bar>) -> Result<Vec<Bar
     )
 }
 
-/// A bar, which stands out where its call is one of these.
+/// Returns a bar, which stands out if its call is one of these.
 fn named_bar(places: &[usize], bar: Bar) -> Bar
     ensures { result ≡ named_bar places.now bar }
 {
@@ -67,7 +68,7 @@ fn named_bar(places: &[usize], bar: Bar) -> Bar
     Bar { is_pale, ..bar }
 }
 
-/// The marks of these calls.
+/// Returns the marks of these calls.
 fn named_marks(
     alloc: Global,
     places: &[usize],
@@ -85,14 +86,14 @@ fn named_marks(
     )
 }
 
-/// Whether a mark is of one of these calls.
+/// Returns whether a mark is of one of these calls.
 fn is_of_named(places: &[usize], bars: &[Bar], mark: &Mark) -> bool
     ensures { result ≡ is_of_named places.now bars.now mark.now }
 {
     bars.iter().any(|bar| bar.number == mark.number as usize && has_place(places, bar.inv))
 }
 
-/// Whether a place is among some.
+/// Returns whether a place is among some.
 fn has_place(places: &[usize], place: usize) -> bool
     ensures { result ≡ has_number places.now place }
 {

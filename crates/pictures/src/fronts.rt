@@ -1,4 +1,4 @@
-// How far an order gets where there is none, or none was found.
+// How far an order gets if there is none, or if none was found.
 ghost use Rattle.std.specs.Prelude.{◌≤◌, IfOk};
 ghost use Rattle.events.specs.Operations.{operations};
 ghost use Rattle.judge.specs.Shown.{IsShown};
@@ -12,9 +12,9 @@ use judge::Verdict;
 use search::longest_front;
 use std::alloc::Global;
 
-/// The front that the picture of a verdict marks as it would an order: the longest one of the named
-/// segment that a search meets, and none for a yes. It costs what the search of that segment costs.
-/// `Err` is want of memory.
+/// Returns the front that the picture of a verdict marks like an order: the longest one of the
+/// named segment that a search meets; none for a yes. It costs what the search of that segment
+/// costs. It returns `Err` if memory runs out.
 pub fn front_of(
     alloc: Global,
     history: &History,
@@ -31,7 +31,7 @@ pub fn front_of(
     Ok(front)
 }
 
-/// The longest front of the segment that a verdict names.
+/// Returns the longest front of the segment that a verdict names.
 fn front_shown(alloc: Global, verdict: &Verdict, budget: u32) -> Result<Vec<u32>, Memory>
     requires { (1 ≤ budget) × (budget ≤ budget_limit) }
     ensures { IfOk result (λ v. IsFrontShown budget verdict.now v.items) }

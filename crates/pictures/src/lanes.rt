@@ -5,8 +5,8 @@ ghost use Rattle.pictures.specs.Lanes.{has_events, lanes};
 use events::{Event, Memory, PROCESSES};
 use std::alloc::Global;
 
-/// A lane for each process that has a call, by rising number. It takes time in proportion to the
-/// events, for a fixed number of processes.
+/// Returns a lane for each process that has a call, by rising number. It takes time in proportion
+/// to the events, for a fixed number of processes.
 pub fn lanes_of(alloc: Global, events: &[Event]) -> Result<Vec<u8>, Memory>
     ensures { IfOk result (λ v. v.items ≡ lanes events.now) }
 {
@@ -19,14 +19,14 @@ pub fn lanes_of(alloc: Global, events: &[Event]) -> Result<Vec<u8>, Memory>
     Ok(lanes)
 }
 
-/// Whether a process has an event.
+/// Returns whether a process has an event.
 fn has_events(events: &[Event], process: u8) -> bool
     ensures { result ≡ has_events events.now process }
 {
     events.iter().any(|event| event.process() == process)
 }
 
-/// The place of a process among the lanes.
+/// Returns the place of a process among the lanes.
 pub fn lane_of(lanes: &[u8], process: u8) -> usize
     requires { Contains lanes.now process }
     ensures { slice_get lanes.now result ≡ Some process }

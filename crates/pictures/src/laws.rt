@@ -7,18 +7,18 @@ pub fn viewports_hold_their_middle()
     ensures { ViewportHoldsMiddle }
 {}
 
-/// Columns that are counted anew keep their order, each has a place of its own, and none is past
+/// Columns that are counted again keep their order. Each has a place of its own, and none is above
 /// their number.
 pub fn ranks_rise()
     ensures { RanksRise }
 {}
 
-/// A mark that is inside of a bar, and in a viewport, has the bar there, and is inside of it.
+/// A mark that is inside a bar, and in a viewport, is inside the bar's part there.
 pub fn marks_stay_inside()
     ensures { MarksStayInside }
 {}
 
-/// A picture of a few calls has at most three columns of each.
+/// A picture of a few calls has at most three columns for each of them.
 pub fn few_have_few_columns()
     ensures { FewHaveFewColumns }
 {}

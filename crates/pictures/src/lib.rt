@@ -1,9 +1,9 @@
-//! Pictures of verdicts: a picture is a value, which has a lane for each process, a bar for each
-//! call and a mark for each call of an order, at its linearization point.
+//! Pictures of verdicts: a picture is a value with a lane for each process, a bar for each call and
+//! a mark for each call of an order, at its linearization point.
 //!
-//! A picture goes from left to right by columns. Each event has a column, and each mark has one
-//! behind the event at which its point is, so no two of them stand in one column. Of a long picture
-//! a part is shown, a viewport of the columns of the calls of which the verdict speaks.
+//! A picture goes from left to right by columns. Each event has a column. Each mark has one after
+//! the event at which its point is, so no two share a column. Of a long picture only a part is
+//! shown: a viewport of the columns of the calls that the verdict concerns.
 #![tactic(auto)]
 
 mod bars;

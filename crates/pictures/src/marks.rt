@@ -11,7 +11,7 @@ use crate::picture::{Bar, Mark};
 use events::Memory;
 use std::alloc::Global;
 
-/// One mark for each call of an order, at its point.
+/// Returns one mark for each call of an order, at its point.
 pub fn marks_of(
     alloc: Global,
     scene: &Scene<'_>,
@@ -34,7 +34,7 @@ pub fn marks_of(
     Ok(marks)
 }
 
-/// The mark of a call with this number, at a place of the order and in a lane.
+/// Returns the mark of a call with this number, at a place of the order and in a lane.
 fn mark_at(scene: &Scene<'_>, lane: usize, place: usize, number: u32) -> Mark
     requires place { place < length scene.now.points.now }
     requires point { slice_index scene.now.points.now place < length scene.now.history.now.events }

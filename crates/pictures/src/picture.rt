@@ -1,40 +1,41 @@
-// A picture of a verdict on a history, and what of it is asked for.
+// A picture of a verdict on a history, and the view that says which part is shown.
 
-/// A picture of a verdict on a history, from left to right by columns, from 0.
+/// A picture of a verdict on a history, from left to right by columns, counted from 0.
 #[derive(Drop)]
 pub struct Picture {
-    /// What it says at its top.
+    /// The heading of the picture.
     pub heading: Heading,
-    /// The pairs that the map holds at the start; of a part those at keys that its calls name.
+    /// The pairs that the map holds at the start; in a part of a picture, only those at keys that
+    /// its calls name.
     pub start: Vec<(u64, u64)>,
     /// The processes that have a call, by rising number: a lane for each.
     pub lanes: Vec<u8>,
     /// A bar for each call, by number.
     pub bars: Vec<Bar>,
-    /// A mark for each call of the order, or of the front, as they stand there.
+    /// A mark for each call of the order, or of the front, in its order.
     pub marks: Vec<Mark>,
     /// How many columns there are.
     pub columns: usize,
-    /// Where it shows a part of the columns of a picture, what it leaves out.
+    /// What a part of a picture leaves out, if this is one.
     pub part: Option<PicturePart>,
-    /// Whether a few calls alone stand out.
+    /// Whether only a few calls stand out.
     pub is_few: bool,
 }
 
-/// What a picture says at its top.
+/// The heading of a picture.
 #[derive(Clone, Copy)]
 pub enum Heading {
     /// The history is linearizable, and an order is marked.
     Order,
-    /// The calls on the keys from the one to the other have no order.
+    /// The calls on the keys from `lo` to `hi` have no order.
     NoOrder { lo: u64, hi: u64 },
-    /// The search of the calls on the keys from the one to the other met more configurations than
-    /// its budget.
+    /// The search of the calls on the keys from `lo` to `hi` met more configurations than its
+    /// budget.
     Undecided { lo: u64, hi: u64 },
 }
 
-/// The bar of a call, from its invocation to its response; a pending one is open, to the end of the
-/// picture.
+/// The bar of a call, from its invocation to its response. The bar of a pending call is open, to
+/// the end of the picture.
 #[derive(Drop)]
 pub struct Bar {
     /// The number of the call in the history.
@@ -59,11 +60,11 @@ pub struct Bar {
     pub call: String,
     /// Its reply in words.
     pub reply: Option<String>,
-    /// Whether the verdict does not speak of the call.
+    /// Whether the verdict does not concern the call.
     pub is_pale: bool,
     /// Whether its response is the event at which the history goes wrong.
     pub is_wrong: bool,
-    /// Whether it begins before what is shown.
+    /// Whether it begins before the part that is shown.
     pub is_cut: bool,
 }
 
@@ -74,8 +75,8 @@ pub struct Mark {
     pub number: u32,
     /// The place of the call in the order, from 0.
     pub place: usize,
-    /// The place of the event behind which its point is: the greatest of an invocation up to its
-    /// place in the order.
+    /// The place of the event after which its point is: the greatest place of an invocation up to
+    /// its place in the order.
     pub point: usize,
     /// The place of its lane among the lanes.
     pub lane: usize,
@@ -86,20 +87,21 @@ pub struct Mark {
 /// What a part of a picture leaves out.
 #[derive(Clone, Copy)]
 pub struct PicturePart {
-    /// How many columns stand before it.
+    /// How many columns are before it.
     pub before: usize,
-    /// How many columns stand behind it.
+    /// How many columns are after it.
     pub behind: usize,
     /// The event in its middle.
     pub event: usize,
 }
 
-/// What part of a picture is asked for.
+/// Which part of a picture is shown.
 #[derive(Clone, Copy)]
 pub struct View {
-    /// The event in its middle. One that the history has not names none.
+    /// The event in its middle. An event that the history does not have means that none is asked
+    /// for.
     pub around: u32,
-    /// For how many calls it has room, three columns each. 0 asks for the whole picture, and more
-    /// than a history can have for none, which is for 20.
+    /// The number of calls for which it has room, at three columns each. 0 asks for the whole
+    /// picture. A number above the limit of calls means that none is asked for; then it is 20.
     pub calls: u32,
 }

@@ -17,9 +17,9 @@ use events::{History, Memory};
 use judge::Verdict;
 use std::alloc::Global;
 
-/// The picture of a verdict on a history: with the event at which it goes wrong, where that is
-/// known, and in a no or an undecided with a front, whose calls are marked as an order would be.
-/// Where none is known the front is empty. `Err` is want of memory. For n calls it takes time in
+/// Draws the picture of a verdict on a history. It marks the event at which the history goes wrong,
+/// if that is known. In a no or an undecided it marks the calls of a front like an order; the front
+/// is empty if none is known. It returns `Err` if memory runs out. For n calls it takes time in
 /// proportion to n times the calls marked, and to the length of all replies.
 pub fn picture_of(
     alloc: Global,
@@ -35,7 +35,7 @@ pub fn picture_of(
     picture_at(alloc, history, verdict, wrong, front, &points)
 }
 
-/// The same, where these are the points of the calls that are marked.
+/// Draws the picture of a verdict, from the points of the calls that are marked.
 fn picture_at(
     alloc: Global,
     history: &History,
@@ -73,7 +73,7 @@ fn picture_at(
     })
 }
 
-/// The bars of a picture, and the marks of an order on them.
+/// Returns the bars of a picture, and the marks of an order on them.
 fn bars_and_marks(
     alloc: Global,
     scene: &Scene<'_>,
@@ -95,7 +95,7 @@ fn bars_and_marks(
     Ok((bars, marks))
 }
 
-/// The calls that are marked: those of the order of a yes, else those of the front.
+/// Returns the calls that are marked: those of the order of a yes, otherwise those of the front.
 fn marked_calls<'a>(verdict: &'a Verdict, front: &'a [u32]) -> &'a [u32]
     ensures { result.now ≡ marked verdict.now front.now }
 {
@@ -105,7 +105,7 @@ fn marked_calls<'a>(verdict: &'a Verdict, front: &'a [u32]) -> &'a [u32]
     }
 }
 
-/// What a picture of the verdict says at its top.
+/// Returns the heading of a picture of the verdict.
 fn heading_of(verdict: &Verdict) -> Heading
     ensures { result ≡ heading_of verdict.now }
 {

@@ -10,9 +10,10 @@ use crate::picture::{Bar, Mark, Picture, PicturePart, View};
 use events::{MAX_CALLS, Memory};
 use std::alloc::Global;
 
-/// The part of a picture of a history with so many events that a view shows: the picture itself
-/// where all its columns have room, else a viewport of the columns of the calls of which the verdict
-/// speaks. It takes time in proportion to the square of the columns. `Err` is want of memory.
+/// Returns the part of a picture of a history with this many events that a view shows: the picture
+/// itself if there is room for all its columns, otherwise a viewport of the columns of the calls
+/// that the verdict concerns. It takes time in proportion to the square of the columns. It returns
+/// `Err` if memory runs out.
 pub fn part_of(
     alloc: Global,
     picture: Picture,
@@ -31,8 +32,8 @@ pub fn part_of(
     viewport_around(alloc, picture, room, column, event)
 }
 
-/// For how many columns there is room, where this is asked for: three for each call, and 20 calls
-/// where more are named than a history can have.
+/// Returns for how many columns there is room: three for each call that the view asks for, and for
+/// 20 calls if it asks for more than a history can have.
 fn room_for(calls: u32) -> usize
     ensures { result ≡ room_for calls }
 {
@@ -43,7 +44,7 @@ fn room_for(calls: u32) -> usize
     }
 }
 
-/// The viewport that has so much room around a column, in which an event stands.
+/// Returns the viewport with this much room around the column of an event.
 pub(crate) fn viewport_around(
     alloc: Global,
     picture: Picture,
@@ -60,14 +61,14 @@ pub(crate) fn viewport_around(
     viewport_at(alloc, picture, &columns, event, from, to)
 }
 
-/// Whether a picture with so many columns is shown whole.
+/// Returns whether a picture with this many columns is shown as a whole.
 fn is_whole(room: usize, columns: usize) -> bool
     ensures { result ≡ is_whole room columns }
 {
     room == 0 || columns <= room
 }
 
-/// The event in the middle: the one that is asked for, where there is such an event.
+/// Returns the event in the middle: the one that the view asks for, if the history has it.
 fn event_shown(events: usize, wrong: Option<usize>, around: usize, marks: &[Mark]) -> usize
     ensures { result ≡ event_shown events wrong around marks.now }
 {
@@ -78,8 +79,8 @@ fn event_shown(events: usize, wrong: Option<usize>, around: usize, marks: &[Mark
     }
 }
 
-/// The event in the middle where none is asked for: the wrong one; else that behind which the last
-/// mark stands.
+/// Returns the event in the middle if the view asks for none: the wrong one; otherwise the one
+/// after which the last mark is.
 pub(crate) fn event_meant(wrong: Option<usize>, marks: &[Mark]) -> usize
     ensures { result ≡ event_meant wrong marks.now }
 {
@@ -89,7 +90,7 @@ pub(crate) fn event_meant(wrong: Option<usize>, marks: &[Mark]) -> usize
     }
 }
 
-/// The event behind which the last mark stands, and the first one where nothing is marked.
+/// Returns the event after which the last mark is, or the first event if nothing is marked.
 fn last_point(marks: &[Mark]) -> usize
     ensures { result ≡ last_point marks.now }
 {
@@ -99,15 +100,14 @@ fn last_point(marks: &[Mark]) -> usize
     }
 }
 
-/// The column of an event in the whole picture.
+/// Returns the column of an event in the whole picture.
 pub(crate) fn column_of(marks: &[Mark], event: usize) -> u128
     ensures { result ≡ column_of marks.now event }
 {
     event as u128 + marks.iter().filter(|mark| mark.point < event).count() as u128
 }
 
-/// The columns that the calls of which the verdict speaks, and the marks, have in the whole
-/// picture.
+/// Returns the columns that the calls concerned and the marks have in the whole picture.
 fn columns_of(alloc: Global, bars: &[Bar], marks: &[Mark]) -> Result<Vec<usize>, Memory>
     ensures { IfOk result (λ v. v.items ≡ columns_of bars.now marks.now) }
 {
@@ -133,42 +133,42 @@ fn push_places(alloc: Global, columns: &mut Vec<usize>, marks: &[Mark]) -> Resul
     Ok(columns.extend_from_slice(&places)?)
 }
 
-/// The columns of their invocations.
+/// Returns the columns of their invocations.
 fn starts_of(alloc: Global, bars: &[Bar]) -> Result<Vec<usize>, Memory>
     ensures { IfOk result (λ v. v.items ≡ filter_map start_of bars.now) }
 {
     Ok(bars.iter().filter_map(|bar| start_of(bar)).collect(alloc)?)
 }
 
-/// The column of an invocation, where the verdict speaks of the call.
+/// Returns the column of an invocation, if the verdict concerns the call.
 fn start_of(bar: &Bar) -> Option<usize>
     ensures { result ≡ start_of bar.now }
 {
     if bar.is_pale { None } else { Some(bar.from) }
 }
 
-/// The columns of their responses.
+/// Returns the columns of their responses.
 fn ends_of(alloc: Global, bars: &[Bar]) -> Result<Vec<usize>, Memory>
     ensures { IfOk result (λ v. v.items ≡ filter_map end_of bars.now) }
 {
     Ok(bars.iter().filter_map(|bar| end_of(bar)).collect(alloc)?)
 }
 
-/// The column of a response, where the verdict speaks of the call.
+/// Returns the column of a response, if the verdict concerns the call.
 fn end_of(bar: &Bar) -> Option<usize>
     ensures { result ≡ end_of bar.now }
 {
     if bar.is_pale { None } else { bar.to }
 }
 
-/// The columns of the marks.
+/// Returns the columns of the marks.
 fn places_of(alloc: Global, marks: &[Mark]) -> Result<Vec<usize>, Memory>
     ensures { IfOk result (λ v. v.items ≡ map (λ m. m.column) marks.now) }
 {
     Ok(marks.iter().map(|mark| mark.column).collect(alloc)?)
 }
 
-/// How many of the columns stand before one.
+/// Returns how many of the columns are before a column.
 fn rank(columns: &[usize], column: u128) -> usize
     ensures value { result ≡ rank columns.now column }
     ensures within { result ≤ length columns.now }
@@ -179,7 +179,8 @@ fn rank(columns: &[usize], column: u128) -> usize
         .count()
 }
 
-/// The first column of a viewport with so much room, as near to the middle as the columns let it be.
+/// Returns the first column of a viewport with this much room: the middle is in its middle, as far
+/// as the columns allow.
 fn viewport_from(columns: usize, middle: usize, room: usize) -> usize
     ensures value { result ≡ viewport_from columns middle room }
     ensures within { result + min room columns ≤ columns }
@@ -188,7 +189,7 @@ fn viewport_from(columns: usize, middle: usize, room: usize) -> usize
     middle.saturating_sub(room / 2).min(last)
 }
 
-/// The viewport from a column up to another one.
+/// Returns the viewport from a column up to another one.
 fn viewport_at(
     alloc: Global,
     picture: Picture,
@@ -225,7 +226,7 @@ fn viewport_at(
     })
 }
 
-/// The pairs at the start, the lanes, the bars and the marks of a viewport, where these are all pairs
+/// Returns the pairs at the start, the lanes, the bars and the marks of a viewport, from all pairs
 /// and all lanes.
 fn kept_at(
     alloc: Global,
@@ -254,7 +255,7 @@ fn kept_at(
     Ok((start, lanes, bars, marks))
 }
 
-/// The marks in a viewport, as they stand in it with these of all lanes.
+/// Returns the marks in a viewport, as it shows them, from all lanes.
 fn marks_at(
     alloc: Global,
     marks: &[Mark],
@@ -271,7 +272,7 @@ fn marks_at(
     cut_marks(alloc, &marks, all, lanes, from)
 }
 
-/// The bars of the calls of which the verdict speaks that meet a viewport, with their places among
+/// Returns the bars in a viewport of the calls that the verdict concerns, with their places among
 /// the columns.
 fn bars_in(
     alloc: Global,
@@ -286,7 +287,7 @@ fn bars_in(
     Ok(kept)
 }
 
-/// The same, bar by bar.
+/// Returns the bars in a viewport, one by one.
 fn bars_kept(
     alloc: Global,
     bars: Vec<Bar>,
@@ -303,8 +304,8 @@ fn bars_kept(
     )
 }
 
-/// A bar with its places among the columns, where the verdict speaks of the call and it meets a
-/// viewport.
+/// Returns a bar with its places among the columns, if it meets a viewport and the verdict concerns
+/// the call.
 fn bar_in(columns: &[usize], from: usize, to: usize, bar: Bar) -> Option<Bar>
     ensures { result ≡ bar_in columns.now from to bar }
 {
@@ -319,7 +320,7 @@ fn bar_in(columns: &[usize], from: usize, to: usize, bar: Bar) -> Option<Bar>
     }
 }
 
-/// A bar whose columns are their places among these.
+/// Returns a bar whose columns are their places among these.
 fn ranked_bar(columns: &[usize], bar: Bar) -> Bar
     ensures { result ≡ ranked_bar columns.now bar }
 {
@@ -328,7 +329,7 @@ fn ranked_bar(columns: &[usize], bar: Bar) -> Bar
     Bar { from, to, ..bar }
 }
 
-/// The place of a column among these.
+/// Returns the place of a column among these.
 fn ranked_end(columns: &[usize], end: Option<usize>) -> Option<usize>
     ensures { result ≡ option_map (rank columns.now) end }
 {
@@ -338,7 +339,7 @@ fn ranked_end(columns: &[usize], end: Option<usize>) -> Option<usize>
     }
 }
 
-/// Whether a bar has a part in a viewport.
+/// Returns whether a bar has a part in a viewport.
 fn meets(from: usize, to: usize, bar: &Bar) -> bool
     ensures { result ≡ meets from to bar.now }
 {
@@ -351,7 +352,7 @@ fn meets(from: usize, to: usize, bar: &Bar) -> bool
     }
 }
 
-/// The marks in a viewport, with their places among the columns.
+/// Returns the marks in a viewport, with their places among the columns.
 fn marks_in(
     alloc: Global,
     marks: &[Mark],
@@ -370,7 +371,7 @@ fn marks_in(
     )
 }
 
-/// A mark whose column is its place among these.
+/// Returns a mark whose column is its place among these.
 fn ranked_mark(columns: &[usize], mark: &Mark) -> Mark
     ensures { result ≡ ranked_mark columns.now mark.now }
 {
@@ -378,14 +379,14 @@ fn ranked_mark(columns: &[usize], mark: &Mark) -> Mark
     Mark { column, ..*mark }
 }
 
-/// Whether a mark stands in a viewport.
+/// Returns whether a mark is in a viewport.
 fn is_within(from: usize, to: usize, mark: &Mark) -> bool
     ensures { result ≡ is_within from to mark.now }
 {
     from <= mark.column && mark.column < to
 }
 
-/// The pairs at keys that the calls of these bars name.
+/// Returns the pairs at keys that the calls of these bars name.
 fn start_kept(alloc: Global, bars: &[Bar], start: &[(u64, u64)]) -> Result<Vec<(u64, u64)>, Memory>
     ensures { IfOk result (λ v. v.items ≡ start_kept bars.now start.now) }
 {
@@ -398,14 +399,14 @@ fn start_kept(alloc: Global, bars: &[Bar], start: &[(u64, u64)]) -> Result<Vec<(
     )
 }
 
-/// Whether the call of one of these bars names a key.
+/// Returns whether the call of one of these bars names a key.
 fn is_named(bars: &[Bar], key: u64) -> bool
     ensures { result ≡ list_any (has_key key) bars.now }
 {
     bars.iter().any(|bar| bar.low <= key && key <= bar.high)
 }
 
-/// The lanes in which there is a bar.
+/// Returns the lanes in which there is a bar.
 fn lanes_kept(alloc: Global, bars: &[Bar], lanes: &[u8]) -> Result<Vec<u8>, Memory>
     ensures { IfOk result (λ v. v.items ≡ lanes_kept bars.now lanes.now) }
 {
@@ -418,14 +419,14 @@ fn lanes_kept(alloc: Global, bars: &[Bar], lanes: &[u8]) -> Result<Vec<u8>, Memo
     )
 }
 
-/// Whether a process has a bar.
+/// Returns whether a process has a bar.
 fn has_bar(bars: &[Bar], process: u8) -> bool
     ensures { result ≡ list_any (λ b. b.process == process) bars.now }
 {
     bars.iter().any(|bar| bar.process == process)
 }
 
-/// Where the lane of a process stands among these.
+/// Returns the place of a process's lane among these.
 fn place_of(lanes: &[u8], process: u8) -> usize
     ensures { result ≡ place_of lanes.now process }
 {
@@ -435,14 +436,14 @@ fn place_of(lanes: &[u8], process: u8) -> usize
     }
 }
 
-/// The lane of a process.
+/// Returns the lane of a process.
 fn lane_of(lanes: &[u8], process: u8) -> Option<usize>
     ensures { result ≡ position (λ lane. lane == process) lanes.now }
 {
     lanes.iter().position(|lane| *lane == process)
 }
 
-/// The bars as they stand in a viewport with these lanes.
+/// Returns the bars as a viewport with these lanes shows them.
 fn cut_bars(
     alloc: Global,
     bars: Vec<Bar>,
@@ -459,8 +460,8 @@ fn cut_bars(
     )
 }
 
-/// A bar as it stands in a viewport: where it begins before the viewport, or ends behind it, it is open
-/// at that end.
+/// Returns a bar as a viewport shows it: open at the left if it begins before the viewport, and at
+/// the right if it ends after it.
 fn cut_bar(lanes: &[u8], from: usize, to: usize, bar: Bar) -> Bar
     ensures { result ≡ cut_bar lanes.now from to bar }
 {
@@ -473,7 +474,7 @@ fn cut_bar(lanes: &[u8], from: usize, to: usize, bar: Bar) -> Bar
     }
 }
 
-/// The end of a bar in a viewport, where it is in it.
+/// Returns the end of a bar in a viewport, if it is there.
 fn cut_end(from: usize, to: usize, end: Option<usize>) -> Option<usize>
     ensures { result ≡ cut_end from to end }
 {
@@ -485,7 +486,7 @@ fn cut_end(from: usize, to: usize, end: Option<usize>) -> Option<usize>
     }
 }
 
-/// The marks as they stand in a viewport with these lanes.
+/// Returns the marks as a viewport with these lanes shows them.
 fn cut_marks(
     alloc: Global,
     marks: &[Mark],
@@ -503,7 +504,7 @@ fn cut_marks(
     )
 }
 
-/// A mark as it stands in a viewport.
+/// Returns a mark as a viewport shows it.
 fn cut_mark(all: &[u8], lanes: &[u8], from: usize, mark: &Mark) -> Mark
     ensures { result ≡ cut_mark all.now lanes.now from mark.now }
 {
@@ -514,7 +515,7 @@ fn cut_mark(all: &[u8], lanes: &[u8], from: usize, mark: &Mark) -> Mark
     }
 }
 
-/// The process of a lane.
+/// Returns the process of a lane.
 fn process_at(lanes: &[u8], lane: usize) -> u8
     ensures { result ≡ unwrap_or (slice_get lanes.now lane) 0 }
 {

@@ -7,7 +7,7 @@ use events::{Call, Reply};
 use history_text::pairs_value;
 use std::alloc::{AllocError, Global};
 
-/// A call in words: its name and its numbers, as `insert 5 7`.
+/// Returns a call in words: its name and its numbers, as `insert 5 7`.
 pub fn call_words(alloc: Global, call: &Call) -> Result<String, AllocError>
     ensures { IfOk result (λ text. string_bytes text ≡ call_words call.now) }
 {
@@ -50,8 +50,8 @@ fn words_of_replace(alloc: Global, key: u64, old: u64, new: u64) -> Result<Strin
     format!(in alloc; "replace {key} {old} {new}")
 }
 
-/// A reply in words: `none`, a value, the pairs of a scan as in a history's text, or `refused`,
-/// `done`, `found`, `other`.
+/// Returns a reply in words: `none`, a value, the pairs of a scan as in a history's text, or
+/// `refused`, `done`, `found`, `other`.
 pub fn reply_words(alloc: Global, reply: &Reply) -> Result<String, AllocError>
     ensures { IfOk result (λ text. string_bytes text ≡ reply_words reply.now) }
 {
@@ -66,7 +66,7 @@ pub fn reply_words(alloc: Global, reply: &Reply) -> Result<String, AllocError>
     }
 }
 
-/// Pairs as in a history's text, as `[[1,10],[2,20]]`.
+/// Returns pairs as in a history's text, such as `[[1,10],[2,20]]`.
 pub fn pairs_words(alloc: Global, pairs: &[(u64, u64)]) -> Result<String, AllocError>
     ensures { IfOk result (λ text. string_bytes text ≡ pairs_words pairs.now) }
 {

@@ -1,16 +1,18 @@
-// What workers pass on their way to a segment, and processes on their way to a script.
+// What workers call before a segment, and processes before a script.
 ghost use Rattle.std.specs.Prelude.{⊤};
 
-/// What a worker calls before it searches a segment, or a process before it does its script. All workers, or all processes,
-/// share it. Calls on a shared value have no order, so no clause counts them. But what was passed only the gate itself can
-/// say: a caller to whom any gate may be given can show it of a segment only by entering there.
+/// What a worker calls before it searches a segment, or a process before it does its script. All
+/// workers, or all processes, share it. Calls on a shared value have no order, so no clause counts
+/// them. Only the gate itself can say what was passed. So code that takes any gate can show that a
+/// segment was passed only by entering there.
 pub trait Gate {
     ghost use Rattle.std.specs.Prelude.{ℕ};
 
-    // That it was passed on the way to the segment or the script of this number.
+    // The gate was passed for the segment or the script of this number.
     ghost was_passed: { Self → ℕ → Type 0 };
 
-    /// The worker is about to search the segment at this place of the list, or the process of this number to do its script.
+    /// The worker will now search the segment at this place of the list, or the process of this
+    /// number will do its script.
     fn enter(&self, segment: usize)
         ensures { was_passed self.now segment };
 }

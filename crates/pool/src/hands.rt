@@ -6,7 +6,7 @@ use events::Memory;
 use std::alloc::Global;
 use tickets::{Hand, Tickets};
 
-/// Tickets, and a hand for each worker with so many draws.
+/// Returns tickets, and a hand for each worker with this many draws.
 pub(crate) fn deal(alloc: Global, workers: u32, draws: u64) -> Result<(Tickets, Vec<Hand>), Memory>
     requires some { 1 ≤ workers }
     requires few { workers * draws ≤ 2 ^ 61 }

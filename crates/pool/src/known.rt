@@ -13,7 +13,7 @@ use search::Found;
 use segments::Segment;
 use std::alloc::Global;
 
-/// The answers at their segments' places, and none at the others.
+/// Returns the answers at their segments' places, and none at the other places.
 #[tactic(auto, using(crate::proofs::KnownLemmas::next_has_place))]
 pub(crate) fn in_place(
     alloc: Global,
@@ -30,7 +30,7 @@ pub(crate) fn in_place(
     Ok(known)
 }
 
-/// As many segments, of which no answer is known.
+/// Returns a place for each segment, where no answer is known yet.
 pub(crate) fn none_known(alloc: Global, segments: usize) -> Result<Vec<Option<Found>>, Memory>
     ensures { IfOk result (λ v. v.items ≡ replicate segments None) }
 {
@@ -41,7 +41,8 @@ pub(crate) fn none_known(alloc: Global, segments: usize) -> Result<Vec<Option<Fo
     Ok(known)
 }
 
-/// The answers of all segments. A segment of which none is known, as no worker drew it, is searched here.
+/// Returns the answers of all segments. A segment without a known answer, because no worker drew
+/// it, is searched here.
 pub(crate) fn complete<G: Gate>(
     alloc: Global,
     segments: &[Segment],

@@ -1,5 +1,5 @@
-//! Segments searched side by side: workers, each in a thread of its own where one can be made, draw the numbers of
-//! the segments and search those that they drew.
+//! Segments searched side by side. Workers draw the numbers of the segments, and search those that
+//! they drew. Each worker has a thread of its own, if one can be made.
 #![tactic(auto)]
 
 mod gate;

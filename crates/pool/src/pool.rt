@@ -20,14 +20,15 @@ use std::thread;
 use std::thread::Threads;
 use tickets::MAX_QUOTA;
 
-/// Searches each segment, and gives the answers in the order of the segments, whoever found them. `Memory` comes where
-/// a growth was refused, to this call or to one of its searches.
+/// Searches each segment, and returns the answers in the order of the segments, whoever found them.
+/// It returns `Memory` if an allocation was refused to this call or to one of its searches.
 ///
-/// The workers draw the numbers of the segments, each number once, and pass the gate to a segment before they search it.
-/// The caller's thread runs one worker, and each of the others has a thread of its own where one can be made. One that
-/// gets no thread runs later, in the thread that was to start it, and the answers are the same. A gate that holds a
-/// worker until another one comes may then hold it forever. The call returns once all workers have ended. Beside the
-/// searches it costs a thread for each worker but one, and a draw for each segment and each worker.
+/// The workers draw the numbers of the segments, each number once, and pass the gate before they
+/// search a segment. The caller's thread runs one worker, and each other worker has a thread of its
+/// own, if one can be made. A worker without a thread runs later, in the thread that was to start
+/// it, and the answers are the same. A gate that holds a worker until another one comes may then
+/// hold it forever. The call returns when all workers have ended. Without the searches it costs a
+/// thread for each worker but one, and a draw for each segment and each worker.
 pub fn search_all<R: Threads + Sync, G: Gate + Sync>(
     rt: &R,
     alloc: Global,
@@ -47,7 +48,8 @@ pub fn search_all<R: Threads + Sync, G: Gate + Sync>(
     complete(alloc, segments, budget, gate, known)
 }
 
-/// Searches each segment as `search_all` does, by the caller's thread alone: one after another, each behind the gate.
+/// Searches each segment as `search_all` does, but only in the caller's thread: one after another,
+/// each after it passed the gate.
 pub fn search_alone<G: Gate>(
     alloc: Global,
     segments: &[Segment],
@@ -62,7 +64,7 @@ pub fn search_alone<G: Gate>(
     complete(alloc, segments, budget, gate, known)
 }
 
-/// What the workers answer, one worker after another.
+/// Returns what the workers answer, one worker after another.
 fn search_apart<R: Threads + Sync, G: Gate + Sync>(
     rt: &R,
     alloc: Global,
@@ -75,8 +77,9 @@ fn search_apart<R: Threads + Sync, G: Gate + Sync>(
     requires workers { (1 ≤ workers) × (workers ≤ worker_limit) }
     ensures { IfOk result (λ v. All (AnswersOneOf (G.was_passed gate.now) budget segments.now) v.items) }
 {
-    // With a draw for each segment and one more, each worker can draw until no segment is left. The most draws that
-    // tickets have would cut this past 2^55 segments, more than memory holds, and `complete` would search the others.
+    // Each worker has a draw for each segment and one more, so it can draw until no segment is
+    // left. The most draws that tickets can have would not suffice for more than 2^55 segments,
+    // which no memory holds; `complete` would search the others.
     let draws = (segments.len() as u64 + 1).min(MAX_QUOTA / u64::from(workers));
     let (tickets, hands) = deal(alloc, workers, draws)?;
     let by_worker = thread::map_vec(
@@ -91,7 +94,7 @@ fn search_apart<R: Threads + Sync, G: Gate + Sync>(
     Ok(all)
 }
 
-/// Puts what a worker answers behind what those before it answer.
+/// Appends the answers of a worker.
 fn gather(
     all: &mut Vec<SegmentAnswer>,
     answers: Result<Vec<SegmentAnswer>, Memory>,

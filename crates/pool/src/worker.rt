@@ -13,7 +13,7 @@ use segments::Segment;
 use std::alloc::Global;
 use tickets::{Hand, Tickets};
 
-/// What a worker found of a segment, which it names by its place in the list.
+/// What a worker found of a segment, which is named by its place in the list.
 #[derive(Drop)]
 pub(crate) struct SegmentAnswer {
     pub segment: usize,
@@ -62,7 +62,7 @@ pub(crate) fn enter_and_search<G: Gate>(
     search_behind(alloc, segments, budget, gate, segment)
 }
 
-/// Searches a segment, where the gate was passed on the way to it.
+/// Searches a segment, after the gate was passed for it.
 fn search_behind<G: Gate>(
     alloc: Global,
     segments: &[Segment],

@@ -13,11 +13,11 @@ use Rattle.prefixes.specs.Prefixes.{prefix_of, IsAnswerOf, GoesWrongAt}
 abbrev pub PrefixesAreHistories : Type 0
 PrefixesAreHistories = (history : HistoryView) (count : ℕ) → IsHistory history → IsHistory (prefix_of history count)
 
--- the first events of what has an order have one
+-- if a history has an order, its first events have one
 abbrev pub PrefixesHaveOrders : Type 0
 PrefixesHaveOrders = (history : HistoryView) (count : ℕ) → IsLinearizableHistory history → IsLinearizableHistory (prefix_of history count)
 
--- what has an order has one with an invocation more at its end
+-- if a history has an order, it has one with one more invocation at its end
 abbrev pub InvocationsKeepOrders : Type 0
 InvocationsKeepOrders =
     (history : HistoryView) (process : ℕ) (call : Call) → IsLinearizableHistory history
@@ -30,7 +30,7 @@ AnswersHaveCalls =
     → slice_get history.events place ≡ Some (Answer process reply) → (number : ℕ)
     × IsAnswerOf history.events number place
 
--- an event is the answer of one call at most
+-- an event is the answer of at most one call
 abbrev pub AnswersHaveOneCall : Type 0
 AnswersHaveOneCall =
     (history : HistoryView) (number other place : ℕ) → IsHistory history → IsAnswerOf history.events number place
@@ -44,7 +44,8 @@ OrdersAreLostAtAnswers =
     → IsLinearizableHistory (prefix_of history place)
     → (IsLinearizableHistory (prefix_of history (place + 1)) → ⊥) → (number : ℕ) × GoesWrongAt history number place
 
--- a history goes wrong at one event at most; one that does has no order, and so have the first events that reach so far
+-- a history goes wrong at one event at most. If it does, it has no order, and neither have its
+-- first events up to that event or a later one
 abbrev pub OneEventGoesWrong : Type 0
 OneEventGoesWrong =
     (history : HistoryView) (number place : ℕ) → GoesWrongAt history number place

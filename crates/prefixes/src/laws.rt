@@ -10,19 +10,19 @@ ghost use Rattle.prefixes.specs.Laws.{
   HistoriesHaveFewEvents,
 };
 
-/// The first events of a history, however many, are a history from the same starting pairs.
+/// The first events of a history are a history from the same starting pairs.
 pub fn prefixes_are_histories()
     ensures { PrefixesAreHistories }
 {}
 
-/// The first events of a history that has an order have one: the order of the whole up to its first call that is invoked
-/// later, without the calls that are refused later. No call that the first events answer stands behind one that is
-/// invoked later.
+/// If a history has an order, its first events have one. It is the order of the whole up to its
+/// first call that is invoked later, without the calls that are refused later. No call that the
+/// first events answer comes after one that is invoked later.
 pub fn prefixes_have_orders()
     ensures { PrefixesHaveOrders }
 {}
 
-/// A history that has an order has one where a call more begins at its end: the same.
+/// A history that has an order still has it if one more call begins at the end.
 pub fn invocations_keep_orders()
     ensures { InvocationsKeepOrders }
 {}
@@ -37,8 +37,8 @@ pub fn answers_have_one_call()
     ensures { AnswersHaveOneCall }
 {}
 
-/// Where the first events of a history have an order and those with the next one have none, that event is the answer of
-/// a call.
+/// If the first events of a history have an order, and none with the next event, that event is the
+/// answer of a call.
 pub fn orders_are_lost_at_answers()
     ensures { OrdersAreLostAtAnswers }
 {}

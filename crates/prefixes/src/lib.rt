@@ -1,5 +1,6 @@
-//! Prefixes of histories: what has an order keeps one without its last events, and with a call more that begins; so a
-//! history without order loses it at one event, which is an answer. Laws alone.
+//! Prefixes of histories: a history that has an order has one without its last events, and one if
+//! one more call begins. So a history without order loses it at one event, which is an answer. Laws
+//! only.
 #![tactic(auto)]
 
 mod laws;

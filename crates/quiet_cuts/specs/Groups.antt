@@ -19,8 +19,8 @@ abbrev pub reply_in : Option Response → Option Reply
 reply_in None = None
 reply_in (Some response) = Some response.reply
 
--- two lists of calls that differ in the places of their events alone: at each number the same call
--- with the same reply, and the same precedence
+-- two lists of calls that differ only in the places of their events: at each number they have the
+-- same call with the same reply, and the same precedence
 pub record AreAlike (calls others : List Operation) : Type 0 where
   pub size : length calls ≡ length others
   pub same : (n : ℕ) (a b : Operation) → slice_get calls n ≡ Some a → slice_get others n ≡ Some b → (a.call ≡ b.call)

@@ -9,7 +9,8 @@ use Rattle.events.specs.declared.operation.Operation.{Operation}
 abbrev pub begun_at : ℕ → Call → Operation
 begun_at place call = record { call = call; inv = place; response = None }
 
--- the call that was invoked at a place, with its answer at another; other calls as they are
+-- the call that was invoked at a place, with its answer at another place; all other calls as they
+-- are
 abbrev pub answered_at : ℕ → ℕ → Reply → Operation → Operation
 answered_at inv place reply a = if a.inv == inv then record {
   call = a.call;

@@ -1,4 +1,4 @@
--- Replies that say that a call changed nothing, and calls that were answered so.
+-- Replies that say that a call changed nothing, and calls with such answers.
 use Rattle.events.specs.declared.event.Reply.TheVariants as replies
 use Rattle.std.specs.Prelude.{◌≡◌, ◌==◌, ◌||◌, Bool, true, false, not, IsSomeAnd}
 use Rattle.events.specs.declared.event.Call.{Call}
@@ -6,8 +6,8 @@ use Rattle.events.specs.declared.event.Call.TheVariants.{Get, Insert, Remove, Sc
 use Rattle.events.specs.declared.event.Reply.{Reply}
 use Rattle.events.specs.declared.operation.Operation.{Operation}
 
--- whether a reply, where it is legal, says that the call changed nothing. Of one that tells less
--- than the map answers the call says so, where whatever it found leaves the pairs as they are
+-- whether a legal reply says that the call changed nothing. A partial reply says so if the call
+-- leaves the pairs as they are, whatever it found
 abbrev pub says_unchanged : Call → Reply → Bool
 says_unchanged call replies.Refused = true
 says_unchanged call replies.Other = true

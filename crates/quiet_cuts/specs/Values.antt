@@ -1,4 +1,4 @@
--- One key: what a call leaves of a value or none, and whether it may be answered so there.
+-- One key: the value that a call leaves there, and whether the call may be answered so there.
 use Rattle.events.specs.declared.event.Reply.TheVariants as replies
 use Rattle.std.specs.Prelude.{◌≡◌, ◌⊎◌, ℕ, if◌then◌else◌, Option, Some, None, ⊤}
 use Rattle.events.specs.declared.event.Call.{Call}
@@ -7,7 +7,7 @@ use Rattle.events.specs.declared.event.Reply.{Reply}
 use Rattle.events.specs.declared.operation.Response.{Response}
 use Rattle.map_object.specs.MapObject.{is_just, value_reply, TellsOf}
 
--- a call of a key; a scan is none
+-- a call of a key; no scan is one
 abbrev pub IsCallOf : ℕ → Call → Type 0
 IsCallOf key (Get own) = own ≡ key
 IsCallOf key (Insert own value) = own ≡ key
@@ -15,7 +15,7 @@ IsCallOf key (Remove own) = own ≡ key
 IsCallOf key (Scan low high) = ⊥
 IsCallOf key (Replace own expected value) = own ≡ key
 
--- the value behind a call, unless it is refused
+-- the value after a call, unless the call is refused
 abbrev pub value_behind : Option ℕ → Call → Option ℕ
 value_behind value (Get key) = value
 value_behind value (Insert key new) = Some new
@@ -23,7 +23,7 @@ value_behind value (Remove key) = None
 value_behind value (Scan low high) = value
 value_behind value (Replace key expected new) = if is_just value expected then Some new else value
 
--- the value behind a call that was answered so
+-- the value after a call with this answer
 abbrev pub value_behind_reply : Option ℕ → Call → Reply → Option ℕ
 value_behind_reply value call replies.None = value_behind value call
 value_behind_reply value call (replies.Some told) = value_behind value call
@@ -33,12 +33,12 @@ value_behind_reply value call replies.Done = value_behind value call
 value_behind_reply value call replies.Found = value_behind value call
 value_behind_reply value call replies.Other = value_behind value call
 
--- the value behind a call of a history
+-- the value after a call of a history
 abbrev pub value_behind_call : Option ℕ → Call → Option Response → Option ℕ
 value_behind_call value call None = value_behind value call
 value_behind_call value call (Some response) = value_behind_reply value call response.reply
 
--- a call may be answered so where its key has this value, or none
+-- a call may be answered so if its key has this value, or none
 abbrev pub MayBeAnswered : Option ℕ → Call → Option Response → Type 0
 MayBeAnswered value call None = ⊤
 MayBeAnswered value call (Some response) = (response.reply ≡ replies.Refused) ⊎ TellsOf call (value_reply value) response.reply

@@ -4,7 +4,7 @@ ghost use Rattle.quiet_cuts.specs.Earliest.{earlier_of};
 
 use events::Response;
 
-/// Whether a place is behind an answer, where there is one.
+/// Returns whether a place is after an answer; it is not if there is none.
 pub fn is_behind(answered: Option<usize>, place: usize) -> bool
     ensures { IsTrue result ↔ IsSomeAnd answered (λ answered. answered < place) }
 {
@@ -14,7 +14,7 @@ pub fn is_behind(answered: Option<usize>, place: usize) -> bool
     }
 }
 
-/// The earlier of two answers, where there are any.
+/// Returns the earlier of two answers, of those that there are.
 pub fn earlier_answer(earliest: Option<usize>, response: &Option<Response>) -> Option<usize>
     ensures { result ≡ earlier_of earliest response.now }
 {

@@ -5,7 +5,7 @@ ghost use Rattle.quiet_cuts.specs.Replies.{IsRead};
 
 use events::{Call, Operation, Reply};
 
-/// Whether a call has ended, and its answer says that it changed nothing.
+/// Returns whether a call has ended, and its answer says that it changed nothing.
 pub fn is_read(call: &Operation) -> bool
     ensures { IsTrue result ↔ IsRead call.now }
 {
@@ -15,9 +15,10 @@ pub fn is_read(call: &Operation) -> bool
     }
 }
 
-/// Whether a reply says that the call changed nothing: it was refused, or it reads alone, or it put
-/// the value that it found, or removed what was not there, or did not find what it was to replace.
-/// A replace of a value by the same one changes nothing, whatever it found.
+/// Returns whether a reply says that the call changed nothing. It does if the call was refused or
+/// only reads. It also does if the call put the value that it found, removed nothing, or did not
+/// find the value that it was to replace. A replace of a value by the same value changes nothing,
+/// whatever it found.
 pub fn says_unchanged(call: &Call, reply: &Reply) -> bool
     ensures { result ≡ spec.says_unchanged call.now reply.now }
 {

@@ -1,4 +1,4 @@
-// What a call does at its key, and whether it is done by a place.
+// What a call does at its key, and whether it ended before a place.
 ghost use Rattle.std.specs.Prelude.{◌≡◌, ◌↔◌, ◌⊎◌, IsTrue, Some, if◌then◌else◌};
 ghost use Rattle.events.specs.declared.event.Reply.TheVariants as replies;
 ghost use Rattle.events.specs.Precedence.{is_before};
@@ -9,7 +9,7 @@ ghost use Rattle.quiet_cuts.specs.Values.{value_behind_call, MayBeAnswered};
 
 use events::{Call, Operation, Reply};
 
-/// The value behind a call of a key, or none, where the key had `value`.
+/// Returns the value after a call of a key, or none, if the key had `value`.
 pub fn value_behind(value: Option<u64>, call: &Operation) -> Option<u64>
     ensures { result ≡ value_behind_call value call.now.call call.now.response }
 {
@@ -19,7 +19,7 @@ pub fn value_behind(value: Option<u64>, call: &Operation) -> Option<u64>
     }
 }
 
-/// The value behind a call that was answered so: a refused call changes nothing.
+/// Returns the value after a call with this answer. A refused call changes nothing.
 fn value_behind_reply(value: Option<u64>, call: &Call, reply: &Reply) -> Option<u64>
     ensures { result ≡ spec.value_behind_reply value call.now reply.now }
 {
@@ -29,7 +29,7 @@ fn value_behind_reply(value: Option<u64>, call: &Call, reply: &Reply) -> Option<
     }
 }
 
-/// The value behind a call that was not refused.
+/// Returns the value after a call that was not refused.
 fn value_behind_done(value: Option<u64>, call: &Call) -> Option<u64>
     ensures { result ≡ spec.value_behind value call.now }
 {
@@ -41,7 +41,7 @@ fn value_behind_done(value: Option<u64>, call: &Call) -> Option<u64>
     }
 }
 
-/// The value behind a replace.
+/// Returns the value after a replace.
 fn value_behind_replace(value: Option<u64>, expected: u64, new: u64) -> Option<u64>
     ensures { result ≡ (if is_just value expected then Some new else value) }
 {
@@ -51,7 +51,7 @@ fn value_behind_replace(value: Option<u64>, expected: u64, new: u64) -> Option<u
     }
 }
 
-/// Whether a call ended before a place.
+/// Returns whether a call ended before a place.
 pub fn is_ended(call: &Operation, place: usize) -> bool
     ensures { result ≡ is_before call.now.response place }
 {
@@ -61,7 +61,8 @@ pub fn is_ended(call: &Operation, place: usize) -> bool
     }
 }
 
-/// Whether a call may be answered as it is, if it is, where its key has this value, or none.
+/// Returns whether a call may have its answer if its key has this value, or none. A pending call
+/// always may.
 pub fn may_be_answered(value: Option<u64>, call: &Operation) -> bool
     ensures { IsTrue result ↔ MayBeAnswered value call.now.call call.now.response }
 {
@@ -71,7 +72,7 @@ pub fn may_be_answered(value: Option<u64>, call: &Operation) -> bool
     }
 }
 
-/// Whether a reply is a refusal, or tells of a value, or none, that a call finds.
+/// Returns whether a reply is a refusal, or agrees with a call that finds this value, or none.
 fn may_be_answered_so(value: Option<u64>, call: &Call, reply: &Reply) -> bool
     ensures { IsTrue result ↔ ((reply.now ≡ replies.Refused)
         ⊎ TellsOf call.now (value_reply value) reply.now) }
@@ -86,7 +87,7 @@ fn may_be_answered_so(value: Option<u64>, call: &Call, reply: &Reply) -> bool
     }
 }
 
-/// Whether a call is a replace that does not find the value that it expects.
+/// Returns whether a call is a replace that does not find the expected value.
 pub fn misses(value: Option<u64>, call: &Call) -> bool
     ensures { result ≡ object.misses call.now (value_reply value) }
 {

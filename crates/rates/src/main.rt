@@ -1,6 +1,7 @@
-//! Work of some threads, so often that its time can be taken from outside: `rates WORK THREADS ROUNDS`. In a round each thread
-//! notes 1,024 calls and their answers at one recorder (`recorder`), or does the 1,024 calls of its script on one tree (`coupled`,
-//! `optimistic`), or adds 2,048 times to one shared word (`word`), or does nothing (`neither`). What is printed is
+//! Work of some threads, repeated so that its time can be measured from outside: `rates WORK
+//! THREADS ROUNDS`. In a round each thread notes 1,024 calls and their answers at one recorder
+//! (`recorder`), or does the 1,024 calls of its script on one tree (`coupled`, `optimistic`). Or it
+//! adds 2,048 times to one shared word (`word`), or does nothing (`neither`). The program prints
 //! how many events were noted, or additions made.
 #![tactic(auto)]
 
@@ -10,7 +11,7 @@ use rounds::{RoundWork, done_in};
 use std::io::ErrorKind;
 use std::{env, io};
 
-/// The most threads: there is room for so many processes with 1,024 calls each.
+/// The most threads: there is room for this many processes with 1,024 calls each.
 const MAX_THREADS: u8 = 4;
 
 fn main(rt: HostRuntime) -> io::Result<()> {

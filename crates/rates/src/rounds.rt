@@ -16,7 +16,7 @@ use workload::{Mix, plan};
 /// How many calls a thread notes in a round.
 const CALLS: u32 = 1024;
 
-/// From what the scripts are drawn.
+/// The seed from which the scripts are drawn.
 const SEED: u64 = 7;
 
 /// Rows for all keys of a round.
@@ -44,7 +44,7 @@ pub(crate) enum RoundWork {
 }
 
 impl RoundWork {
-    /// The work of a name.
+    /// Returns the work of a name.
     pub(crate) fn of_name(name: &str) -> Option<RoundWork> {
         match name {
             "recorder" => Some(RoundWork::Recorder),
@@ -57,7 +57,7 @@ impl RoundWork {
     }
 }
 
-/// How many events are noted, or additions made, in so many rounds of so many threads.
+/// Returns how many events are noted, or additions made, in this many rounds of this many threads.
 pub(crate) fn done_in<R: Threads + Sync>(
     rt: &R,
     alloc: Global,
@@ -88,7 +88,7 @@ pub(crate) fn done_in<R: Threads + Sync>(
     Ok(done)
 }
 
-/// How many events each of some threads noted at one recorder.
+/// Returns how many events each of some threads noted at one recorder.
 fn record_rounds<R: Threads + Sync>(rt: &R, alloc: Global, threads: u8) -> Result<Vec<u64>, Memory>
     requires { (1 ≤ threads) × (threads ≤ 4) }
 {
@@ -96,7 +96,7 @@ fn record_rounds<R: Threads + Sync>(rt: &R, alloc: Global, threads: u8) -> Resul
     Ok(thread::map_vec(rt, passes, &|pass| note_all(&recorder, pass))?)
 }
 
-/// Notes calls and their answers: how many events were noted.
+/// Notes calls and their answers, and returns how many events were noted.
 fn note_all(recorder: &Recorder, mut pass: Pass) -> u64
     requires { IsPassOf recorder.now pass }
 {
@@ -112,7 +112,7 @@ fn note_all(recorder: &Recorder, mut pass: Pass) -> u64
     done
 }
 
-/// How many events were noted while each of some threads did its script on one tree.
+/// Returns how many events were noted while each of some threads did its script on one tree.
 fn drive_tree<R: Threads + Sync>(
     rt: &R,
     alloc: Global,
@@ -138,7 +138,7 @@ fn drive_tree<R: Threads + Sync>(
     Ok(done)
 }
 
-/// Adds to a shared word as often: how many additions were made.
+/// Adds to a shared word as often, and returns how many additions were made.
 fn add_all(word: &AtomicU64) -> u64 {
     for _ in 0..2 * CALLS {
         word.fetch_add(1, Ordering::SeqCst);

@@ -1,4 +1,4 @@
--- What a clause says of a pass, and why it refuses an event.
+-- What a clause can say of a pass, and why a pass refuses an event.
 use Rattle.std.specs.Prelude.{◌≡◌, ℕ, ◌<◌, Bool, nat_le, nat_lt, not, if◌then◌else◌, List, [], ◌∷◌, ◌++◌, All, Option, Some, None}
 use Rattle.atomic_table.specs.Seated.{TableId}
 use Rattle.events.specs.declared.event.Event.{Event}
@@ -56,7 +56,7 @@ view_of p = record { process = p.process; calls = p.calls; log = p.log.items; ha
 abbrev pub is_waiting : Pass → Bool
 is_waiting p = has_open_call (process_number p) (events_by p)
 
--- what is wrong with one invocation more
+-- what is wrong with one more invocation
 abbrev pub invoke_fault : Pass → Option RecorderFault
 invoke_fault p =
     if is_waiting p then Some faults.OutOfTurn
@@ -70,12 +70,12 @@ answer_fault p reply =
     else if nat_lt pair_limit (pair_count reply) then Some faults.TooMany
     else None
 
--- why an event was refused: what is wrong with it, or where nothing is, want of memory
+-- why an event was refused: for its fault, or if it has none because memory ran out
 abbrev pub IsRefusedFor : Option RecorderFault → RecorderFault → Type 0
 IsRefusedFor None fault = fault ≡ faults.Memory
 IsRefusedFor (Some wrong) fault = fault ≡ wrong
 
--- the pass recorded this event, under a stamp above all that it had drawn, and is otherwise the same
+-- the pass recorded this event, with a stamp above all that it had drawn; nothing else changed
 pub record HasRecorded (old : Pass) (event : Event) (new : Pass) : Type 0 where
   pub stamp : ℕ
   pub log : log_of new ≡ log_of old ++ (stamp, event) ∷ []

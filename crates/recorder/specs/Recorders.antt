@@ -1,4 +1,4 @@
--- What a clause says of a recorder and its passes.
+-- What a clause can say of a recorder and its passes.
 use Rattle.std.specs.Prelude.{◌≡◌, ℕ, ◌<◌, List, map, flat_map, sum_by, All, Contains}
 use Rattle.atomic_table.specs.Seated.{TableId}
 use Rattle.events.specs.declared.event.Event.{Event}
@@ -48,6 +48,6 @@ all_stamps passes = flat_map stamps_of passes
 abbrev pub history_of : List Pass → List Event
 history_of passes = history_of_logs (map log_of passes)
 
--- in the history of all passes, the events of each process are those of its pass, all of them, in order
+-- in the history of all passes, the events of each process are all events of its pass, in order
 abbrev pub HasOwnEvents : List Pass → Type 0
 HasOwnEvents passes = All (λ p. events_of (process_number p) (history_of passes) ≡ events_by p) passes

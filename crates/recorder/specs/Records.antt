@@ -11,7 +11,7 @@ use Rattle.logs.specs.Logs.{Stamped}
 abbrev pub events_in : List Stamped → List Event
 events_in log = map (λ e. e.1) log
 
--- the stamps alone
+-- the stamps without the events
 abbrev pub stamps_in : List Stamped → List ℕ
 stamps_in log = map (λ e. e.0) log
 
@@ -19,7 +19,8 @@ stamps_in log = map (λ e. e.0) log
 abbrev pub StampsRise : List Stamped → Type 0
 StampsRise log = AllPairs (λ a b. a.0 < b.0) log
 
--- the log of a process that began so many of its calls: its own events, which are a history by themselves, by rising stamp
+-- the log of a process that began this many of its calls: its own events, which are a history on
+-- their own, by rising stamp
 pub record IsRecord (process calls begun : ℕ) (has_open : Bool) (log : List Stamped) : Type 0 where
   pub known : process < process_limit
   pub own : All (λ e. process_of e.1 ≡ process) log

@@ -17,8 +17,9 @@ use std::alloc::Global;
 use tickets::{Hand, Tickets};
 
 impl Recorder {
-    /// The history of all that was recorded: the events of all passes, in whatever order these are handed in, by rising
-    /// stamp. Open calls are pending. Else everything comes back. For n events it takes time n log n.
+    /// Closes the recorder, and returns the history of all that was recorded: the events of all
+    /// passes, by rising stamp. The passes may come in any order. Open calls are pending. If it
+    /// fails, it returns the recorder and the passes. For n events it takes time n log n.
     pub fn close(self, alloc: Global, passes: Vec<Pass>) -> Result<History, CloseFault>
         requires own { All (IsPassOf self) passes.items }
         ensures history { IfOk result (λ h. h ≡ with_no_start (history_of passes.items)) }
@@ -41,7 +42,7 @@ impl Recorder {
         }
     }
 
-    /// Whether each process has a pass among these, and all draws are with them.
+    /// Returns whether these passes include one of each process, and all draws.
     fn has_all(&self, passes: &[Pass]) -> bool
         requires own { All (IsPassOf self.now) passes.now }
         ensures { IsTrue result ↔ AreAll self.now passes.now }
@@ -53,7 +54,7 @@ impl Recorder {
         has_processes(passes, self.processes)
     }
 
-    /// The history of the passes, which keep their logs.
+    /// Returns the history of the passes, which still have their logs afterwards.
     fn history(&self, alloc: Global, passes: &[Pass]) -> Result<History, Memory>
         requires own { All (IsPassOf self.now) passes.now }
         requires all { AreAll self.now passes.now }
@@ -65,7 +66,7 @@ impl Recorder {
         history_by_stamp(alloc, Vec::new(alloc), stamped)
     }
 
-    /// Joins all hands again, which shows that the stamps are the numbers below their count.
+    /// Joins all hands again. That shows that the stamps are the numbers below their count.
     fn join(self, passes: Vec<Pass>)
         requires own { All (IsPassOf self) passes.items }
         requires all { AreAll self passes.items }
@@ -83,7 +84,7 @@ impl Recorder {
     }
 }
 
-/// The hands of passes, joined into one.
+/// Returns the hands of passes, joined into one.
 fn join_hands(tickets: &Tickets, passes: Vec<Pass>) -> Hand
     requires some { passes.items ≢ [] }
     requires own { All (λ p. source_of p ≡ counter tickets.now) passes.items }
@@ -102,7 +103,7 @@ fn join_hands(tickets: &Tickets, passes: Vec<Pass>) -> Hand
     hand
 }
 
-/// The events of all passes with their stamps, pass after pass.
+/// Returns the events of all passes with their stamps, pass after pass.
 fn all_events(alloc: Global, passes: &[Pass]) -> Result<Vec<(u64, Event)>, Memory>
     ensures { IfOk result (λ all. all.items ≡ flat_map log_of passes.now) }
 {
@@ -113,7 +114,7 @@ fn all_events(alloc: Global, passes: &[Pass]) -> Result<Vec<(u64, Event)>, Memor
     Ok(all)
 }
 
-/// Whether each process below a number has a pass among these.
+/// Returns whether each process below a number has a pass among these.
 fn has_processes(passes: &[Pass], processes: u8) -> bool
     ensures { IsTrue result ↔ HasProcesses processes passes.now }
 {
@@ -125,7 +126,7 @@ fn has_processes(passes: &[Pass], processes: u8) -> bool
     true
 }
 
-/// Whether a process has a pass among these.
+/// Returns whether a process has a pass among these.
 fn has_process(passes: &[Pass], process: u8) -> bool
     ensures { IsTrue result ↔ Contains (map process_number passes.now) process }
 {

@@ -2,7 +2,7 @@
 use crate::pass::Pass;
 use crate::recorders::Recorder;
 
-/// Why an event was not recorded: the first cause of these, in this order.
+/// Why an event was not recorded: the first of these causes, in this order.
 #[derive(Clone, Copy, Debug, PartialEq, Eq)]
 pub enum RecorderFault {
     /// An invocation while the process has an open call, or a response while it has none.
@@ -13,10 +13,10 @@ pub enum RecorderFault {
     Memory,
 }
 
-/// Why a recorder was not closed. The recorder and the passes come back as they were handed in.
+/// Why a recorder was not closed. The recorder and the passes are returned unchanged.
 #[derive(Drop)]
 pub enum CloseFault {
-    /// A process, or a part of the draws, is not in the passes that were handed in.
+    /// A process, or a part of the draws, is missing in the passes.
     StillOut(Recorder, Vec<Pass>),
     /// Memory ran out for the history.
     Memory(Recorder, Vec<Pass>),

@@ -1,9 +1,11 @@
-//! A recorder without a lock: what processes do at a caller's own index, with stamps drawn from one word, becomes a history.
+//! A recorder without a lock: what processes do at a caller's own index, with stamps drawn from one
+//! word, becomes a history.
 //!
-//! A [`Recorder`] is opened with a [`Pass`] for each process. The thread of a process notes with its pass that a call is
-//! begun ([`Recorder::invoke`]) and that it was answered ([`Recorder::answer`]). Each is one fetch-and-add, and none waits
-//! for another thread. [`Recorder::close`] takes the passes back, in any order, and gives the history: all events of all
-//! passes, by rising stamp.
+//! A [`Recorder`] is opened with a [`Pass`] for each process. The thread of a process notes with
+//! its pass that a call begins ([`Recorder::invoke`]) and that it was answered
+//! ([`Recorder::answer`]). Each note is one fetch-and-add, and none waits for another thread.
+//! [`Recorder::close`] takes the passes back, in any order, and returns the history: all events of
+//! all passes, by rising stamp.
 #![tactic(auto)]
 
 mod closing;

@@ -13,8 +13,8 @@ use std::alloc::Global;
 use tickets::{Hand, Tickets};
 
 impl Recorder {
-    /// A recorder for so many processes, each with so many calls, and a pass for each process, by rising number. `Err`
-    /// is want of memory.
+    /// Opens a recorder for this many processes, each with this many calls, and a pass for each
+    /// process, by rising number. It returns `Err` if memory runs out.
     pub fn open(
         alloc: Global,
         processes: u8,
@@ -39,7 +39,7 @@ impl Recorder {
     }
 }
 
-/// A pass for each process, by rising number. The draws of the hand are parted among them.
+/// Returns a pass for each process, by rising number. The draws of the hand are shared among them.
 fn first_passes(
     alloc: Global,
     tickets: &Tickets,
@@ -57,7 +57,7 @@ fn first_passes(
     ensures calls { IfOk result (λ v. All (λ p. calls_of p ≡ calls_each) v.items) }
     ensures nothing { IfOk result (λ v. All (λ p. log_of p ≡ []) v.items) }
 {
-    // Nothing is left of the hand once each pass has its part, so it may be let go.
+    // Nothing is left in the hand when each pass has its part, so it may be dropped.
     let mut passes = Vec::with_capacity(alloc, usize::from(processes))?;
     for process in 0..processes {
         let hand = tickets.split(&mut rest, 2 * u64::from(calls_each));
@@ -66,7 +66,7 @@ fn first_passes(
     Ok(passes)
 }
 
-/// A pass with no event yet.
+/// Returns a pass with no event yet.
 fn first_pass(alloc: Global, process: u8, calls: u32, hand: Hand) -> Pass
     requires process { process < process_limit }
     requires calls { calls ≤ call_limit }

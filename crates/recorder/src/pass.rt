@@ -6,8 +6,8 @@ ghost use Rattle.recorder.specs.Records.{IsRecord};
 use events::Event;
 use tickets::Hand;
 
-/// The part of one process in a [`Recorder`](crate::Recorder): its number, the draws of its calls, and its events with
-/// their stamps. Where a pass is dropped, its recorder can't be closed.
+/// The part of one process in a [`Recorder`](crate::Recorder): its number, the draws of its calls,
+/// and its events with their stamps. If a pass is dropped, its recorder cannot be closed.
 #[derive(Drop)]
 pub struct Pass {
     pub(crate) process: u8,
@@ -24,7 +24,7 @@ pub struct Pass {
 impl Pass {
     ghost use Rattle.recorder.specs.Passes.{process_number};
 
-    /// The number of the process that records with the pass.
+    /// Returns the number of the process that records with the pass.
     pub fn process(&self) -> u8
         ensures { result ≡ process_number self.now }
     {

@@ -5,7 +5,7 @@ ghost use Rattle.events.specs.Limits.{process_limit, call_limit};
 
 use tickets::Tickets;
 
-/// What the threads of all processes share. A pass is used only with the recorder that it came from.
+/// The part that the threads of all processes share. A pass is used only with its own recorder.
 #[derive(Drop)]
 pub struct Recorder {
     pub(crate) tickets: Tickets,

@@ -15,8 +15,9 @@ use crate::recorders::Recorder;
 use events::{Call, Event, MAX_PAIRS, Reply};
 
 impl Recorder {
-    /// Notes that the pass's process begins a call, before it does anything of it. Room for the event is taken before its
-    /// stamp is drawn, so that a refused call records nothing. It is one fetch-and-add.
+    /// Notes that the pass's process begins a call, before it does anything of the call. Memory for
+    /// the event is allocated before its stamp is drawn, so a refused call records nothing. It is
+    /// one fetch-and-add.
     pub fn invoke(&self, pass: &mut Pass, call: Call) -> Result<(), RecorderFault>
         requires own { IsPassOf self.now pass.old }
         requires range { IsTrue (has_range call) }
@@ -36,8 +37,9 @@ impl Recorder {
         self.record(pass, Event::Invoke { process, call })
     }
 
-    /// Notes that the open call of the pass's process was answered, after all that it did. Room for the event is taken
-    /// before its stamp is drawn, so that a refused call records nothing. It is one fetch-and-add.
+    /// Notes that the open call of the pass's process was answered, after all that it did. Memory
+    /// for the event is allocated before its stamp is drawn, so a refused call records nothing. It
+    /// is one fetch-and-add.
     pub fn answer(&self, pass: &mut Pass, reply: Reply) -> Result<(), RecorderFault>
         requires own { IsPassOf self.now pass.old }
         ensures own { IsPassOf self.now pass.new }
@@ -81,7 +83,7 @@ impl Recorder {
     }
 }
 
-/// Whether an event is an invocation; else it is a response.
+/// Returns whether an event is an invocation; otherwise it is a response.
 fn is_invocation(event: &Event) -> bool
     ensures { result ≡ is_invocation event.now }
 {

@@ -5,8 +5,8 @@ ghost use Rattle.events.specs.Limits.{pair_limit};
 
 use events::{Call, Reply};
 
-/// An index on which threads call side by side. Of what it answers is known only what it tells itself, and that no reply is
-/// too long.
+/// An index on which threads call side by side. Of its answers nothing is known, except what its
+/// own contract says, and that no reply is too long.
 pub trait Subject {
     ghost use Rattle.events.specs.declared.event.Call.{Call};
     ghost use Rattle.events.specs.declared.event.Reply.{Reply};

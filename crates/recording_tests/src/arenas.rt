@@ -1,5 +1,6 @@
-// Two processes on an arena, whose steps are interleaved: what leaving out a check makes of a call, which the verdict refutes, what
-// the full trees answer, and whom a process holds up that stops for good within its call.
+// Two processes on an arena, with interleaved steps. The tests show what becomes of a call if a
+// check is left out, which the verdict refutes, and what the full trees answer. They also show whom
+// a process holds up that stops permanently within its call.
 ghost use Rattle.running.specs.Groups.{IsGroupOf};
 
 use crate::shapes::eights;
@@ -30,7 +31,8 @@ fn begin(arena: &Arena, group: &mut Pass, call: &Call) -> Result<(), Fail>
     Ok(arena.begin(group, call)?)
 }
 
-/// The group's process begins a call where it is told one, and makes so many steps of its open call.
+/// Begins a call of the group's process if one is given, and makes this many steps of its open
+/// call.
 fn make_steps(
     alloc: Global,
     arena: &Arena,
@@ -51,8 +53,8 @@ fn make_steps(
     Ok(())
 }
 
-/// The report on what is recorded where the two processes make these steps: which of them, the call that it begins before, and
-/// how many.
+/// The report on what is recorded if the two processes make these steps: each names the process,
+/// the call that it begins before, and how many steps it makes.
 fn report_interleaved(
     alloc: Global,
     variant: Variant,
@@ -76,7 +78,8 @@ fn report_interleaved(
     Ok(report(alloc, &verdict)?)
 }
 
-/// A scan has read the root's first slot when two inserts come, the second of them behind it.
+/// A scan has read the root's first slot when two inserts come; the second of them is in a later
+/// slot.
 static SCAN: [(u8, Option<Call>, u32); 4] = [
     (0, Some(Call::Scan(16777216, 33554432)), 2),
     (1, Some(Call::Insert(16777216, 1)), WHOLE),
@@ -84,7 +87,7 @@ static SCAN: [(u8, Option<Call>, u32); 4] = [
     (0, None, WHOLE),
 ];
 
-/// An insert has read the root when another one hangs its leaf there, which is sought then.
+/// An insert has read the root when another one hangs its leaf there; then that leaf is searched.
 static LOCK: [(u8, Option<Call>, u32); 4] = [
     (0, Some(Call::Insert(5, 50)), 3),
     (1, Some(Call::Insert(9, 90)), WHOLE),
@@ -121,8 +124,8 @@ fn what_a_check_left_out_makes_of_a_call_is_refuted(rt: HostRuntime) -> Result<(
     Ok(())
 }
 
-/// Calls 0 and 1 insert 5 and 9, call 2 is a get of 5 that stops after some steps, and call 3 another process's insert: it is
-/// answered beside the get that is not.
+/// Calls 0 and 1 insert 5 and 9. Call 2 is a get of 5 that stops after some steps. Call 3 is
+/// another process's insert: it is answered although the get is not.
 const BESIDE: &str = "{\"order\":[0,1,3],\"verdict\":\"yes\"}";
 
 /// The insert waits.
@@ -131,7 +134,8 @@ const HELD_UP: &str = "{\"order\":[0,1],\"verdict\":\"yes\"}";
 /// The get was answered.
 const BOTH: &str = "{\"order\":[0,1,2,3],\"verdict\":\"yes\"}";
 
-/// By the steps that the get makes, the reports under optimistic lock coupling and under lock coupling.
+/// By the steps that the get makes, the reports under optimistic lock coupling and under lock
+/// coupling.
 static STOPPED: [(&str, &str); 12] = [
     (BESIDE, BESIDE),
     (BESIDE, BESIDE),

@@ -26,7 +26,7 @@ fn drawn(alloc: Global, strategy: Strategy) -> Result<Replay, Fail> {
     Ok(drawn_replay(alloc, eights(), variant, 100_000, scripts, &draw)?)
 }
 
-/// The same schedule is drawn again. All its turns are made, and each call is answered.
+/// Draws the same schedule again. All its turns are made, and each call is answered.
 fn check_drawn<R: Abort>(rt: &R, alloc: Global, strategy: Strategy) -> Result<(), Fail> {
     let replay = drawn(alloc, strategy)?;
     let again = drawn(alloc, strategy)?;

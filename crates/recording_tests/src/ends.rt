@@ -35,7 +35,7 @@ fn each_write_fails_in_turn(rt: HostRuntime) -> Result<(), Fail> {
     Ok(())
 }
 
-// What is written to no sink is dropped, and to one that is there it goes.
+// What is written to no sink is dropped; what is written to a sink arrives there.
 #[test]
 fn a_sink_may_be_left_out(rt: HostRuntime) -> Result<(), Fail> {
     let mut none: Option<MemorySink> = None;

@@ -1,5 +1,5 @@
-// A process enters the gate before it begins its first call. The gate is told nothing of calls, and the history nothing of the
-// gate, so this goes by the clock.
+// A process enters the gate before it begins its first call. The gate does not see calls, and the
+// history does not see the gate. So this test uses the clock.
 ghost use Rattle.std.specs.Prelude.{⊤};
 
 use crate::meetings::drive_text;
@@ -9,7 +9,8 @@ use std::test::Fail;
 use std::thread;
 use std::time::{Clock, Instant};
 
-/// How many milliseconds process 0 is held: much longer than it takes to start a thread that does one call.
+/// How many milliseconds process 0 is held: much longer than it takes to start a thread that does
+/// one call.
 const HELD: u128 = 20;
 
 /// How often process 0 yields at most while it is held.
@@ -50,8 +51,8 @@ static PLAN: &str = r#"{"scripts":[[["get",5]],[["get",6]]],"version":1}"#;
 static HELD_LAST: &str =
     r#"{"events":[{"invoke":["get",6],"process":1},{"answer":null,"process":1},{"invoke":["get",5],"process":0},{"answer":null,"process":0}],"version":1}"#;
 
-/// Where a process was held behind its call, its call would come first, or the two would overlap. A thread may be held up by
-/// the machine, hence most of nine rounds.
+/// Where a process was held behind its call, its call would come first, or the two would overlap. A
+/// thread may be held up by the machine, hence most of nine rounds.
 #[test]
 fn a_process_enters_the_gate_before_its_calls(rt: HostRuntime) -> Result<(), Fail> {
     let alloc = rt.alloc();

@@ -1,4 +1,5 @@
-// What no subcommand calls: histories of events alone, copies of segments, and the texts of faults for people.
+// What no subcommand calls: histories of events alone, copies of segments, and the texts of faults
+// for people.
 use events::{Call, Event, History, HistoryFault};
 use outcomes::history_fault_line;
 use segments::Segment;

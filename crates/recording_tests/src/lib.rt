@@ -1,10 +1,12 @@
-//! Tests of what records histories, through public calls: tickets, the recorder, streams of bytes, a map under a lock; a tree under a schedule,
-//! on the step machine and on shared words by two groups of processes; and plans that threads do on a tree or at a subject, where they meet at
-//! a gate or within their calls.
+//! Tests of what records histories, through public calls: tickets, the recorder, streams of bytes,
+//! and a map under a lock. There are tests of a tree under a schedule, on the step machine and on
+//! shared words by two groups of processes. Others are of plans that threads do on a tree or at a
+//! subject, where they meet at a gate or within their calls.
 //!
-//! A proof covers what the contracts say. What these tests add is that each call answers where memory is ample, that threads overlap, what
-//! comes back where a pass is missing, reads and writes that come in pieces and fail midway, and that the definitions say what was meant:
-//! words, replies and orders were worked out by hand.
+//! A proof covers what the contracts say. These tests show that each call answers if memory is
+//! ample, that threads overlap, what is returned if a pass is missing, and reads and writes that
+//! come in pieces and fail midway. They also show that the definitions say what was meant: words,
+//! replies and orders were worked out by hand.
 #![tactic(auto)]
 
 #[cfg(test)]

@@ -16,7 +16,7 @@ fn open_machine(alloc: Global, text: &str) -> Result<Machine, Fail> {
     Ok(Machine::open(alloc, eights(), Variant::Optimistic, scripts, 100_000)?)
 }
 
-/// The text, so many times, with commas between.
+/// The text, this many times, with commas between.
 fn repeat_text(alloc: Global, text: &str, count: usize) -> Result<String, AllocError> {
     let mut all = String::from_str(alloc, text)?;
     for _ in 1..count {
@@ -26,7 +26,8 @@ fn repeat_text(alloc: Global, text: &str, count: usize) -> Result<String, AllocE
     Ok(all)
 }
 
-/// How many events a machine has recorded before its first turn, for a plan of so many scripts of so many gets each.
+/// How many events a machine has recorded before its first turn, for a plan of this many scripts
+/// with this many gets each.
 fn recorded_of_gets(alloc: Global, scripts: usize, gets: usize) -> Result<usize, Fail> {
     let script = format!(in alloc; "[{}]", repeat_text(alloc, "[\"get\",5]", gets)?)?;
     let text = format!(in alloc;
@@ -47,8 +48,8 @@ fn a_machine_is_opened_for_the_largest_plans(rt: HostRuntime) -> Result<(), Fail
 static INSERTS: &str =
     r#"{"scripts":[[["insert",0,1],["insert",1,1],["insert",2,1],["insert",3,1],["insert",4,1],["insert",5,1],["insert",6,1],["insert",7,1],["insert",8,1],["insert",9,1],["insert",10,1],["insert",11,1],["insert",12,1],["insert",13,1],["insert",14,1],["insert",15,1],["insert",16,1]]],"version":1}"#;
 
-/// Words after 17 inserts, each with its place: of the clock, of the claims of each kind, of the rows that were replaced, of the
-/// row of kind 48, and of the root.
+/// Words after 17 inserts, each with its place: the clock, the claims of each kind, the rows that
+/// were replaced, the row of kind 48, and the root.
 static GROWN: [(usize, u64); 14] = [
     (0, 34),
     (1, 1),
@@ -80,7 +81,7 @@ fn make_all_turns<R: Abort>(rt: &R, alloc: Global, machine: &mut Machine) {
     assert_eq!(rt; machine.run(alloc, &others), Err(done));
 }
 
-/// Each of the words after 17 inserts stands at its place.
+/// Each of the words after 17 inserts is at its place.
 fn check_grown<R: Abort>(rt: &R, words: &[u64]) {
     for (place, word) in &GROWN {
         assert_eq!(rt; words.get(*place), Some(word));
@@ -95,7 +96,7 @@ fn a_row_grows_from_4_to_16_to_48_children(rt: HostRuntime) -> Result<(), Fail> 
     Ok(())
 }
 
-/// What a process does next: a digit for each kind of step, and 9 where it loads a word.
+/// What a process does next: a digit for each kind of step, and 9 if it loads a word.
 fn kind_of_step(step: NextStep) -> u32 {
     match step {
         NextStep::Nothing => 0,

@@ -49,8 +49,8 @@ pub(crate) fn drive_text<R: Threads + Sync, G: Gate + Sync>(
     )?)
 }
 
-/// Holds each of the processes 0 and 2 until the other one came. It counts those that saw the other one, those that came, and adds
-/// up their numbers.
+/// Holds each of the processes 0 and 2 until the other one came. It counts how many saw the other
+/// one and how many came, and adds up the numbers of the processes.
 #[derive(Drop)]
 struct MeetingGate {
     first: AtomicBool,

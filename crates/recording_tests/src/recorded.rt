@@ -36,7 +36,8 @@ fn are_overlapping(events: &[Event]) -> bool {
     )
 }
 
-/// An insert and a get that overlap, and a response out of turn: whether what is in turn is recorded, and no more.
+/// An insert and a get that overlap, and a response out of turn. Returns whether exactly what is in
+/// turn is recorded.
 fn overlap(recorder: &Recorder, first: &mut Pass, second: &mut Pass) -> bool
     requires first { IsPassOf recorder.now first.old }
     requires second { IsPassOf recorder.now second.old }
@@ -76,7 +77,7 @@ fn without_a_pass_all_come_back_and_go_on(rt: HostRuntime) -> Result<(), Fail> {
     Ok(())
 }
 
-/// Inserts of 1,000 keys, each answered at once: how many were recorded.
+/// Inserts 1,000 keys, each answered at once, and returns how many were recorded.
 fn record_inserts(recorder: &Recorder, pass: &mut Pass) -> u32
     requires { IsPassOf recorder.now pass.old }
     ensures { IsPassOf recorder.now pass.new }

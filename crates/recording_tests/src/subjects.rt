@@ -1,5 +1,5 @@
-// A plan that is driven at a subject, each script in a thread of its own: calls wait for each other there, and are answered wrongly, or
-// are answered that they were done.
+// A plan that is driven at a subject, each script in a thread of its own. There calls wait for each
+// other and get wrong answers, or get the answer that they are done.
 ghost use Rattle.std.specs.Prelude.{◌≡◌, ℕ};
 ghost use Rattle.events.specs.declared.event.Reply.TheVariants as replies;
 
@@ -15,8 +15,8 @@ use std::sync::atomic::{AtomicBool, AtomicU64, Ordering};
 use std::test::Fail;
 use std::thread::Threads;
 
-/// Answers a key plus 7. A call on key 0 waits for one on key 1, and that for one on key 2. It counts the calls that saw that the
-/// one for which they waited had begun.
+/// Answers a key plus 7. A call on key 0 waits for one on key 1, and that one for one on key 2. It
+/// counts the calls that saw that the call for which they waited had begun.
 #[derive(Drop)]
 struct Meeting {
     first: AtomicBool,
@@ -52,7 +52,8 @@ impl Subject for Meeting {
     }
 }
 
-/// A get of a key: the places of its invocation and its response, and the value that it was answered.
+/// A get of a key: the places of its invocation and its response, and the value that it was
+/// answered.
 fn answered_get(history: &History, key: u64) -> Option<(usize, usize, u64)> {
     for operation in history.calls() {
         if operation.call == Call::Get(key) {
@@ -90,7 +91,8 @@ fn driven_at<R: Threads + Sync, S: Subject + Sync>(
     Ok(drive_subject(rt, alloc, &plan, subject)?)
 }
 
-/// What is recorded in this round, in which two calls of a plan see that the ones for which they wait have begun.
+/// What is recorded in this round, in which two calls of a plan see that the calls for which they
+/// wait have begun.
 fn met_in<R: Threads + Sync + Abort>(
     rt: &R,
     alloc: Global,
@@ -103,7 +105,8 @@ fn met_in<R: Threads + Sync + Abort>(
     Ok(history)
 }
 
-/// Each get is answered by its key plus 7, and their answers come as the calls wait for each other.
+/// Each get is answered by its key plus 7, and the answers come in the order in which the calls
+/// wait for each other.
 fn check_answers<R: Abort>(rt: &R, history: &History, round: i32) {
     let (Some(first), Some(second), Some(third)) = (
         answered_get(history, 0),
@@ -138,7 +141,7 @@ fn two_subject_calls(rt: HostRuntime) -> Result<(), Fail> {
     Ok(())
 }
 
-/// Tells nothing of what it finds.
+/// Says nothing of what it finds.
 #[derive(Drop)]
 struct Silent;
 

@@ -1,4 +1,4 @@
--- What it means that a process as a thread runs it fits the one that a place shows.
+-- When a process as a thread runs it fits the process that a place shows.
 use Rattle.std.specs.Prelude.{◌≡◌, ℕ, ◌+◌, List, [], ◌∷◌, length}
 use Rattle.art.specs.Doings.{FitsDoing}
 use Rattle.art_core.specs.declared.process.Process.{Process}
@@ -12,14 +12,15 @@ use Rattle.running.specs.declared.runner.Runner.{Runner}
 abbrev pub Run : Type 0
 Run = ℕ × Runner
 
--- it fits the process: the same number, the same call, as many calls left, the same log
+-- the run fits the process: it has the same number, the same call, as many calls left, and the same
+-- log
 pub record FitsProcess (setup : Setup) (x : Numbered) (r : Run) : Type 0 where
   pub number : x.0 ≡ r.0
   pub doing : FitsDoing setup.shape setup.variant r.1.doing x.1.call x.1.got
   pub left : length (begun x.1) + r.1.left ≡ setup.calls_each
   pub log : x.1.log ≡ r.1.log.items
 
--- each fits the process at its place
+-- each run fits the process at its place
 abbrev pub Fit : Setup → List Numbered → List Run → Type 0
 Fit setup [] [] = Unit {0}
 Fit setup [] (r ∷ rs) = ⊥
@@ -40,7 +41,7 @@ pub record IsFirst (v : View) (number : ℕ) (r : Runner) : Type 0 where
   pub is : v.processes ≡ (number, process) ∷ others_of v
   pub fits : FitsProcess v.setup (number, process) (number, r)
 
--- nothing but the first process differs
+-- only the first process differs
 pub record IsBeside (old new : View) : Type 0 where
   pub setup : new.setup ≡ old.setup
   pub others : others_of new ≡ others_of old

@@ -1,4 +1,4 @@
--- What a clause says of an arena and a group.
+-- What a clause can say of an arena and a group.
 use Rattle.std.specs.Prelude.{◌≡◌, ℕ, ◌<◌, ◌≤◌, vec_len, vec_capacity}
 use Rattle.art_rows.specs.declared.table.Shape.{Shape}
 use Rattle.art_steps.specs.declared.variant.Variant.{Variant}
@@ -21,7 +21,8 @@ opened_for a = setup_of a.core
 abbrev pub shows : Pass → View
 shows p = shown p.place
 
--- What each group of an arena keeps: its processes, as a thread runs them, fit those that it shows, and there is room for all.
+-- The invariant of each group of an arena: its processes, as a thread runs them, fit those that it
+-- shows, and there is room for all.
 pub record IsGroup (p : Pass) : Type 0 where
   pub setup : (shows p).setup ≡ p.setup
   pub limits : IsSetup p.setup

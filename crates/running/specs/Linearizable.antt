@@ -1,4 +1,4 @@
--- What it means that the history of an arena is linearizable.
+-- When the history of an arena is linearizable.
 use Rattle.std.specs.Prelude.{◌≡◌, ◌⊎◌, ℕ, List}
 use Rattle.events.specs.HistoryView.{HistoryView}
 use Rattle.orders.specs.Orders.{IsLinearizableHistory}
@@ -8,8 +8,8 @@ use Rattle.art_shared.specs.declared.view.Setup.{Setup}
 use Rattle.art_shared.specs.declared.view.View.{View}
 use Rattle.art_shared.specs.Ends.{state_of}
 
--- Where the tree is a full one and the processes made few steps, the history has an order, however the threads interleaved and whoever
--- stopped.
+-- If the tree is a full one and the processes made few enough steps, the history has an order,
+-- however the threads interleaved and whoever stopped.
 abbrev pub IsLinearizableIn : Setup → View → HistoryView → Type 0
 IsLinearizableIn setup v h =
     (setup.variant ≡ Coupled) ⊎ (setup.variant ≡ Optimistic) → ((words : List ℕ) → HasFewSteps (state_of words v)) → IsLinearizableHistory h

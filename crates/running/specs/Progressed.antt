@@ -1,4 +1,4 @@
--- What some turns of an open call have come to.
+-- What some turns of an open call did.
 use Rattle.std.specs.Prelude.{ℕ, ◌<◌, ◌≤◌, IsTrue}
 use Rattle.art_shared.specs.declared.view.View.{View}
 use Rattle.running.specs.declared.progress.Progress.{Progress}

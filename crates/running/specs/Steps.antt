@@ -36,7 +36,8 @@ pub record HasReplied (reply : Reply) (v : View) : Type 0 where
   pub stamp : ℕ
   pub log : process.log ≡ earlier ++ (stamp, Answer number reply) ∷ []
 
--- the first process has invoked the call, and nothing else differs: one step of the core, under a stamp greater than all that were shown
+-- the first process has invoked the call, and nothing else differs. It is one step of the core,
+-- with a stamp greater than all that were shown
 pub record HasInvoked (call : Call) (old new : View) : Type 0 where
   pub stamp : ℕ
   pub is : new ≡ invoking call old stamp

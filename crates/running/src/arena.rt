@@ -1,7 +1,8 @@
 // The shared part of the running trees.
 use art_shared::SharedCore;
 
-/// The words of one tree, which the threads of all processes share. A group is used only with the arena that it came from.
+/// The words of one tree, which the threads of all processes share. A group is used only with its
+/// own arena.
 #[derive(Drop)]
 pub struct Arena {
     pub(crate) core: SharedCore,

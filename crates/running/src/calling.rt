@@ -13,9 +13,10 @@ use events::Memory;
 use std::alloc::Global;
 
 impl Arena {
-    /// The group's least process begins a call: the stamp of its invocation, which is one step of the process. These are two
-    /// atomic steps on the clock, of which the first leaves the words as they are. Room for the event is taken before; `Err`
-    /// is want of it, and then nothing has changed.
+    /// Begins a call of the group's least process: it draws the stamp of the invocation, which is
+    /// one step of the process. These are two atomic steps on the clock, and the first leaves the
+    /// words as they are. Memory for the event is allocated before. It returns `Err` if there is
+    /// none, and then nothing has changed.
     pub fn begin(&self, group: &mut Pass, call: TreeCall) -> Result<(), Memory>
         requires own { IsGroupOf self.now group.old }
         requires idle { IsTrue (is_idle (shows group.old)) }
@@ -32,9 +33,10 @@ impl Arena {
             .begin(&self.core, &mut group.place, number, setup, call)
     }
 
-    /// At most so many steps of the open call of the group's least process: accesses, and the stamp of its response. `Going`
-    /// comes after all of them, and then the call is still open. `Err` is want of memory: the steps made stand, the call is
-    /// still open, and it may be advanced again.
+    /// Makes at most this many steps of the open call of the group's least process: accesses, and
+    /// the stamp of its response. It returns `Going` if the call is still open after all of them.
+    /// It returns `Err` if memory runs out. The steps made then remain, the call is still open, and
+    /// may be advanced again.
     pub fn advance(&self, alloc: Global, group: &mut Pass, turns: u32) -> Result<Progress, Memory>
         requires own { IsGroupOf self.now group.old }
         requires open { IsTrue (is_open (shows group.old)) }

@@ -17,11 +17,15 @@ use logs::{append_log, history_by_stamp};
 use std::alloc::Global;
 
 impl Arena {
-    /// The history of all that the processes did: their events by rising stamp. Open calls are pending, and there are no
-    /// starting pairs. Else everything comes back. Where the tree is full and fewer than 2^61 steps were made, the history is
-    /// linearizable, however the threads interleaved and whoever stopped. Where it is the optimistic one, each scan that was
-    /// answered has a moment within it at which all that it read stands still; so has each get, for the last row that it read,
-    /// which says its reply. For n events it takes time n log n.
+    /// Closes the arena, and returns the history of all that the processes did: their events by
+    /// rising stamp. Open calls are pending, and there are no starting pairs. If it fails, it
+    /// returns the arena and the group.
+    ///
+    /// If the tree is full and fewer than 2^61 steps were made, the history is linearizable,
+    /// however the threads interleaved and whoever stopped. If it is the optimistic one, each scan
+    /// that was answered has a moment within it at which nothing that it read is different. Each
+    /// get has one for the last row that it read, which says its reply. For n events it takes time
+    /// n log n.
     pub fn close(self, alloc: Global, group: Pass) -> Result<History, ArenaClose>
         requires own { IsGroupOf self group }
         ensures history { IfOk result (IsHistoryOf (opened_for self) (shows group)) }
@@ -45,7 +49,7 @@ impl Arena {
         }
     }
 
-    /// The history of a group that has all processes. It looks at the words once.
+    /// Returns the history of a group that has all processes. It looks at the words once.
     fn history(&self, alloc: Global, group: &mut Pass) -> Result<History, Memory>
         requires own { IsGroupOf self.now group.old }
         requires all { HoldsAll (opened_for self.now) (shows group.old) }
@@ -67,7 +71,7 @@ impl Arena {
     }
 }
 
-/// The events of all processes with their stamps, process after process.
+/// Returns the events of all processes with their stamps, process after process.
 fn all_events(alloc: Global, runners: &[(u8, Runner)]) -> Result<Vec<(u64, Event)>, Memory>
     ensures { IfOk result (λ all. all.items ≡ flat_map (λ r. r.1.log.items) runners.now) }
 {

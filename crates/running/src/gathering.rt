@@ -17,7 +17,7 @@ pub fn gather(runners: &mut Vec<(u8, Runner)>, mut others: Vec<(u8, Runner)>)
     }
 }
 
-/// Moves the last of the others to its place.
+/// Moves the last of the others to its place in the list.
 fn move_last(runners: &mut Vec<(u8, Runner)>, others: &mut Vec<(u8, Runner)>)
     requires some { 0 < vec_len others.old }
     requires room { vec_len runners.old < vec_capacity runners.old }
@@ -45,7 +45,7 @@ fn put(runners: &mut Vec<(u8, Runner)>, runner: (u8, Runner))
     }
 }
 
-/// The place of a number: before the first that is greater.
+/// Returns the place of a number: before the first one that is greater.
 fn place_for(runners: &[(u8, Runner)], number: u8) -> usize
     ensures within { result ≤ length runners.now }
     ensures place { (runner : Runner) → placed (number, runner) runners.now ≡ insert runners.now result (number, runner) }
@@ -58,7 +58,7 @@ fn place_for(runners: &[(u8, Runner)], number: u8) -> usize
     runners.len()
 }
 
-/// Gives the last process to a list that has none.
+/// Moves the last process to an empty list.
 pub fn give_last(runners: &mut Vec<(u8, Runner)>, other: &mut Vec<(u8, Runner)>)
     requires some { 0 < vec_len runners.old }
     requires empty { other.old.items ≡ [] }

@@ -1,10 +1,11 @@
-// What a thread runs processes with.
+// The part of an arena with which a thread runs processes.
 use crate::runner::Runner;
 use art_shared::{Place, Setup};
 
-/// Some processes of an [`Arena`](crate::Arena), for one thread at a time: each with its number, its open call and its events
-/// with their stamps, by rising number. There is room for all processes of the arena, so that a join takes no memory. Where a
-/// group is dropped, its arena can't be closed.
+/// Some processes of an [`Arena`](crate::Arena), for one thread at a time: each with its number,
+/// its open call and its events with their stamps, by rising number. There is room for all
+/// processes of the arena, so a join allocates no memory. If a group is dropped, its arena cannot
+/// be closed.
 #[derive(Drop)]
 pub struct Pass {
     pub(crate) place: Place,

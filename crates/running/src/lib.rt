@@ -1,10 +1,12 @@
-//! The trees on shared words: threads run the calls of their processes, and what they log is a history of the core.
+//! The trees on shared words: threads run the calls of their processes, and what they log is a
+//! history of the core.
 //!
-//! An [`Arena`] has the words of one tree. A [`Pass`] is a group of its processes, and runs the least of them:
-//! [`Arena::begin`] begins a call and [`Arena::advance`] makes steps of it. Groups go to threads of their own:
-//! [`Arena::split`] gives the greatest process of a group to a group of its own, and [`Arena::join`] takes a group in again. Each
-//! step is one atomic step on one word, but for an invocation, which is two, and none waits for another thread. Whoever has all
-//! processes can close the arena, open calls or not, and gets the history of what they did.
+//! An [`Arena`] has the words of one tree. A [`Pass`] is a group of its processes, and runs the
+//! least of them. [`Arena::begin`] begins a call, and [`Arena::advance`] makes steps of it. Groups
+//! go to threads of their own: [`Arena::split`] moves the greatest process of a group to a new
+//! group, and [`Arena::join`] puts two groups together. Each step is one atomic step on one word,
+//! except an invocation, which is two. None waits for another thread. Whoever has all processes can
+//! close the arena, with or without open calls, and gets the history of what they did.
 #![tactic(auto)]
 
 mod arena;

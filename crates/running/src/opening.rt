@@ -14,7 +14,8 @@ use events::{MAX_CALLS, Memory, PROCESSES};
 use std::alloc::Global;
 
 impl Arena {
-    /// An empty tree for so many processes, each with so many calls, and a group that holds them all. `Err` is want of memory.
+    /// Opens an empty tree for this many processes, each with this many calls, and a group that has
+    /// them all. It returns `Err` if memory runs out.
     pub fn open(
         alloc: Global,
         shape: Shape,
@@ -46,7 +47,7 @@ impl Arena {
     }
 }
 
-/// All processes, before the first step.
+/// Returns all processes, before the first step.
 fn idle_runners(alloc: Global, setup: Setup) -> Result<Vec<(u8, Runner)>, Memory>
     ensures fit { IfOk result (λ runners. Fit setup (all_idle setup).processes runners.items) }
     ensures long { IfOk result (λ runners. vec_len runners ≡ setup.processes) }

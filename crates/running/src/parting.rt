@@ -1,4 +1,4 @@
-// Processes go to groups of their own, and come back.
+// Processes move to groups of their own, and back.
 ghost use Rattle.std.specs.Prelude.{◌≡◌, ◌+◌, ◌≤◌, length, IfOk, OnOk, OnErr};
 ghost use Rattle.art_shared.specs.Views.{without_last, last_alone, merged};
 ghost use Rattle.running.specs.Groups.{shows, IsGroupOf};
@@ -10,8 +10,9 @@ use events::Memory;
 use std::alloc::Global;
 
 impl Arena {
-    /// Gives the group's greatest process to a group of its own, with the room that later joins need. It is one load, and no
-    /// step of a process. `Err` is want of memory, and then nothing has changed.
+    /// Moves the group's greatest process to a new group, with the room that later joins need. It
+    /// is one load, and no step of a process. It returns `Err` if memory runs out, and then nothing
+    /// has changed.
     pub fn split(&self, alloc: Global, group: &mut Pass) -> Result<Pass, Memory>
         requires own { IsGroupOf self.now group.old }
         requires several { 2 ≤ length (shows group.old).processes }
@@ -32,7 +33,8 @@ impl Arena {
         })
     }
 
-    /// Takes in the processes of another group, by their numbers. It is one load, and no step of a process.
+    /// Moves the processes of another group into this one, by their numbers. It is one load, and no
+    /// step of a process.
     pub fn join(&self, group: &mut Pass, other: Pass)
         requires own { IsGroupOf self.now group.old }
         requires other { IsGroupOf self.now other }
@@ -46,7 +48,8 @@ impl Arena {
         } = other;
         self.core.join(&mut group.place, place);
         if group.runners.len() + runners.len() > usize::from(group.setup.processes) {
-            // It never is so, since each process is in one group; a look at the words would tell it.
+            // This never happens, since each process is in only one group; a look at the words
+            // would show it.
             self.core.look(&mut group.place);
             unreachable!()
         }

@@ -5,7 +5,8 @@ ghost use Rattle.art.specs.Doings.{is_late};
 use art::Doing;
 use events::Event;
 
-/// A process: how many calls it may still begin, what it is doing, and its events with their stamps.
+/// A process: how many calls it may still begin, what it is doing, and its events with their
+/// stamps.
 #[derive(Drop)]
 pub struct Runner {
     pub left: u32,

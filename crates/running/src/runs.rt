@@ -1,4 +1,4 @@
-// What a group tells of its least process.
+// What a group shows of its least process.
 ghost use Rattle.std.specs.Prelude.{◌≡◌, not};
 ghost use Rattle.art_shared.specs.Views.{is_idle, calls_left};
 ghost use Rattle.running.specs.Steps.{is_open, least_process};
@@ -8,7 +8,7 @@ use crate::group::Pass;
 use art::Doing;
 
 impl Pass {
-    /// The number of the least process, which begins calls and makes their steps.
+    /// Returns the number of the least process, which begins calls and makes their steps.
     pub fn process(&self) -> u8
         requires group { IsGroup self.now }
         ensures { result ≡ least_process (shows self.now) }
@@ -16,7 +16,7 @@ impl Pass {
         self.runners[0].0
     }
 
-    /// Whether the least process has no open call.
+    /// Returns whether the least process has no open call.
     pub fn is_idle(&self) -> bool
         requires group { IsGroup self.now }
         ensures idle { result ≡ is_idle (shows self.now) }
@@ -25,7 +25,7 @@ impl Pass {
         matches!(self.runners[0].1.doing, Doing::Idle)
     }
 
-    /// How many calls the least process may still begin.
+    /// Returns how many calls the least process may still begin.
     pub fn left(&self) -> u32
         requires group { IsGroup self.now }
         ensures { result ≡ calls_left (shows self.now) }

@@ -64,7 +64,7 @@ impl Runner {
         Ok(())
     }
 
-    /// At most so many steps of the open call.
+    /// Makes at most this many steps of the open call.
     pub fn advance(
         &mut self,
         alloc: Global,
@@ -95,7 +95,8 @@ impl Runner {
         Ok(Progress::Going)
     }
 
-    /// One step of the open call: an access, or the stamp of its response. Where memory is wanting nothing has changed.
+    /// Makes one step of the open call: an access, or the stamp of its response. If memory runs
+    /// out, nothing has changed.
     #[inline(always)]
     fn step(
         &mut self,
@@ -136,7 +137,7 @@ impl Runner {
         }
     }
 
-    /// Answers the call: the stamp of its response. Room for the event is taken before.
+    /// Answers the call: draws the stamp of its response. Memory for the event is allocated before.
     fn respond(&mut self, core: &SharedCore, place: &mut Place, number: u8) -> Result<(), Memory>
         requires own { IsPlaceOf core.now place.old }
         requires first { IsFirst (shown place.old) number self.old }

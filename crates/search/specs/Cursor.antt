@@ -1,4 +1,5 @@
--- Where a search stands: after the calls taken, before the next one to try. Wing and Gong 1993; the memo is Lowe's of 2017.
+-- The cursor of a search: after the calls taken, before the next one to try. Wing and Gong 1993;
+-- the memo is Lowe's of 2017.
 use Rattle.std.specs.Prelude.{◌≡◌, ◌↔◌, ℕ, ◌<◌, false, List, [], ◌∷◌, ◌++◌, Contains}
 use Rattle.events.specs.declared.operation.Operation.{Operation}
 use Rattle.map_object.specs.MapObject.{Contents}
@@ -16,15 +17,16 @@ ComesBefore xs ys = is_at_or_before ys xs ≡ false
 abbrev pub cursor : List ℕ → ℕ → List ℕ
 cursor path next = path ++ next ∷ []
 
--- a configuration behind the cursor: a front that comes before the cursor leads there
+-- a configuration that the cursor has passed: a front that comes before the cursor leads there
 pub record IsBehind (start : Contents) (calls : List Operation) (path : List ℕ) (next : ℕ) (configuration : Configuration) : Type 0 where
   pub front : List ℕ
   pub is_front : IsFront start calls front
   pub leads : LeadsTo start calls front configuration
   pub before : ComesBefore front (cursor path next)
 
--- a search stands at the cursor: the calls taken are a front; visited are, each once, the configurations behind the cursor;
--- and no order comes before the cursor, but that the calls taken may be one after which no call that is left was passed
+-- a search is at the cursor. The calls taken are a front. The configurations that the cursor has
+-- passed were visited, each once. No order comes before the cursor, except perhaps the calls taken,
+-- if no call that is left was passed after them
 pub record StandsAtCursor (start : Contents) (calls : List Operation) (path : List ℕ) (next : ℕ)
     (visited : List Configuration) : Type 0 where
   pub is_front : IsFront start calls path

@@ -17,14 +17,15 @@ use Rattle.search.specs.declared.found.Found.TheVariants.{Order, NoOrder, Spent}
 abbrev pub IsLeastOrderOf : SegmentView → List ℕ → Type 0
 IsLeastOrderOf segment order = (places : List ℕ) × (order ≡ numbers_at segment places) × IsLeastOrder segment.start segment.calls places
 
--- at most so many configurations of the segment count, and more than so many
+-- at most this many configurations of the segment count
 abbrev pub CountIsWithinOf : SegmentView → ℕ → Type 0
 CountIsWithinOf segment budget = CountIsWithin segment.start segment.calls budget
 
 abbrev pub CountIsAboveOf : SegmentView → ℕ → Type 0
 CountIsAboveOf segment budget = CountIsAbove segment.start segment.calls budget
 
--- the exact answer: the least order, or that there is no order, where the count is within the budget, and else that it is spent
+-- the exact answer: the least order, or that there is no order, if the count is within the budget;
+-- otherwise that the budget is spent
 abbrev pub IsExactAnswer : ℕ → SegmentView → Found → Type 0
 IsExactAnswer budget segment (Order order) = IsLeastOrderOf segment order.items × CountIsWithinOf segment budget
 IsExactAnswer budget segment NoOrder = HasNoOrder segment × CountIsWithinOf segment budget
@@ -43,24 +44,24 @@ OneExactAnswer =
     (budget : ℕ) (segment : SegmentView) (a b : Found) → IsExactAnswer budget segment a → IsExactAnswer budget segment b
     → AreSameAnswer a b
 
--- some calls, none of which precedes itself, have a least order, or no order
+-- calls of which none precedes itself have a least order or no order
 abbrev pub LeastOrderOrNone : Type 0
 LeastOrderOrNone =
     (start : Contents) (calls : List Operation) → NonePrecedesItself calls
     → ((order : List ℕ) × IsLeastOrder start calls order) ⊎ (IsLinearizable start calls → ⊥)
 
--- and they have a count
+-- calls of which none precedes itself have a count
 abbrev pub EachHasCount : Type 0
 EachHasCount = (start : Contents) (calls : List Operation) → NonePrecedesItself calls → (n : ℕ) × HasCount start calls n
 
--- the least front that holds all completed calls
+-- the least front that contains all completed calls
 pub record IsLeastWholeFront (start : Contents) (calls : List Operation) (order : List ℕ) : Type 0 where
   pub is_front : IsFront start calls order
   pub complete : (n : ℕ) → IsCompletedAt calls n → Contains order n
   pub least : (other : List ℕ) → IsFront start calls other → ((n : ℕ) → IsCompletedAt calls n → Contains other n)
       → is_at_or_before order other ≡ true
 
--- the least order is the least front that holds all completed calls
+-- the least order is the least front that contains all completed calls
 abbrev pub LeastOrderIsByFronts : Type 0
 LeastOrderIsByFronts =
     (start : Contents) (calls : List Operation) (order : List ℕ) → NonePrecedesItself calls

@@ -8,7 +8,8 @@ use Rattle.configurations.specs.Configurations.{Configuration, LeadsTo}
 use Rattle.search.specs.LeastOrder.{is_at_or_before}
 use Rattle.configurations.specs.Counts.{AreDistinct}
 
--- a configuration that counts: a front at or before the least order leads there, or any front where there is no order
+-- a configuration that counts: a front at or before the least order leads there; if there is no
+-- order, any front
 pub record IsCounted (start : Contents) (calls : List Operation) (configuration : Configuration) : Type 0 where
   pub front : List ℕ
   pub is_front : IsFront start calls front
@@ -26,7 +27,7 @@ pub record HasCount (start : Contents) (calls : List Operation) (n : ℕ) : Type
 abbrev pub CountIsWithin : Contents → List Operation → ℕ → Type 0
 CountIsWithin start calls n = (count : ℕ) × HasCount start calls count × (count ≤ n)
 
--- more than n configurations count: so many are listed
+-- more than n configurations count: n + 1 of them are listed
 pub record CountIsAbove (start : Contents) (calls : List Operation) (n : ℕ) : Type 0 where
   pub counted : List Configuration
   pub distinct : AreDistinct counted

@@ -4,7 +4,8 @@ use Rattle.events.specs.declared.operation.Operation.{Operation}
 use Rattle.map_object.specs.MapObject.{Contents}
 use Rattle.orders.specs.Orders.{IsOrder}
 
--- whether a list is at or before another: by their first differing number, and a list that begins another comes first
+-- whether a list is at or before another: by their first differing number, and a list that begins
+-- another comes first
 abbrev pub is_at_or_before : List ℕ → List ℕ → Bool
 is_at_or_before [] ys = true
 is_at_or_before (x ∷ xs) [] = false

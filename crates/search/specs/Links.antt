@@ -17,7 +17,7 @@ pub record AreWithin (links : LinksView) : Type 0 where
 abbrev pub no_links : ℕ → LinksView
 no_links size = record { after = replicate (size + 1) size; before = replicate (size + 1) size }
 
--- a node was put behind all others
+-- a node was added after all others
 abbrev pub linked_last : LinksView → ℕ → ℕ → LinksView
 linked_last links size node =
     let last = slice_index links.before size in
@@ -50,7 +50,8 @@ IsChain links from (n ∷ nodes) size = (slice_index links.after from ≡ n) × 
 abbrev pub without : List ℕ → List ℕ → List ℕ
 without order out = filter (λ n. not (has_number out n)) order
 
--- the links of an order from which nodes were taken out, the latest first: putting them back one by one gives each earlier list again
+-- the links of an order from which nodes were taken out, the latest first; if they are put back one
+-- by one, each earlier list comes back
 abbrev pub AreLeft : ℕ → List ℕ → List ℕ → LinksView → Type 0
 AreLeft size order [] links = IsChain links size order size
 AreLeft size order (n ∷ out) links = IsChain links size (without order (n ∷ out)) size × AreLeft size order out (put_back links n)

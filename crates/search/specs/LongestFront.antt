@@ -15,7 +15,8 @@ use Rattle.search.specs.LeastOrder.{is_at_or_before}
 abbrev pub IsFrontOf : SegmentView → List ℕ → Type 0
 IsFrontOf segment front = (places : List ℕ) × (front ≡ numbers_at segment places) × IsFront segment.start segment.calls places
 
--- a configuration that was met in its turn: whatever a front leads to that is at or before one that leads there was met too
+-- a configuration that was met in its turn, by a front: each front at or before that one leads to a
+-- configuration that was met too
 pub record IsMetInTurn (start : Contents) (calls : List Operation) (met : List Configuration) (configuration : Configuration) : Type 0 where
   pub front : List ℕ
   pub is_front : IsFront start calls front
@@ -24,7 +25,8 @@ pub record IsMetInTurn (start : Contents) (calls : List Operation) (met : List C
       → LeadsTo start calls other c
       → Contains met c
 
--- what a search has met at its end: configurations that count, each once and in its turn, and all of them or one more than the budget
+-- what a search has met at its end: configurations that count, each once and in its turn. They are
+-- all that count, or one more than the budget
 pub record HasMetEnough (start : Contents) (calls : List Operation) (budget : ℕ) (met : List Configuration) : Type 0 where
   pub distinct : AreDistinct met
   pub each : All (IsCounted start calls) met
@@ -37,8 +39,8 @@ abbrev pub IsMostTaken : SegmentView → ℕ → ℕ → Type 0
 IsMostTaken segment budget most =
     (met : List Configuration) × HasMetEnough segment.start segment.calls budget met × All (λ c. length c.taken ≤ most) met
 
--- the longest front that a search meets: it leads to a configuration that was met, none has more calls taken, and of the fronts as long it
--- is the least
+-- the longest front that a search meets. It leads to a configuration that was met, and none that
+-- was met has more calls taken. It is the least of all fronts of its length
 pub record IsLongestFront (budget : ℕ) (segment : SegmentView) (front : List ℕ) : Type 0 where
   pub places : List ℕ
   pub is : front ≡ numbers_at segment places

@@ -11,7 +11,7 @@ pub record RemainsBefore (calls : List Operation) (taken : List ℕ) (place : �
   pub new : Contains taken n → ⊥
   pub before : is_before call.response place ≡ true
 
--- the place of the earliest response of a call that is not taken, or none where no completed call remains
+-- the place of the earliest response of a call that is not taken; none if no completed call remains
 abbrev pub IsEarliestAnswer : List Operation → List ℕ → Option ℕ → Type 0
 IsEarliestAnswer calls taken None = (place : ℕ) → RemainsBefore calls taken place → ⊥
 IsEarliestAnswer calls taken (Some answered) = (place : ℕ) → (answered < place) ↔ RemainsBefore calls taken place

@@ -1,4 +1,4 @@
--- Where a walk stands: what its stack, its map, its memo and its links say of the calls taken.
+-- The state of a walk: what its stack, its map, its memo and its links say of the calls taken.
 use Rattle.std.specs.Prelude.{◌≡◌, ◌≢◌, ◌⊎◌, ℕ, ◌+◌, ◌-◌, ◌<◌, ◌≤◌, true, IsSomeAnd, List, [], ◌∷◌, ◌++◌, length, map, take, reverse}
 use Rattle.std.specs.Prelude.{Option, Some, slice_get}
 use Rattle.std.specs.Prelude.{slice_index, All, AllPairs, Contains}
@@ -36,7 +36,7 @@ abbrev pub first_pairs : List Configuration → Contents
 first_pairs [] = []
 first_pairs (c ∷ visited) = c.pairs
 
--- a level of the stack: where the walk stood before its call, and what undoes the call
+-- a level of the stack: the configuration before its call, and what undoes the call
 pub record Remembers (start : Contents) (calls : List Operation) (visited : List Configuration) (path : List ℕ)
     (level : Level) : Type 0 where
   pub at : IsConfigurationAt start calls visited path level.at
@@ -50,14 +50,15 @@ IsAnsweredBefore calls n place = IsSomeAnd (slice_get calls n) (λ a. is_before 
 abbrev pub IsNoLater : List Operation → ℕ → ℕ → Type 0
 IsNoLater calls m n = (place : ℕ) → IsAnsweredBefore calls n place → IsAnsweredBefore calls m place
 
--- the first calls, as many as this, each answered no later than those behind it
+-- the first calls, this many, each answered no later than those after it
 pub record IsByAnswer (calls : List Operation) (count : ℕ) (order : List ℕ) : Type 0 where
   pub below : All (λ n. n < count) order
   pub distinct : AllPairs (λ m n. m ≢ n) order
   pub all : (n : ℕ) → n < count → Contains order n
   pub sorted : AllPairs (IsNoLater calls) order
 
--- the links of the calls left, in the order of their invocations and in that of their answers; the calls taken are given latest first
+-- the links of the calls left, in the order of their invocations and in the order of their answers;
+-- the calls taken are listed from the latest one
 pub record AreLinksOf (calls : List Operation) (out : List ℕ) (by_number by_answer : LinksView) : Type 0 where
   pub number_size : length by_number.after ≡ length calls + 1
   pub answer_size : length by_answer.after ≡ length calls + 1
@@ -66,7 +67,7 @@ pub record AreLinksOf (calls : List Operation) (out : List ℕ) (by_number by_an
   pub sorted : IsByAnswer calls (length calls) order
   pub answers_left : AreLeft (length calls) order out by_answer
 
--- a walk stands here
+-- a walk is in this state
 pub record StandsWith (start : Contents) (calls : List Operation) (levels : List Level) (next at : ℕ) (pairs : Contents)
     (visited : List Configuration) (by_number by_answer : LinksView) : Type 0 where
   pub cursor : StandsAtCursor start calls (places levels) next visited
@@ -86,14 +87,15 @@ abbrev pub untried : ℕ → List Level → ℕ → ℕ
 untried size [] next = size - next
 untried size (level ∷ levels) next = (size - level.place) + untried size levels next
 
--- the next call may be tried: there is one, all calls that precede it are taken, and a completed call is left
+-- the next call may be tried: there is one, all calls that precede it are taken, and a completed
+-- call is left
 pub record MayTry (start : Contents) (calls : List Operation) (path : List ℕ) (next : ℕ) : Type 0 where
   pub known : next < length calls
   pub preceded : (m : ℕ) → PrecedesAt calls m next → Contains path m
   pub not_order : IsOrder start calls path → ⊥
 
--- a walk has moved: it took the next call and visited one configuration more, to which the calls taken now lead, or none and has fewer
--- calls to try
+-- a walk has moved. It took the next call and visited one more configuration, to which the calls
+-- taken now lead. Or it visited none, and has fewer calls to try
 pub record HasMoved (start : Contents) (calls : List Operation) (old new : Standing) : Type 0 where
   pub stands : Stands start calls new
   pub progress :
@@ -102,12 +104,13 @@ pub record HasMoved (start : Contents) (calls : List Operation) (old new : Stand
       × (untried (length calls) new.levels.items new.next ≤ untried (length calls) old.levels.items old.next + length calls)
       × (places new.levels.items ≡ cursor (places old.levels.items) old.next))
 
--- all is tried: there is no order, and what was visited is what counts
+-- every call was tried: there is no order, and the configurations that were visited are those that
+-- count
 pub record IsExhausted (start : Contents) (calls : List Operation) (visited : List Configuration) : Type 0 where
   pub none : IsLinearizable start calls → ⊥
   pub count : HasCount start calls (length visited)
 
--- what a step came to
+-- what a step did
 abbrev pub IsProgress : Contents → List Operation → Standing → Standing → Progress → Type 0
 IsProgress start calls old new Made = HasMoved start calls old new
 IsProgress start calls old new Order = (new ≡ old) × IsOrder start calls (places old.levels.items)

@@ -9,7 +9,7 @@ abbrev pub undone : Contents → Option Call → Contents
 undone m None = m
 undone m (Some call) = after m call
 
--- the call that puts a key back to the value that it had, or to none
+-- the call that gives a key its old value back, or none
 abbrev pub restoring : ℕ → Option ℕ → Call
 restoring key None = Remove key
 restoring key (Some value) = Insert key value

@@ -1,8 +1,9 @@
-//! Searches a segment for its least order: Wing and Gong 1993, who take calls that may come next and go back
-//! where none may, with the memo of Lowe 2017.
+//! Searches a segment for its least order. Wing and Gong (1993) take calls that may come next, and
+//! go back if none may; the memo is Lowe's (2017).
 //!
-//! A search keeps a stack of its own and one map, on which a call is undone on the way back. What it answers
-//! is exact: it is said of all orders and fronts of the segment, and names nothing of the way there.
+//! A search has a stack of its own and one map, on which it undoes a call when it goes back. Its
+//! answer is exact: it speaks only of all orders and fronts of the segment, and not of how they
+//! were found.
 #![tactic(auto)]
 
 mod found;

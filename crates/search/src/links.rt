@@ -6,15 +6,15 @@ use events::Memory;
 use std::alloc::Global;
 use std::marker::Model;
 
-/// Nodes below a size in a list, each with the node after it and the one before it; the size itself stands
-/// for both ends. A node that is taken out keeps its own links, so that it can be put back where it was,
-/// once all that were taken out after it are back. Contracts see the links alone.
+/// A list of nodes below a size. Each node has the node after it and the one before it; the size
+/// itself marks both ends. A node that is taken out keeps its own links. So it can be put back at
+/// its place, when all nodes that were taken out after it are back. Contracts see only the links.
 pub struct Links {
     after: Vec<u32>,
     before: Vec<u32>,
 }
 
-// Both lists are let go in one place.
+// Both lists are dropped here.
 impl Drop for Links {
     fn drop(self) {
         let Links {
@@ -35,7 +35,7 @@ impl Model for Links {
 }
 
 impl Links {
-    /// No node in the list, of nodes below `size`.
+    /// Returns an empty list, for nodes below `size`.
     pub fn new(alloc: Global, size: u32) -> Result<Links, Memory>
         requires { size + 1 < 2 ^ 32 }
         ensures { IfOk result (λ l. l ≡ no_links size) }
@@ -46,7 +46,7 @@ impl Links {
         Ok(Links { after, before })
     }
 
-    /// The node after this one, where it is in the list, or the size.
+    /// Returns the node after this one, if it is in the list, or the size at the end.
     pub fn after(&self, node: u32) -> u32
         requires { node < length self.now.after }
         ensures after { result ≡ slice_index self.now.after node }
@@ -55,7 +55,7 @@ impl Links {
         self.after[node as usize]
     }
 
-    /// Puts a node behind all that are in the list.
+    /// Adds a node after all that are in the list.
     pub fn push(&mut self, size: u32, node: u32)
         requires size { size < length self.old.after }
         requires node { node < length self.old.after }

@@ -10,10 +10,10 @@ use events::Memory;
 use segments::Segment;
 use std::alloc::Global;
 
-/// The longest front of a segment that a search of it meets, by the numbers of its calls: how far an order gets. Of the
-/// configurations that the search meets none has more calls taken, and of the fronts as long it is the least, number by
-/// number. It costs what the search costs, and a copy of the calls
-/// taken whenever more are taken than ever before.
+/// Returns the longest front of a segment that a search of it meets, by the numbers of its calls.
+/// It shows how far an order gets. No configuration that the search meets has more calls taken, and
+/// of all fronts of this length it is the least, number by number. It costs what the search costs,
+/// and a copy of the calls taken whenever more are taken than ever before.
 pub fn longest_front(alloc: Global, segment: &Segment, budget: u32) -> Result<Vec<u32>, Memory>
     requires { (1 ≤ budget) × (budget ≤ budget_limit) }
     ensures front { IfOk result (λ v. IsFrontOf segment.now v.items) }
@@ -24,7 +24,7 @@ pub fn longest_front(alloc: Global, segment: &Segment, budget: u32) -> Result<Ve
     longest_from(alloc, segment, budget, &mut standing)
 }
 
-/// The longest front of a segment that a walk of it meets, from its beginning.
+/// Returns the longest front of a segment that a new walk of it meets.
 fn longest_from(
     alloc: Global,
     segment: &Segment,

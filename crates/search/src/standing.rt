@@ -1,4 +1,4 @@
-// Where a walk stands, and its steps.
+// The state of a walk, and its steps.
 ghost use Rattle.std.specs.Prelude.{◌≡◌, ◌+◌, ◌<◌, ◌≤◌, ◌^◌, ℕ, true, false, length, take, drop, All, AllPairs, IfOk, OnOk};
 ghost use Rattle.std.specs.Prelude.{IsSomeAnd, slice_get};
 ghost use Rattle.std.specs.List.{range_with_len};
@@ -18,8 +18,8 @@ use memo::{Memo, visited_at_start};
 use orders::may_come_next;
 use std::alloc::Global;
 
-/// A call taken: by its place, with what undoes it on the map, and the configuration before it, by its place
-/// in the memo.
+/// A call taken: its place, the call that undoes it on the map, and the place in the memo of the
+/// configuration before it.
 #[derive(Drop)]
 pub struct Level {
     pub place: u32,
@@ -27,9 +27,10 @@ pub struct Level {
     pub at: usize,
 }
 
-/// Where a walk stands: the calls taken, the next one to try, or the number of calls where none is left, the
-/// configuration that it stands at, the map there, the configurations visited, and the calls left, in the
-/// order of their invocations and in that of their answers.
+/// The state of a walk: the calls taken, the next call to try, and the present configuration with
+/// its map. If no call is left, the next call is the number of calls. Also the configurations
+/// visited, and the calls left, in the order of their invocations and in the order of their
+/// answers.
 pub struct Standing {
     pub levels: Vec<Level>,
     pub next: u32,
@@ -40,7 +41,7 @@ pub struct Standing {
     pub answers: Links,
 }
 
-// All its parts are let go in one place.
+// All parts are dropped here.
 impl Drop for Standing {
     fn drop(self) {
         let Standing {
@@ -55,7 +56,7 @@ impl Drop for Standing {
     }
 }
 
-/// What a step of a walk came to.
+/// What a step of a walk did.
 #[derive(Drop)]
 pub enum Progress {
     /// A call was tried, or the walk went back by one.
@@ -66,7 +67,7 @@ pub enum Progress {
     NoOrder,
 }
 
-/// Before any call, at the map that the calls begin with.
+/// Returns the state before any call, at the map with which the calls begin.
 pub fn open_standing(alloc: Global, map: SortedMap, calls: &[Operation]) -> Result<Standing, Memory>
     requires few { length calls.now + 1 < 2 ^ 32 }
     requires apart { NonePrecedesItself calls.now }
@@ -88,7 +89,7 @@ pub fn open_standing(alloc: Global, map: SortedMap, calls: &[Operation]) -> Resu
     })
 }
 
-/// One step: the next call is tried where it may come next, and else the walk goes back.
+/// Makes one step: tries the next call if it may come next, and otherwise goes back.
 pub fn make_step(
     alloc: Global,
     calls: &[Operation],
@@ -112,7 +113,7 @@ pub fn make_step(
     go_back(alloc, calls, standing)
 }
 
-/// The earliest answer of a call left.
+/// Returns the earliest answer of a call left.
 fn earliest_answer(calls: &[Operation], standing: &Standing) -> Option<usize>
     ghost start: { Contents }
     requires few { length calls.now + 1 < 2 ^ 32 }
@@ -129,7 +130,8 @@ fn earliest_answer(calls: &[Operation], standing: &Standing) -> Option<usize>
     }
 }
 
-/// Takes the next call where its reply is legal and leads to a new configuration, and else passes it over.
+/// Takes the next call if its reply is legal and leads to a new configuration, and otherwise passes
+/// it.
 fn try_call(alloc: Global, calls: &[Operation], standing: &mut Standing) -> Result<(), Memory>
     ghost start: { Contents }
     requires few { length calls.now + 1 < 2 ^ 32 }
@@ -146,7 +148,8 @@ fn try_call(alloc: Global, calls: &[Operation], standing: &mut Standing) -> Resu
     Ok(())
 }
 
-/// Takes the next call, whose reply is legal, where it leads to a new configuration, and else passes it over.
+/// Takes the next call, whose reply is legal, if it leads to a new configuration, and otherwise
+/// passes it.
 fn take_next(alloc: Global, calls: &[Operation], standing: &mut Standing) -> Result<(), Memory>
     ghost start: { Contents }
     requires few { length calls.now + 1 < 2 ^ 32 }
@@ -170,7 +173,7 @@ fn take_next(alloc: Global, calls: &[Operation], standing: &mut Standing) -> Res
     Ok(())
 }
 
-/// One call further, at the configuration that was visited last.
+/// Pushes a call on the stack, at the configuration that was visited last.
 fn push(size: u32, standing: &mut Standing, place: u32, undo: Option<Call>) -> Result<(), Memory>
     requires size { size < length standing.old.calls.after }
     requires place { place < length standing.old.calls.after }
@@ -187,7 +190,7 @@ fn push(size: u32, standing: &mut Standing, place: u32, undo: Option<Call>) -> R
     Ok(())
 }
 
-/// Back by one call.
+/// Goes back by one call.
 fn go_back(alloc: Global, calls: &[Operation], standing: &mut Standing) -> Result<Progress, Memory>
     ghost start: { Contents }
     requires apart { NonePrecedesItself calls.now }
@@ -207,7 +210,7 @@ fn go_back(alloc: Global, calls: &[Operation], standing: &mut Standing) -> Resul
     Ok(Progress::Made)
 }
 
-/// All places below the size, linked by number.
+/// Returns all places below the size, linked by number.
 fn all_linked(alloc: Global, size: u32) -> Result<Links, Memory>
     requires { size + 1 < 2 ^ 32 }
     ensures size { IfOk result (λ l. length l.after ≡ size + 1) }
@@ -220,7 +223,7 @@ fn all_linked(alloc: Global, size: u32) -> Result<Links, Memory>
     Ok(links)
 }
 
-/// The places of all calls, linked by their answers.
+/// Returns the places of all calls, linked by their answers.
 fn linked_by_answer(alloc: Global, calls: &[Operation]) -> Result<Links, Memory>
     requires { length calls.now + 1 < 2 ^ 32 }
     ensures size { IfOk result (λ l. length l.after ≡ length calls.now + 1) }
@@ -235,8 +238,9 @@ fn linked_by_answer(alloc: Global, calls: &[Operation]) -> Result<Links, Memory>
     Ok(links)
 }
 
-/// The places of all calls by their answers, those without one last. Each is put behind all that were
-/// answered before it, from the back on: at most one call of each process is passed.
+/// Returns the places of all calls in the order of their answers, then those of the pending calls.
+/// Each is inserted after all calls that were answered before it. The place is searched from the
+/// end, which passes at most one call of each process.
 fn order_of_answers(alloc: Global, calls: &[Operation]) -> Result<Vec<u32>, Memory>
     requires { length calls.now + 1 < 2 ^ 32 }
     ensures { IfOk result (λ v. IsByAnswer calls.now (length calls.now) v.items) }
@@ -249,7 +253,7 @@ fn order_of_answers(alloc: Global, calls: &[Operation]) -> Result<Vec<u32>, Memo
     Ok(order)
 }
 
-/// Where a call goes among others that stand by their answers.
+/// Returns the place at which a call is inserted among others that are sorted by their answers.
 fn place_by_answer(calls: &[Operation], order: &[u32], place: usize) -> usize
     requires known { place < length calls.now }
     requires sorted { IsByAnswer calls.now place order.now }
@@ -264,7 +268,7 @@ fn place_by_answer(calls: &[Operation], order: &[u32], place: usize) -> usize
     at
 }
 
-/// Whether a call is answered later than another.
+/// Returns whether a call is answered later than another.
 fn is_later(a: &Operation, b: &Operation) -> bool
     ensures later { result ≡ true → (place : ℕ) → is_before a.now.response place ≡ true → is_before b.now.response place ≡ true }
     ensures no_later { result ≡ false → (place : ℕ) → is_before b.now.response place ≡ true → is_before a.now.response place ≡ true }

@@ -8,7 +8,8 @@ use events::{Call, Memory, Operation, Reply, Response};
 use map_object::SortedMap;
 use std::alloc::Global;
 
-/// Does a call that may come next, and says which call undoes it: none where it changes nothing.
+/// Does a call that may come next, and returns the call that undoes it, or none if it changes
+/// nothing.
 pub fn take_call(
     alloc: Global,
     map: &mut SortedMap,
@@ -45,7 +46,7 @@ fn do_call(alloc: Global, map: &mut SortedMap, call: &Call) -> Result<Option<Cal
     Ok(Some(undo))
 }
 
-/// The call that puts a key back to the value that it had, or to none.
+/// Returns the call that gives a key its old value back, or none.
 fn restoring_call(key: u64, value: Option<u64>) -> Call
     ensures { result ≡ restoring key value }
 {

@@ -1,4 +1,4 @@
-// A search turn by turn.
+// A search, one turn at a time.
 ghost use Rattle.std.specs.Prelude.{◌≡◌, ◌<◌, ◌≤◌, length, map, slice_index, All, IfOk};
 ghost use Rattle.std.specs.Result.{result_map_both};
 ghost use Rattle.search.specs.Exact.{IsExactAnswer};
@@ -16,8 +16,8 @@ use segments::Segment;
 use std::alloc::Global;
 use std::marker::Model;
 
-/// A search of a segment that goes on turn by turn. Contracts see the segment, the budget, the number of
-/// configurations counted and a number that falls at each turn.
+/// A search of a segment that goes on one turn at a time. Contracts see the segment, the budget,
+/// the number of configurations counted, and a number that falls at each turn.
 #[derive(Drop)]
 pub struct Walk {
     segment: Segment,
@@ -36,7 +36,7 @@ impl Model for Walk {
     ghost invariant = { λ w. Stands w.segment.start w.segment.calls w.standing };
 }
 
-/// What a turn came to.
+/// What a turn did.
 #[derive(Drop)]
 pub enum Turn {
     /// The search goes on.
@@ -46,7 +46,7 @@ pub enum Turn {
 }
 
 impl Walk {
-    /// Before the first call of a segment, which is copied.
+    /// Returns a walk before the first call of a segment, which is copied.
     pub fn open(alloc: Global, segment: &Segment, budget: u32) -> Result<Walk, Memory>
         requires { (1 ≤ budget) × (budget ≤ budget_limit) }
         ensures segment { IfOk result (λ w. w.segment ≡ segment.now) }
@@ -62,15 +62,16 @@ impl Walk {
         })
     }
 
-    /// How many configurations were counted: 1 at the opening.
+    /// Returns how many configurations were counted: 1 at the opening.
     pub fn len(&self) -> usize
         ensures { result ≡ self.now.len }
     {
         self.standing.memo.len()
     }
 
-    /// One turn: a call is tried, or the search goes back by one call, or it is over. A turn costs what it
-    /// tries, and not the length of the segment. On `Memory` the walk is lost.
+    /// Makes one turn: it tries a call, goes back by one call, or ends the search. A turn costs
+    /// what it tries, and does not depend on the length of the segment. On `Memory` the walk is
+    /// lost.
     pub fn turn(self, alloc: Global) -> Result<Turn, Memory>
         ensures { IfOk result (IsTurn self) }
     {
@@ -90,14 +91,14 @@ impl Walk {
     }
 }
 
-/// The search is over, with what it found.
+/// Ends the search with what it found.
 fn end_with(found: Result<Found, Memory>) -> Result<Turn, Memory>
     ensures { result ≡ result_map_both Done (λ memory. memory) found }
 {
     Ok(Turn::Done(found?))
 }
 
-/// Before any call of a segment, at its starting pairs.
+/// Returns the state before any call of a segment, at its starting pairs.
 pub(crate) fn begin(alloc: Global, segment: &Segment) -> Result<Standing, Memory>
     ensures stands { IfOk result (Stands segment.now.start segment.now.calls) }
     ensures one { IfOk result (λ s. length s.memo ≡ 1) }
@@ -106,7 +107,7 @@ pub(crate) fn begin(alloc: Global, segment: &Segment) -> Result<Standing, Memory
     open_standing(alloc, map, segment.calls())
 }
 
-/// One turn where a walk of a segment stands, and what is found where the search is over.
+/// Makes one turn of a walk of a segment, and returns what it found if the search is over.
 pub(crate) fn make_turn(
     alloc: Global,
     segment: &Segment,
@@ -129,7 +130,7 @@ pub(crate) fn make_turn(
     }
 }
 
-/// The numbers of the calls taken.
+/// Returns the numbers of the calls taken.
 pub(crate) fn order_of(
     alloc: Global,
     numbers: &[u32],
@@ -145,11 +146,11 @@ pub(crate) fn order_of(
     Ok(order)
 }
 
-/// Searches a segment: the least order where there is one and the count is at most the budget, `NoOrder`
-/// where there is none and the count is at most the budget, and `Spent` where the count is greater.
-/// `Memory` where a growth was refused. It takes calls by rising number, and goes on from each configuration
-/// once. What a call tried leads to is looked up among the configurations met. Nothing recurses: the calls taken
-/// stand on a stack of its own.
+/// Searches a segment. It returns the least order if there is one, and `NoOrder` if there is none,
+/// if the count is at most the budget. It returns `Spent` if the count is greater, and `Memory` if
+/// an allocation was refused. It takes calls by rising number, and goes on from each configuration
+/// once. The configuration that a call leads to is looked up among those that were met. Nothing
+/// recurses: the calls taken are on a stack of the search's own.
 pub fn search(alloc: Global, segment: &Segment, budget: u32) -> Result<Found, Memory>
     requires { (1 ≤ budget) × (budget ≤ budget_limit) }
     ensures exact { IfOk result (IsExactAnswer budget segment.now) }
@@ -159,7 +160,7 @@ pub fn search(alloc: Global, segment: &Segment, budget: u32) -> Result<Found, Me
     search_on(alloc, segment, budget, &mut standing)
 }
 
-/// Searches a segment on from where a walk of it stands.
+/// Searches a segment, from the present state of a walk on.
 fn search_on(
     alloc: Global,
     segment: &Segment,

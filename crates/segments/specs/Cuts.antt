@@ -9,12 +9,12 @@ use Rattle.events.specs.Keys.{low_key, high_key}
 abbrev pub spans : ℕ → Operation → Bool
 spans c a = is_completed a && (nat_lt (low_key a.call) c && nat_le c (high_key a.call))
 
--- a cut: no completed scan goes over it
+-- a cut: no completed scan spans it
 pub record IsCut (calls : List Operation) (c : ℕ) : Type 0 where
   pub positive : 1 ≤ c
   pub clear : All (λ a. spans c a ≡ false) calls
 
--- some key of the one call is below c, and some key of the other is not
+-- some key of one call is below c, and some key of the other is not
 abbrev pub Separates : ℕ → Call → Call → Type 0
 Separates c a b = ((low_key a < c) × (c ≤ high_key b)) ⊎ ((low_key b < c) × (c ≤ high_key a))
 

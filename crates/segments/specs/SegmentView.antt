@@ -1,4 +1,4 @@
--- What a contract sees of a segment, and what holds of each.
+-- What a contract sees of a segment, and what is true of each.
 use Rattle.std.specs.Prelude.{◌≡◌, ◌≢◌, ℕ, ◌<◌, ◌≤◌, List, [], length, map, All, AllPairs}
 use Rattle.std.specs.List.Sorted.{IsStrictlyIncreasing}
 use Rattle.events.specs.declared.event.Call.{Call}
@@ -11,8 +11,8 @@ use Rattle.events.specs.Precedence.{NonePrecedesItself}
 use Rattle.events.specs.Keys.{low_key, high_key}
 use Rattle.orders.specs.Orders.{calls_at}
 
--- some calls by number, with the least and the greatest key that they name, and the pairs from the one to the other that the map holds at
--- the start
+-- some calls by number, with the least and the greatest key that they name; and the pairs of the
+-- map at the start, from that least key to that greatest key
 pub record SegmentView : Type 0 where
   pub numbers : List ℕ
   pub calls : List Operation
@@ -20,7 +20,7 @@ pub record SegmentView : Type 0 where
   pub hi : ℕ
   pub start : Contents
 
--- the calls that have these numbers, where the map holds these pairs at the start
+-- the calls with these numbers, if the map holds these pairs at the start
 abbrev pub segment_of : Contents → List Operation → List ℕ → SegmentView
 segment_of start calls numbers =
     let taken = calls_at calls numbers in
@@ -34,7 +34,7 @@ pub record NamesKeysWithin (low high : ℕ) (call : Call) : Type 0 where
   pub in_order : low_key call ≤ high_key call
   pub high_within : high_key call ≤ high
 
--- what holds of every segment
+-- what is true of every segment
 pub record IsSegmentView (segment : SegmentView) : Type 0 where
   pub not_empty : segment.numbers ≢ []
   pub rising : IsStrictlyIncreasing segment.numbers

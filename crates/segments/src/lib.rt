@@ -1,4 +1,4 @@
-//! Segments: some calls of a history, which are judged by themselves, and the cuts between them.
+//! Segments: some calls of a history, which are judged separately, and the cuts between them.
 #![tactic(auto)]
 
 mod segment;

@@ -1,4 +1,4 @@
-// Segments: some calls of a history, which an order is searched for by themselves.
+// Segments: some calls of a history, for which an order is searched separately.
 ghost use Rattle.std.specs.Prelude.{◌≡◌, ◌≢◌, ◌↔◌, ℕ, ◌<◌, ◌^◌, ◌++◌, ◌∷◌, [], length, map, All, Contains, IfOk, OnOk, MatchOption};
 ghost use Rattle.std.specs.List.Sorted.{IsStrictlyIncreasing};
 ghost use Rattle.list_laws.specs.Lists.{least, greatest};
@@ -14,8 +14,9 @@ use events::{History, Memory, Operation};
 use std::alloc::Global;
 use std::marker::Model;
 
-/// Some calls of a history by rising number, at least one, with the least and the greatest key that they
-/// name, and the pairs of the history's start from the one to the other. Contracts see these five.
+/// At least one call of a history. A segment has its calls by rising number, and the least and the
+/// greatest key that they name. It also has the pairs of the history's start from that least key to
+/// that greatest key. Contracts see these parts.
 pub struct Segment {
     numbers: Vec<u32>,
     calls: Vec<Operation>,
@@ -47,8 +48,8 @@ impl Model for Segment {
 }
 
 impl Segment {
-    /// The calls with these numbers. They are copied, with the pairs of their replies, and so are the starting
-    /// pairs from the least key that they name to the greatest.
+    /// Makes a segment of the calls with these numbers. It copies the calls, the pairs of their
+    /// replies, and the starting pairs from the least key that they name to the greatest.
     pub fn of(alloc: Global, history: &History, numbers: &[u32]) -> Result<Segment, Memory>
         requires not_empty { numbers.now ≢ [] }
         requires rising { IsStrictlyIncreasing numbers.now }
@@ -69,8 +70,8 @@ impl Segment {
         })
     }
 
-    /// All calls of the history but pending gets and pending scans, or `None` where there are none. They
-    /// are copied, with the pairs of their replies.
+    /// Makes a segment of all calls of the history except pending gets and pending scans, or `None`
+    /// if there are no others. It copies the calls and the pairs of their replies.
     pub fn whole(alloc: Global, history: &History) -> Result<Option<Segment>, Memory>
         ensures { IfOk result (λ o. MatchOption o (NoneBelongs (operations history.now.events))
             (IsWholeSegment history.now.start (operations history.now.events))) }
@@ -82,7 +83,7 @@ impl Segment {
         Ok(Some(Segment::of(alloc, history, &numbers)?))
     }
 
-    /// The numbers of the calls in the history, rising.
+    /// Returns the numbers of the calls in the history, rising.
     pub fn numbers(&self) -> &[u32]
         ensures numbers { result.now ≡ self.now.numbers }
         ensures segment { IsSegmentView self.now }
@@ -90,8 +91,8 @@ impl Segment {
         &self.numbers
     }
 
-    /// The calls, in the order of their numbers. A call's place here is its name in an order of the
-    /// segment.
+    /// Returns the calls, in the order of their numbers. An order of the segment names a call by
+    /// its place in this list.
     pub fn calls(&self) -> &[Operation]
         ensures calls { result.now ≡ self.now.calls }
         ensures segment { IsSegmentView self.now }
@@ -99,21 +100,22 @@ impl Segment {
         &self.calls
     }
 
-    /// The least key that a call of it names.
+    /// Returns the least key that one of its calls names.
     pub fn lo(&self) -> u64
         ensures { result ≡ self.now.lo }
     {
         self.lo
     }
 
-    /// The greatest key that a call of it names.
+    /// Returns the greatest key that one of its calls names.
     pub fn hi(&self) -> u64
         ensures { result ≡ self.now.hi }
     {
         self.hi
     }
 
-    /// The pairs of the history's start from its least key to its greatest, by rising key.
+    /// Returns the pairs of the history's start from the segment's least key to its greatest, by
+    /// rising key.
     pub fn start(&self) -> &[(u64, u64)]
         ensures start { result.now ≡ self.now.start }
         ensures segment { IsSegmentView self.now }
@@ -121,7 +123,7 @@ impl Segment {
         &self.start
     }
 
-    /// The same segment again.
+    /// Copies the segment.
     pub fn copy(&self, alloc: Global) -> Result<Segment, Memory>
         ensures { IfOk result (λ s. s ≡ self.now) }
     {
@@ -138,7 +140,7 @@ impl Segment {
     }
 }
 
-/// The numbers of the calls that belong to a segment, rising.
+/// Returns the numbers of the calls that belong to a segment, rising.
 fn numbers_that_belong(alloc: Global, calls: &[Operation]) -> Result<Vec<u32>, Memory>
     requires { length calls.now < 2 ^ 32 }
     ensures rising { IfOk result (λ v. IsStrictlyIncreasing v.items) }
@@ -154,7 +156,7 @@ fn numbers_that_belong(alloc: Global, calls: &[Operation]) -> Result<Vec<u32>, M
     Ok(numbers)
 }
 
-/// The calls with these numbers.
+/// Returns the calls with these numbers.
 fn copies_of(alloc: Global, calls: &[Operation], numbers: &[u32]) -> Result<Vec<Operation>, Memory>
     requires { All (λ n. n < length calls.now) numbers.now }
     ensures { IfOk result (λ v. v.items ≡ calls_at calls.now numbers.now) }
@@ -166,7 +168,7 @@ fn copies_of(alloc: Global, calls: &[Operation], numbers: &[u32]) -> Result<Vec<
     Ok(taken)
 }
 
-/// The pairs with a key from the one to the other, both included.
+/// Returns the pairs with a key from the one to the other, both included.
 fn pairs_within(
     alloc: Global,
     pairs: &[(u64, u64)],
@@ -184,7 +186,7 @@ fn pairs_within(
     Ok(taken)
 }
 
-/// The same calls again.
+/// Copies the calls.
 fn copies(alloc: Global, calls: &[Operation]) -> Result<Vec<Operation>, Memory>
     ensures { IfOk result (λ v. v.items ≡ calls.now) }
 {
@@ -195,7 +197,7 @@ fn copies(alloc: Global, calls: &[Operation]) -> Result<Vec<Operation>, Memory>
     Ok(taken)
 }
 
-/// Puts a copy of the call behind the others.
+/// Appends a copy of the call.
 fn push_copy(alloc: Global, taken: &mut Vec<Operation>, call: &Operation) -> Result<(), Memory>
     ensures { OnOk result (taken.new.items ≡ taken.old.items ++ call.now ∷ []) }
 {
@@ -203,7 +205,7 @@ fn push_copy(alloc: Global, taken: &mut Vec<Operation>, call: &Operation) -> Res
     Ok(())
 }
 
-/// The least key that the calls name, or 0 where there is no call.
+/// Returns the least key that the calls name, or 0 if there is no call.
 fn least_key(calls: &[Operation]) -> u64
     ensures { result ≡ least (map (λ a. low_key a.call) calls.now) }
 {
@@ -215,7 +217,7 @@ fn least_key(calls: &[Operation]) -> u64
     least
 }
 
-/// The greatest key that the calls name, or 0 where there is no call.
+/// Returns the greatest key that the calls name, or 0 if there is no call.
 fn greatest_key(calls: &[Operation]) -> u64
     ensures { result ≡ greatest (map (λ a. high_key a.call) calls.now) }
 {

@@ -1,4 +1,4 @@
--- Where calls stand that begin and end one after another: which are open, by which process, and
+-- The state of calls that begin and end one after another: which are open, by which process, and
 -- which events there were.
 use Rattle.std.specs.Prelude.{◌≡◌, ◌≢◌, ◌⊎◌, ℕ, ◌+◌, ◌<◌, ◌≤◌, true, false, List, [], ◌∷◌, ◌++◌, length, map, take, Option, Some, None}
 use Rattle.std.specs.Prelude.{All, AllPairs, Any, Contains, IfSome, IsSomeAnd, slice_get, option_and_then, nat_lt, if◌then◌else◌}
@@ -24,11 +24,11 @@ abbrev pub place_in : Option Response → Option ℕ
 place_in None = None
 place_in (Some response) = Some response.res
 
--- the answer of the call with a number, where it has one
+-- the answer of the call with a number, if it has one
 abbrev pub reply_at : List Operation → ℕ → Option Reply
 reply_at calls number = option_and_then (λ a. reply_in a.response) (slice_get calls number)
 
--- the last place at which one of the first calls begins
+-- the last place at which one of this many first calls begins
 abbrev pub begun_of : List Operation → ℕ → ℕ
 begun_of calls count = greatest (map (λ a. a.inv) (take count calls))
 
@@ -36,18 +36,18 @@ begun_of calls count = greatest (map (λ a. a.inv) (take count calls))
 abbrev pub NoneEndsBefore : ℕ → List Seat → Type 0
 NoneEndsBefore place open_seats = All (λ s. IfSome s.res (λ res. place ≤ res)) open_seats
 
--- the open call at a place of a list is answered first, of some of them
+-- among some open calls, the one at a place of the list of all is answered first
 abbrev pub IsFirstAmong : List Seat → List Seat → ℕ × ℕ → Type 0
 IsFirstAmong all some first = IsSomeAnd (slice_get all first.0) (λ s. s.res ≡ Some first.1) × NoneEndsBefore first.1 some
 
--- the earlier of two answers, of which the second may be none
+-- the earlier of two answers; the second may be none
 abbrev pub earlier : Option (ℕ × ℕ) → ℕ → Option ℕ → Option (ℕ × ℕ)
 earlier first at None = first
 earlier None at (Some res) = Some (at, res)
 earlier (Some first) at (Some res) = Some (if nat_lt res first.1 then (at, res) else first)
 
--- the call with a number may follow those before it: it does not end before one of them or itself
--- begins, and what ended before one of them began ends before it begins
+-- the call with a number may follow those before it. It does not end before one of them or itself
+-- begins. Each of them that ended before one of them began also ends before it begins
 abbrev pub EndsBehind : ℕ → Operation → Type 0
 EndsBehind place a = IfSome a.response (λ response. place ≤ response.res)
 
@@ -57,10 +57,10 @@ EndsOutside low high a = IfSome a.response (λ response. (response.res < low) �
 abbrev pub MayFollow : List Operation → ℕ → ℕ → Operation → Type 0
 MayFollow calls number place a = EndsBehind place a × All (EndsOutside a.inv place) (take number calls)
 
--- ---- where the first calls stand
+-- ---- the state of the first calls
 
--- the call with a number is that which a process has open: its invocation stands before no other
--- event of the process
+-- the call with a number is the open call of a process: no other event of the process follows its
+-- invocation
 pub record IsOpenAt (events : List Event) (number process : ℕ) : Type 0 where
   pub before : List Event
   pub call : Call
@@ -69,7 +69,7 @@ pub record IsOpenAt (events : List Event) (number process : ℕ) : Type 0 where
   pub silent : events_of process between ≡ []
   pub is_call : IsSomeAnd (slice_get (operations events) number) (λ c. (c.inv ≡ length before) × (c.response ≡ None))
 
--- an open call of so many: it is not answered before all have begun
+-- an open call of this many: it is not answered before all have begun
 pub record IsSeat (calls : List Operation) (count : ℕ) (events : List Event) (s : Seat) : Type 0 where
   pub within : s.number < count
   pub process : s.process < process_limit
@@ -78,24 +78,24 @@ pub record IsSeat (calls : List Operation) (count : ℕ) (events : List Event) (
   pub waits : has_open_call s.process events ≡ true
   pub place : IsOpenAt events s.number s.process
 
--- it is answered the same, and before a limit
+-- the two have the same answer, and the first one's comes before a limit
 abbrev pub IsAnsweredAs : ℕ → Option Response → Option Response → Type 0
 IsAnsweredAs limit (Some response) (Some other) = (response.reply ≡ other.reply) × (response.res < limit)
 IsAnsweredAs limit response other = ⊥
 
--- a call of the list and that of the events with its number: one is open still, or answered as the
--- other
+-- a call of the list and the call of the events with its number: the second is still open, or is
+-- answered as the first
 abbrev pub IsOpenOrAnswered : ℕ → List Seat → ℕ → Operation → Operation → Type 0
 IsOpenOrAnswered limit open_seats number a c =
     ((s : Seat) × Contains open_seats s × (s.number ≡ number) × (c.response ≡ None)) ⊎ IsAnsweredAs limit a.response c.response
 
--- an event of one of the calls, by a process that is known
+-- an event of one of the calls, by a known process
 abbrev pub IsEventOf : List Operation → Event → Type 0
 IsEventOf calls (Invoke process call) = (process < process_limit) × Any (λ a. a.call ≡ call) calls
 IsEventOf calls (Answer process reply) = (process < process_limit) × Any (λ a. reply_in a.response ≡ Some reply) calls
 
--- so many calls have begun, and those that are not open were answered before a limit; the processes
--- that are free, the open calls, and the events
+-- this many calls have begun, and those that are not open were answered before a limit. Also the
+-- free processes, the open calls, and the events
 pub record AreSeatedAs (calls : List Operation) (count limit : ℕ) (free : List ℕ) (open_seats : List Seat) (events : List Event) : Type 0 where
   pub within : count ≤ length calls
   pub size : length (operations events) ≡ count
@@ -117,13 +117,13 @@ pub record AreSeatedAs (calls : List Operation) (count limit : ℕ) (free : List
 abbrev pub AreSeated : List Operation → ℕ → ℕ → Seats → Type 0
 AreSeated calls count limit s = AreSeatedAs calls count limit s.free.items s.open_seats.items s.events.items
 
--- ---- what comes of it
+-- ---- the result
 
 -- the events of no history make calls like these
 abbrev pub NoEventsHave : List Operation → Type 0
 NoEventsHave calls = (events : List Event) → AreHistoryEvents events → AreAlike calls (operations events) → ⊥
 
--- events make calls like these, and are those of a history where any are that do
+-- events make calls like these, and are those of a history if any events that do are
 pub record AreEventsWith (calls : List Operation) (events : List Event) : Type 0 where
   pub alike : AreAlike calls (operations events)
   pub history : (others : List Event) → AreHistoryEvents others → AreAlike calls (operations others) → AreHistoryEvents events

@@ -17,7 +17,7 @@ pub record IsHistoryWith (start : Contents) (calls : List Operation) (history : 
   pub start_is : history.start ≡ start
   pub alike : AreAlike calls (operations history.events)
 
--- no history has them
+-- no history has these calls
 abbrev pub AreOfNoHistory : Contents → List Operation → Type 0
 AreOfNoHistory start calls = (history : HistoryView) → IsHistoryWith start calls history → ⊥
 
@@ -26,11 +26,11 @@ pub record IsSmallHistory (start : Contents) (calls : List Operation) (history :
   pub has_calls : IsHistoryWith start calls history
   pub refuted : IsLinearizable history.start (operations history.events) → ⊥
 
--- what a history is written as
+-- the text that is written for a history
 abbrev pub text_of : HistoryView → List ℕ
 text_of history = compact_text (history_data history)
 
--- that text, where it is not too long to be read
+-- that text, if it is not too long to be read
 pub record IsWrittenAs (history : HistoryView) (text : List ℕ) : Type 0 where
   pub text_is : text ≡ text_of history
   pub spelled : Spells text history

@@ -15,12 +15,14 @@ use history_text::{MAX_TEXT, write_history};
 use quiet_cuts::places_do_not_matter;
 use std::alloc::Global;
 
-/// A history with these calls, from these pairs. Its events stand as those of the calls do, an
-/// invocation before the responses at its place, and each call is of the process that was free
-/// last. It has an order exactly where the calls have one. There is none where no history has them:
-/// where there are too many calls or pairs, the keys of the pairs do not rise, a scan has no range,
-/// an answer lists too many pairs, more than 64 calls are open at once, a call ends before it
-/// begins, or they do not stand in an order of invocations.
+/// Makes a history with these calls, from these pairs. Its events come in the order of the calls'
+/// events, an invocation before the responses at its place. Each call gets the process that became
+/// free last. The history has an order exactly if the calls have one.
+///
+/// It returns `None` if no history has these calls. There may be too many calls or pairs, keys of
+/// the pairs that do not rise, a scan without a range, or an answer with too many pairs. More than
+/// 64 calls may be open at once, a call may end before it begins, or the calls may not be in an
+/// order of invocations.
 pub fn small_history(
     alloc: Global,
     start: &[(u64, u64)],
@@ -39,7 +41,7 @@ pub fn small_history(
     }
 }
 
-/// The text of a history; none where it would be longer than a text may be.
+/// Returns the text of a history; none if it would be longer than a text may be.
 pub fn small_text(alloc: Global, history: &History) -> Result<Option<String>, Memory>
     ensures { IfOk result (λ found. MatchOption found (text_limit < length (text_of history.now))
         (λ text. IsWrittenAs history.now (string_bytes text))) }
@@ -52,7 +54,8 @@ pub fn small_text(alloc: Global, history: &History) -> Result<Option<String>, Me
     }
 }
 
-/// Events of a history that make these calls, at other places; none where those of no history do.
+/// Returns events of a history that make these calls, at other places; none if the events of no
+/// history do.
 fn small_events(alloc: Global, calls: &[Operation]) -> Result<Option<Vec<Event>>, Memory>
     ensures { IfOk result (λ found. MatchOption found (NoEventsHave calls.now)
         (λ events. AreEventsWith calls.now events.items)) }
@@ -65,7 +68,7 @@ fn small_events(alloc: Global, calls: &[Operation]) -> Result<Option<Vec<Event>>
     }
 }
 
-/// The history of events from some pairs; none where no history has their calls.
+/// Returns the history of events from some pairs; none if no history has their calls.
 fn history_of(
     alloc: Global,
     start: &[(u64, u64)],
@@ -82,7 +85,7 @@ fn history_of(
     }
 }
 
-/// No history, where it is not for want of memory that there is none.
+/// Returns no history, unless there is none because memory ran out.
 fn none_for(fault: HistoryFault) -> Result<Option<History>, Memory>
     ensures { IfOk result (λ found. (found ≡ None) × (fault ≢ faults.Memory)) }
 {

@@ -1,5 +1,5 @@
-//! Calls as a history on their own: of few processes, at the places that are left if the other calls
-//! of a history go. Its text, and how reports next to it give the value of a key.
+//! Calls as a history on their own: of a few processes, at the places that are left if the other
+//! calls of a history are removed. Its text, and how reports next to it give the value of a key.
 #![tactic(auto)]
 
 mod histories;

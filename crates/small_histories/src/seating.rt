@@ -7,8 +7,8 @@ use crate::seats::{Seats, first_answer, first_before};
 use events::{Memory, Operation};
 use std::alloc::Global;
 
-/// Begins and ends all calls, from where none has begun. Answers whether some history has them. It
-/// takes time in proportion to the calls, for a fixed number of processes, where they lie by rising
+/// Begins and ends all calls, before any has begun. Returns whether some history has them. It takes
+/// time in proportion to the calls, for a fixed number of processes, if they are sorted by rising
 /// invocation.
 pub fn seat_all(alloc: Global, seats: &mut Seats, calls: &[Operation]) -> Result<bool, Memory>
     ensures { AreSeated calls.now 0 0 seats.old
@@ -27,15 +27,15 @@ pub fn seat_all(alloc: Global, seats: &mut Seats, calls: &[Operation]) -> Result
     Ok(true)
 }
 
-/// The later of two places.
+/// Returns the later of two places.
 fn later_place(place: usize, other: usize) -> usize
     ensures { result ≡ max place other }
 {
     if place < other { other } else { place }
 }
 
-/// Begins the call with a number behind the answers that stand before it, where the last of the
-/// calls up to it begins at this place. Answers whether it may.
+/// Begins the call with a number, after the answers that come before it. The last of the calls up
+/// to it begins at this place. Returns whether the call may begin.
 fn seat(
     alloc: Global,
     seats: &mut Seats,
@@ -57,7 +57,8 @@ fn seat(
     Ok(begun)
 }
 
-/// Whether a call that begins with the last of those before it, or behind it, may follow them.
+/// Returns whether a call that begins together with the last of those before it, or later, may
+/// follow them.
 fn may_follow(before: &[Operation], call: &Operation, place: usize) -> bool
     ensures { IsTrue result ↔ (EndsBehind place call.now
         × All (EndsOutside call.now.inv place) before.now) }
@@ -65,7 +66,7 @@ fn may_follow(before: &[Operation], call: &Operation, place: usize) -> bool
     ends_behind(place, call) && all_end_outside(call.inv, place, before)
 }
 
-/// Whether a call is answered at a place or behind it, if at all.
+/// Returns whether a call is answered at a place or after it; a pending call is.
 fn ends_behind(place: usize, call: &Operation) -> bool
     ensures { IsTrue result ↔ EndsBehind place call.now }
 {
@@ -75,8 +76,8 @@ fn ends_behind(place: usize, call: &Operation) -> bool
     }
 }
 
-/// Whether no call is answered from one place to another. Where there are no such places, no call
-/// is looked at.
+/// Returns whether no call is answered from one place to another. If there are no such places, no
+/// call is looked at.
 fn all_end_outside(low: usize, high: usize, calls: &[Operation]) -> bool
     ensures { IsTrue result ↔ All (EndsOutside low high) calls.now }
 {
@@ -117,7 +118,7 @@ fn end_before(
     Ok(())
 }
 
-/// Ends the open calls that are answered, in the order of their answers, where all have begun.
+/// Ends the open calls that are answered, in the order of their answers, when all have begun.
 fn end_all(alloc: Global, seats: &mut Seats, calls: &[Operation]) -> Result<(), Memory>
     ensures { (limit : ℕ) → AreSeated calls.now (length calls.now) limit seats.old
         → OnOk result (AreEventsWith calls.now seats.new.events.items) }

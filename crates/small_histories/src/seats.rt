@@ -1,4 +1,4 @@
-// Calls that begin and end one after another, each by the process that was free last.
+// Calls that begin and end one after another, each by the process that became free last.
 ghost use Rattle.std.specs.Prelude.{◌≡◌, ◌≢◌, ℕ, ◌+◌, ◌<◌, ◌≤◌, List, length, All, AllPairs, IfOk, OnOk, MatchBool, MatchOption, IsSomeAnd, slice_get};
 ghost use Rattle.events.specs.Limits.{process_limit};
 ghost use Rattle.events.specs.declared.operation.Operation.{Operation};
@@ -10,7 +10,7 @@ use events::{Event, Memory, Operation, PROCESSES, Reply, Response};
 use std::alloc::Global;
 
 /// A call that has begun and is not answered yet: its number, its process, and the place of its
-/// response, where it has one.
+/// response if it has one.
 #[derive(Clone, Copy)]
 pub struct Seat {
     pub number: usize,
@@ -18,8 +18,8 @@ pub struct Seat {
     pub res: Option<usize>,
 }
 
-/// Where calls stand that begin and end one after another: the processes that are free, that which
-/// was free last behind; the open calls, by rising number; and the events so far.
+/// The state of calls that begin and end one after another: the free processes, of which the last
+/// one became free last; the open calls, by rising number; and the events so far.
 #[derive(Drop)]
 pub struct Seats {
     pub free: Vec<u8>,
@@ -28,7 +28,7 @@ pub struct Seats {
 }
 
 impl Seats {
-    /// All processes are free, and no call has begun.
+    /// Returns the state in which all processes are free, and no call has begun.
     pub fn new(alloc: Global) -> Result<Seats, Memory>
         ensures { (calls : List Operation) → IfOk result (λ seats. AreSeated calls 0 0 seats) }
     {
@@ -40,8 +40,8 @@ impl Seats {
         })
     }
 
-    /// Begins the call with this number, by the process that was free last. Answers whether one was
-    /// free.
+    /// Begins the call with this number, by the process that became free last. Returns whether one
+    /// was free.
     pub fn begin(&mut self, calls: &[Operation], number: usize) -> Result<bool, Memory>
         requires { number < length calls.now }
         ensures { (place : ℕ) → AreSeated calls.now number place self.old
@@ -68,7 +68,7 @@ impl Seats {
         Ok(true)
     }
 
-    /// Ends the open call at a place of their list. Its process is free then.
+    /// Ends the open call at a place of their list. Then its process is free.
     pub fn end(&mut self, alloc: Global, calls: &[Operation], at: usize) -> Result<(), Memory>
         requires { at < length self.old.open_seats.items }
         ensures seated { (count limit : ℕ) → AreSeated calls.now count limit self.old
@@ -90,7 +90,7 @@ impl Seats {
     }
 }
 
-/// All processes, the least one behind.
+/// Returns all processes; the least one is the last.
 fn all_processes(alloc: Global) -> Result<Vec<u8>, Memory>
     ensures known { IfOk result (λ processes. All (λ p. p < process_limit) processes.items) }
     ensures apart { IfOk result (λ processes. AllPairs (λ p q. p ≢ q) processes.items) }
@@ -103,7 +103,7 @@ fn all_processes(alloc: Global) -> Result<Vec<u8>, Memory>
     Ok(processes)
 }
 
-/// The place of a response, where there is one.
+/// Returns the place of a response, if there is one.
 fn place_in(response: &Option<Response>) -> Option<usize>
     ensures { result ≡ place_in response.now }
 {
@@ -113,7 +113,7 @@ fn place_in(response: &Option<Response>) -> Option<usize>
     }
 }
 
-/// The answer of the call with a number, where it has one.
+/// Returns the answer of the call with a number, if it has one.
 fn reply_at(alloc: Global, calls: &[Operation], number: usize) -> Result<Option<Reply>, Memory>
     ensures { IfOk result (λ reply. reply ≡ reply_at calls.now number) }
 {
@@ -132,8 +132,9 @@ fn reply_in(alloc: Global, response: &Option<Response>) -> Result<Option<Reply>,
     }
 }
 
-/// The place in the list of the open call that is answered before one, where one is: of those the
-/// first, and of several that are answered at one place that with the least number.
+/// Finds the open call that is answered before this place, if there is one. Of several it is the
+/// one answered first, and of those answered at one place the one with the least number. Returns
+/// its place in the list.
 pub fn first_before(open_seats: &[Seat], place: usize) -> Option<usize>
     ensures { MatchOption result (NoneEndsBefore place open_seats.now)
         (λ at. IsSomeAnd (slice_get open_seats.now at)
@@ -145,7 +146,8 @@ pub fn first_before(open_seats: &[Seat], place: usize) -> Option<usize>
     }
 }
 
-/// The place in the list of the open call that is answered first, and the place of its response.
+/// Returns the place in the list of the open call that is answered first, and the place of its
+/// response.
 pub fn first_answer(open_seats: &[Seat]) -> Option<(usize, usize)>
     ensures { MatchOption result (All (λ s. s.res ≡ None) open_seats.now)
         (IsFirstAmong open_seats.now open_seats.now) }
@@ -157,7 +159,7 @@ pub fn first_answer(open_seats: &[Seat]) -> Option<(usize, usize)>
     first
 }
 
-/// The earlier of two answers, the first of them where both stand at one place.
+/// Returns the earlier of two answers; the first of them if both are at one place.
 fn earlier_answer(
     first: Option<(usize, usize)>,
     at: usize,

@@ -1,8 +1,8 @@
--- How far a reading or a writing of several calls came before one of them failed.
+-- How far several reads or writes came before one of them failed.
 use Rattle.std.specs.Prelude.{ℕ, ◌<◌, ◌≤◌, List, length, take, Option}
 use Rattle.std.specs.Io.KnownBytes.{Appends, Consumes}
 
--- some of the bytes to come were read, at most so many
+-- some of the bytes to come were read, at most this many
 abbrev pub ConsumesAtMost : ℕ → Option (List ℕ) → Option (List ℕ) → Type 0
 ConsumesAtMost count old new = (bytes : List ℕ) × (length bytes ≤ count) × Consumes old new bytes
 

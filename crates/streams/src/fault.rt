@@ -12,7 +12,7 @@ pub struct Failed;
 pub enum ReadFault {
     /// A read failed.
     Failed,
-    /// Memory ran out: a growth was refused.
+    /// Memory ran out: an allocation was refused.
     Memory,
 }
 

@@ -1,8 +1,9 @@
 //! Where the bytes of a program come from and where they go.
 //!
-//! A source and a sink tell the bytes that are still to come and those that were written, where
-//! they are known, and count the calls that failed. So the contract of a program that is written
-//! over them can say what it writes for what it reads, and that an end was at fault where it says so.
+//! The contract of a source or a sink speaks of the bytes that are still to come, or that were
+//! written, if they are known. It also counts the calls that failed. So the contract of a program
+//! over sources and sinks can say what it writes for what it reads. It can also say that an end
+//! failed if the program reports that.
 #![tactic(auto)]
 
 mod fault;

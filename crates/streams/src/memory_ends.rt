@@ -1,4 +1,4 @@
-//! Ends over memory, for tests: their calls move few bytes at a time, and one of them fails.
+//! Ends over memory, for tests. Their calls move a few bytes at a time, and one of them fails.
 ghost use Rattle.std.specs.Prelude.{◌≡◌, ◌↔◌, ◌<◌, ◌≤◌, ◌+◌, ◌++◌, [], None, Some, Ok, IsTrue, IsErr, min, length, take, drop, vec_len};
 ghost use Rattle.std.specs.Prelude.{IfOk, OnErr};
 ghost use Rattle.streams.specs.MemoryEnd.{MemoryEnd, after_call};
@@ -30,8 +30,8 @@ impl Model for MemorySource {
 }
 
 impl MemorySource {
-    /// A source that gives at most `most` bytes in a call, and that fails once, after `fails_in`
-    /// calls, where that is a number.
+    /// Returns a source that gives at most `most` bytes in a call. It fails once, after `fails_in`
+    /// calls, if that is a number.
     pub fn new(bytes: Vec<u8>, most: usize, fails_in: Option<u64>) -> Self
         requires { 0 < most }
         ensures { result ≡ record { bytes = bytes.items; most = most; fails_in = fails_in; failures = 0 } }
@@ -45,14 +45,14 @@ impl MemorySource {
         }
     }
 
-    /// The bytes that are still to come.
+    /// Returns the bytes that are still to come.
     pub fn bytes(&self) -> &[u8]
         ensures { result.now ≡ self.now.bytes }
     {
         &self.bytes[self.at..]
     }
 
-    /// How many calls have failed.
+    /// Returns how many calls have failed.
     pub fn failures(&self) -> u64
         ensures { result ≡ self.now.failures }
     {
@@ -91,7 +91,7 @@ impl Source for MemorySource {
     }
 }
 
-/// Keeps the bytes that are written to it, after those that it was made with.
+/// Stores the bytes that are written to it, after those that it was made with.
 #[derive(Drop)]
 pub struct MemorySink {
     bytes: Vec<u8>,
@@ -114,9 +114,9 @@ impl Model for MemorySink {
 }
 
 impl MemorySink {
-    /// A sink that keeps what is written after these bytes, takes at most `most` bytes in a call, and
-    /// fails once, after `fails_in` calls, where that is a number. A call that wants more room than
-    /// the bytes have fails too where memory is refused.
+    /// Returns a sink that stores what is written after these bytes, and takes at most `most` bytes
+    /// in a call. It fails once, after `fails_in` calls, if that is a number. A call also fails if
+    /// it needs more memory and gets none.
     pub fn new(bytes: Vec<u8>, most: usize, fails_in: Option<u64>) -> Self
         requires { 0 < most }
         ensures { result ≡ record { bytes = bytes.items; most = most; fails_in = fails_in; failures = 0 } }
@@ -129,14 +129,14 @@ impl MemorySink {
         }
     }
 
-    /// The bytes that the sink was made with, and then those that were written.
+    /// Returns the bytes that the sink was made with, and then those that were written.
     pub fn bytes(&self) -> &[u8]
         ensures { result.now ≡ self.now.bytes }
     {
         &self.bytes
     }
 
-    /// How many calls have failed.
+    /// Returns how many calls have failed.
     pub fn failures(&self) -> u64
         ensures { result ≡ self.now.failures }
     {
@@ -172,7 +172,7 @@ impl Sink for MemorySink {
     }
 }
 
-// Copies the first bytes, as many as both sides have and at most `most`, and answers how many.
+// Copies the first bytes, as many as both sides have and at most `most`, and returns how many.
 fn copy_front(from: &[u8], to: &mut [u8], most: usize) -> usize
     ensures count { result ≡ min most (min (length from.now) (length to.old)) }
     ensures copied { take result to.new ≡ take result from.now }

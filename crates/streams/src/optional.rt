@@ -5,7 +5,8 @@ ghost use Rattle.streams.specs.Optional.{failures_of};
 use crate::{Failed, Sink, StandardError};
 use std::io::{IsTerminal, Stderr};
 
-/// Standard error where it is a terminal: for what helps a person who reads there, and is no part of what a program reads.
+/// Returns standard error if it is a terminal. It is for a person who reads there, and never for a
+/// program.
 pub fn terminal_of(error: Stderr) -> Option<StandardError>
     ensures { ⟦<Option<StandardError> as Sink>⟧.failures result ≡ 0 }
 {
@@ -21,7 +22,7 @@ impl<K: Sink> Sink for Option<K> {
 
     ghost failures = { λ sink. failures_of K.failures sink };
 
-    /// Where there is no sink, the bytes are dropped, and no call fails.
+    /// Without a sink the bytes are dropped, and no call fails.
     fn write(&mut self, bytes: &[u8]) -> Result<usize, Failed> {
         match self {
             Some(sink) => sink.write(bytes),

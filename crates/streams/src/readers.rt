@@ -12,11 +12,11 @@ pub struct ReaderSource<R> {
     failures: u64,
 }
 
-/// The standard input of the process, which tells no bytes.
+/// The standard input of the process, whose bytes no contract knows.
 pub type StandardInput = ReaderSource<Stdin>;
 
 impl<R: Read> ReaderSource<R> {
-    /// No call has failed yet.
+    /// Returns the source of a reader, before any call has failed.
     pub fn new(reader: R) -> Self
         ensures remaining { ⟦<ReaderSource<R> as Source>⟧.remaining result ≡ R.remaining reader }
         ensures failures { ⟦<ReaderSource<R> as Source>⟧.failures result ≡ 0 }
@@ -27,7 +27,7 @@ impl<R: Read> ReaderSource<R> {
         }
     }
 
-    /// How many calls have failed.
+    /// Returns how many calls have failed.
     pub fn failures(&self) -> u64
         ensures { result ≡ ⟦<ReaderSource<R> as Source>⟧.failures self.now }
     {
@@ -40,7 +40,7 @@ impl<R: Read> Source for ReaderSource<R> {
 
     ghost failures = { λ source. source.failures };
 
-    /// A read that a signal interrupts is made again, and is no failure.
+    /// Reads some bytes. A read that a signal interrupts is tried again, and is not a failure.
     fn read(&mut self, buffer: &mut [u8]) -> Result<usize, Failed> {
         let result = read_uninterrupted(&mut self.reader, buffer);
         if result.is_err() {

@@ -6,10 +6,11 @@ ghost use Rattle.streams.specs.Progress.{ConsumesAtMost};
 use crate::{ReadFault, Source};
 use std::alloc::Global;
 
-// The most bytes that are asked of a source at once.
+// The most bytes that a source is asked for at once.
 const CHUNK: usize = 65_536;
 
-/// Reads to the end, or until there are `limit` bytes. The time is linear in the bytes read.
+/// Reads to the end, or until there are `limit` bytes. It takes time in proportion to the bytes
+/// read.
 pub fn read_up_to<S: Source>(
     alloc: Global,
     source: &mut S,
@@ -23,7 +24,7 @@ pub fn read_up_to<S: Source>(
         Consumes (S.remaining source.old) (S.remaining source.new) bytes.items) }
     ensures stopped { OnErr result (ConsumesAtMost limit (S.remaining source.old) (S.remaining source.new)) }
 
-    // The count of failures rises exactly where the answer is that a read failed.
+    // The count of failures rises exactly if the result is that a read failed.
     ensures counted { OnOk result (S.failures source.new ≡ S.failures source.old) }
     ensures memory { IsErrOf result ReadFault.Memory → S.failures source.new ≡ S.failures source.old }
     ensures raised { IsErrOf result ReadFault.Failed → S.failures source.new ≡ S.failures source.old + 1 }

@@ -6,13 +6,13 @@ use crate::Failed;
 
 /// What bytes are written to.
 pub trait Sink {
-    // The bytes that were written, where the type tells them.
+    // The bytes that were written, if the type knows them.
     ghost written: { Self → Option (List ℕ) };
 
     // How many calls have failed.
     ghost failures: { Self → ℕ };
 
-    /// Writes some of the first of `bytes`, and answers how many: at least one where there are any.
+    /// Writes some of the first of `bytes`, and returns how many: at least one if there are any.
     fn write(&mut self, bytes: &[u8]) -> Result<usize, Failed>
         requires { failures self.old < u64.MAX }
         ensures within { IfOk result (λ count. count ≤ length bytes.now) }

@@ -6,14 +6,14 @@ use crate::Failed;
 
 /// What bytes are read from.
 pub trait Source {
-    // The bytes that are still to come, where the type tells them.
+    // The bytes that are still to come, if the type knows them.
     ghost remaining: { Self → Option (List ℕ) };
 
     // How many calls have failed.
     ghost failures: { Self → ℕ };
 
-    /// Puts some of the bytes to come at the front of `buffer`, and answers how many: at least one
-    /// where there is room and the end is not reached.
+    /// Stores some of the bytes to come at the beginning of `buffer`, and returns how many: at
+    /// least one if there is room and the end is not reached.
     fn read(&mut self, buffer: &mut [u8]) -> Result<usize, Failed>
         requires { failures self.old < u64.MAX }
         ensures within { IfOk result (λ count. count ≤ length buffer.new) }

@@ -12,14 +12,14 @@ pub struct WriterSink<W> {
     failures: u64,
 }
 
-/// The standard output of the process, which tells no bytes.
+/// The standard output of the process, whose bytes no contract knows.
 pub type StandardOutput = WriterSink<Stdout>;
 
-/// The standard error of the process, which tells no bytes.
+/// The standard error of the process, whose bytes no contract knows.
 pub type StandardError = WriterSink<Stderr>;
 
 impl<W: Write> WriterSink<W> {
-    /// No call has failed yet.
+    /// Returns the sink of a writer, before any call has failed.
     pub fn new(writer: W) -> Self
         ensures written { ⟦<WriterSink<W> as Sink>⟧.written result ≡ W.contents writer }
         ensures failures { ⟦<WriterSink<W> as Sink>⟧.failures result ≡ 0 }
@@ -30,7 +30,7 @@ impl<W: Write> WriterSink<W> {
         }
     }
 
-    /// How many calls have failed.
+    /// Returns how many calls have failed.
     pub fn failures(&self) -> u64
         ensures { result ≡ ⟦<WriterSink<W> as Sink>⟧.failures self.now }
     {
@@ -43,8 +43,8 @@ impl<W: Write> Sink for WriterSink<W> {
 
     ghost failures = { λ sink. sink.failures };
 
-    /// A write that a signal interrupts is made again, and is no failure; one that takes none of
-    /// the bytes that there are is.
+    /// Writes some bytes. A write that a signal interrupts is tried again, and is not a failure. A
+    /// write that takes none of several bytes is a failure.
     fn write(&mut self, bytes: &[u8]) -> Result<usize, Failed> {
         let result = write_uninterrupted(&mut self.writer, bytes);
         if result.is_err() {

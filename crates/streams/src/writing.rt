@@ -5,8 +5,8 @@ ghost use Rattle.streams.specs.Progress.{AppendsBeginning};
 
 use crate::{Failed, Sink};
 
-/// Writes all of `bytes`, in as many calls as the sink needs. Where a call fails, a beginning of the
-/// bytes was written.
+/// Writes all of `bytes`, in as many calls as the sink needs. If a call fails, only a beginning of
+/// the bytes was written.
 pub fn write_whole<K: Sink>(sink: &mut K, bytes: &[u8]) -> Result<(), Failed>
     requires { K.failures sink.old < u64.MAX }
     ensures written { OnOk result (Appends (K.written sink.old) (K.written sink.new) bytes.now) }

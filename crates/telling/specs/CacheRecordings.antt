@@ -1,5 +1,5 @@
--- What is written down of a history of a cache, event by event. Next to a scan a remove of each key that it misses is invoked and answered,
--- by a process of its own.
+-- How a history of a cache is recorded, event by event. Next to a scan, each key that it misses is
+-- removed, by a process of its own.
 use Rattle.events.specs.declared.event.Reply.TheVariants as replies
 use Rattle.std.specs.Prelude.{ℕ, ◌+◌, ◌*◌, ◌==◌, ◌&&◌, nat_le, not, Bool, false, is_some, if◌then◌else◌, List, [], ◌∷◌, ◌++◌, filter, map}
 use Rattle.std.specs.Prelude.{Option, Some, None}
@@ -13,7 +13,8 @@ use Rattle.events.specs.HistoryView.{HistoryView}
 use Rattle.map_object.specs.MapObject.{value_at}
 use Rattle.telling.specs.CacheRecords.{recorded_call, recorded_reply}
 
--- whether a call with this answer misses a key: it is a scan with the key in its range, and none of the pairs has the key
+-- whether a call with this answer misses a key: it is a scan with the key in its range, and none of
+-- the pairs has the key
 abbrev pub is_missed : Call → Reply → ℕ → Bool
 is_missed (Scan low high) (replies.Pairs pairs) key = nat_le low key && (nat_le key high && not (is_some (value_at pairs key)))
 is_missed call reply key = false
@@ -22,7 +23,8 @@ is_missed call reply key = false
 abbrev pub missed_keys : List ℕ → Call → Reply → List ℕ
 missed_keys keys call reply = filter (is_missed call reply) keys
 
--- the process that removes a key next to the scan of a process: each of them has one for each key, and none is a process of the history
+-- the process that removes a key next to the scan of a process; there is one for each process and
+-- key, and none is a process of the history
 abbrev pub helper : ℕ → ℕ → ℕ
 helper p key = process_limit + p + process_limit * key
 
@@ -32,7 +34,7 @@ answer_to_come p [] = None
 answer_to_come p (Invoke q call ∷ events) = answer_to_come p events
 answer_to_come p (Answer q reply ∷ events) = if q == p then Some reply else answer_to_come p events
 
--- what is recorded of an invocation, by the answer to come
+-- what is recorded of an invocation, given the answer that comes later
 abbrev pub recorded_invocation : ℕ → List ℕ → ℕ → Call → Option Reply → List Event
 recorded_invocation fresh keys p call None = Invoke p call ∷ []
 recorded_invocation fresh keys p call (Some reply) =
@@ -43,7 +45,7 @@ abbrev pub recorded_answer : List ℕ → ℕ → Call → Reply → List Event
 recorded_answer keys p call reply =
     Answer p (recorded_reply call reply) ∷ map (λ key. Answer (helper p key) replies.Done) (missed_keys keys call reply)
 
--- what is recorded of an event, by the last call of each process and the events to come
+-- what is recorded of an event, given the last call of each process and the events that come later
 abbrev pub recorded_event : ℕ → List ℕ → (ℕ → Call) → Event → List Event → List Event
 recorded_event fresh keys last (Invoke p call) events = recorded_invocation fresh keys p call (answer_to_come p events)
 recorded_event fresh keys last (Answer p reply) events = recorded_answer keys p (last p) reply
@@ -59,7 +61,8 @@ recorded_events fresh keys last [] = []
 recorded_events fresh keys last (e ∷ events) =
     recorded_event fresh keys last e events ++ recorded_events fresh keys (last_after last e) events
 
--- what is recorded of a history. At first no process has a last call, and none is asked for
+-- the recording of a history. At first no process has a last call, and the function for it is never
+-- asked
 abbrev pub recording_of : ℕ → List ℕ → HistoryView → HistoryView
 recording_of fresh keys history = record {
   start = history.start;

@@ -41,12 +41,13 @@ ReplyBelow bound replies.Done = ⊤
 ReplyBelow bound replies.Found = ⊤
 ReplyBelow bound replies.Other = ⊤
 
--- and in a response, if there is one
+-- each value of a response's answer is below a bound; a pending call has none
 abbrev pub ResponseBelow : ℕ → Option Response → Type 0
 ResponseBelow bound None = ⊤
 ResponseBelow bound (Some response) = ReplyBelow bound response.reply
 
--- each value of the start, of the calls and of their answers is below a bound, so those from the bound on are fresh
+-- each value of the start, of the calls and of their answers is below a bound; so the values from
+-- the bound on are fresh
 pub record AreBelow (bound : ℕ) (start : Contents) (calls : List Operation) : Type 0 where
   pub at_start : All (λ pair. pair.1 < bound) start
   pub of_calls : All (λ a. CallBelow bound a.call × ResponseBelow bound a.response) calls

@@ -1,4 +1,5 @@
--- The one case in which a recording of a cache says too little: a replace was answered `other`, and a call of its key `found`.
+-- The one case in which a recording of a cache is too weak: a replace was answered `other`, and a
+-- call of its key `found`.
 use Rattle.events.specs.declared.event.Reply.TheVariants as replies
 use Rattle.std.specs.Prelude.{[], ◌∷◌}
 use Rattle.events.specs.declared.event.Call.TheVariants.{Get, Insert, Replace}
@@ -11,7 +12,8 @@ use Rattle.telling.specs.Lossy.{IsLossyLinearizableHistory}
 use Rattle.telling.specs.CacheRecords.{IsRecordOf}
 use Rattle.telling.specs.CacheValues.{AreAllKeys, AreBelow}
 
--- one process inserts 1 at the key 0; a replace of 1 finds another value or none; then a get finds a value
+-- one process inserts 1 at the key 0; a replace of 1 finds another value or none; then a get finds
+-- a value
 abbrev pub found_after_other : HistoryView
 found_after_other = with_no_start
     (Invoke 0 (Insert 0 1) ∷ Answer 0 replies.Done ∷ Invoke 0 (Replace 0 1 2) ∷ Answer 0 replies.Other ∷ Invoke 0 (Get 0)

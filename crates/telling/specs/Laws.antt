@@ -1,4 +1,4 @@
--- Laws of answers that tell less.
+-- Laws of partial answers.
 use Rattle.events.specs.declared.event.Reply.TheVariants as replies
 use Rattle.std.specs.Prelude.{◌≡◌, ◌≢◌, ◌↔◌, ℕ, List}
 use Rattle.events.specs.declared.event.Call.{Call}
@@ -9,13 +9,13 @@ use Rattle.orders.specs.Orders.{IsOrder, IsLinearizable}
 use Rattle.telling.specs.Finds.{FindsValue, MissesValue}
 use Rattle.telling.specs.Tellings.{AreToldCalls}
 
--- a legal answer that is not `refused` does the call, however little it tells
+-- a legal answer that is not `refused` does the call, even if it is partial
 abbrev pub AnswersDoCalls : Type 0
 AnswersDoCalls =
     (m : Contents) (call : Call) (reply : Reply) → IsLegalReply m call reply → reply ≢ replies.Refused
     → after_reply m call reply ≡ after m call
 
--- the answers that tell less, by the value at the key
+-- when the partial answers are legal, by the value at the key
 pub record TellByValue (m : Contents) (call : Call) : Type 0 where
   pub done : IsLegalReply m call replies.Done
   pub found : IsLegalReply m call replies.Found ↔ FindsValue m call
@@ -24,7 +24,8 @@ pub record TellByValue (m : Contents) (call : Call) : Type 0 where
 abbrev pub AnswersThatTellLess : Type 0
 AnswersThatTellLess = (m : Contents) (call : Call) → TellByValue m call
 
--- calls have an order exactly where they have it with some whole answers in the place of those that tell less
+-- calls have an order exactly if they have one with some complete answers in place of the partial
+-- ones
 abbrev pub OrdersAreThoseOfToldCalls : Type 0
 OrdersAreThoseOfToldCalls =
     (start : Contents) (calls : List Operation)

@@ -10,7 +10,8 @@ use Rattle.orders.specs.Orders.{after_call, IsLegalCall, calls_at, KeepsPreceden
 abbrev pub left : (ℕ → Bool) → Contents → Contents
 left stays m = filter (λ pair. stays pair.0) m
 
--- a legal list of calls of the lossy map: before each call some keys disappear, and the call is legal at the pairs that are left
+-- a legal list of calls of the lossy map: before each call some keys disappear, and the call is
+-- legal at the pairs that are left
 abbrev pub IsLossyLegal : Contents → List Operation → Type 0
 IsLossyLegal m [] = ⊤
 IsLossyLegal m (a ∷ calls) =
@@ -29,6 +30,6 @@ pub record IsLossyOrder (start : Contents) (calls : List Operation) (order : Lis
 abbrev pub IsLossyLinearizable : Contents → List Operation → Type 0
 IsLossyLinearizable start calls = (order : List ℕ) × IsLossyOrder start calls order
 
--- and a history is
+-- a history is linearizable over the lossy map: its calls have such an order
 abbrev pub IsLossyLinearizableHistory : HistoryView → Type 0
 IsLossyLinearizableHistory history = IsLossyLinearizable history.start (operations history.events)

@@ -1,4 +1,5 @@
--- Whole answers in the place of answers that tell of them: what a reader believes who reads more into the answers than they tell.
+-- Complete answers in place of partial ones: what a reader believes who reads more into the answers
+-- than they say.
 use Rattle.events.specs.declared.event.Reply.TheVariants as replies
 use Rattle.std.specs.Prelude.{◌≡◌, ◌≢◌, ◌⊎◌, true, List, Option, Some, None, ⊤}
 use Rattle.std.specs.List.{AllZip}
@@ -8,8 +9,8 @@ use Rattle.events.specs.declared.operation.Response.{Response}
 use Rattle.events.specs.Told.{is_told}
 use Rattle.map_object.specs.MapObject.{TellsOf}
 
--- a response with the whole answer in the place of one that tells of it: at the same event, and `refused` where that is; a pending call
--- stays pending
+-- a response with the complete answer in place of one that says a part of it: at the same event,
+-- and `refused` if the response is. A pending call stays pending
 abbrev pub IsToldAs : Call → Option Response → Option Response → Type 0
 IsToldAs call None None = ⊤
 IsToldAs call None (Some told) = ⊥
@@ -19,12 +20,12 @@ IsToldAs call (Some response) (Some told) =
     × (((response.reply ≡ replies.Refused) × (told.reply ≡ replies.Refused))
     ⊎ ((told.reply ≢ replies.Refused) × TellsOf call told.reply response.reply))
 
--- the same call, with such a response
+-- a call with its response completed so
 pub record IsToldCall (a told : Operation) : Type 0 where
   pub call : told.call ≡ a.call
   pub inv : told.inv ≡ a.inv
   pub response : IsToldAs a.call a.response told.response
 
--- the same calls by number, each with such a response
+-- the calls by number, each with such a response
 abbrev pub AreToldCalls : List Operation → List Operation → Type 0
 AreToldCalls calls told = AllZip IsToldCall calls told

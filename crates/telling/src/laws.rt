@@ -1,23 +1,22 @@
-// Laws of answers that tell less, and of caches. Each is the contract of a function that does
-// nothing.
+// Laws of partial answers, and of caches. Each is the contract of a function that does nothing.
 ghost use Rattle.telling.specs.CacheLaws.{EvictedKeysAreNoLostWrites, HistoriesOfCachesHaveRecordings, LostWritesAreRefuted, RecordedCachesAreLossyMaps};
 ghost use Rattle.telling.specs.FoundAfterOther.{FoundAfterOtherIsMissed};
 ghost use Rattle.telling.specs.Laws.{AnswersDoCalls, AnswersThatTellLess, OrdersAreThoseOfToldCalls};
 
-/// A legal answer that is not `refused` does the call, however little it tells.
+/// A legal answer that is not `refused` does the call, even if it is partial.
 pub fn answers_do_calls()
     ensures { AnswersDoCalls }
 {}
 
-/// `done` is legal at each call; `found` exactly where a value is at the key of a call that names
-/// one; `other` exactly at a replace where another value than the expected one is at its key, or
-/// none.
+/// `done` is legal at each call. `found` is legal exactly if the call names one key and a value is
+/// there. `other` is legal exactly at a replace whose key has another value than the expected one,
+/// or none.
 pub fn answers_that_tell_less()
     ensures { AnswersThatTellLess }
 {}
 
-/// Calls whose answers tell less have an order exactly where they have it with some whole answers
-/// in their place.
+/// Calls with partial answers have an order exactly if they have one with some complete answers in
+/// place of the partial ones.
 pub fn orders_are_those_of_told_calls()
     ensures { OrdersAreThoseOfToldCalls }
 {}

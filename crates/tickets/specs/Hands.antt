@@ -1,4 +1,4 @@
--- What a clause says of tickets and of a hand.
+-- What a clause can say of tickets and of a hand.
 use Rattle.std.specs.Prelude.{◌≡◌, ℕ, ◌+◌, List, length}
 use Rattle.atomic_table.specs.Seated.{TableId}
 use Rattle.tickets.specs.declared.hand.Hand.{Hand}
@@ -16,7 +16,7 @@ quota_of t = t.quota
 abbrev pub counter_of : Hand → TableId
 counter_of h = h.seat.table_id
 
--- what a hand drew, with what the hands that were joined to it drew
+-- what a hand drew, and what the hands that were joined to it drew
 abbrev pub drawn_by : Hand → List ℕ
 drawn_by h = h.seat.me.0.drawn
 
@@ -32,7 +32,7 @@ floor_of h = h.seat.me.0.floor
 abbrev pub share_of : Hand → ℕ
 share_of h = length (drawn_by h) + left_of h
 
--- a hand drew these numbers, may draw so many more, and has this floor
+-- a hand drew these numbers, may draw this many more, and has this floor
 pub record Holds (h : Hand) (drawn : List ℕ) (left floor : ℕ) : Type 0 where
   pub drawn_is : drawn_by h ≡ drawn
   pub left_is : left_of h ≡ left

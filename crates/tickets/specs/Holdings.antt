@@ -1,6 +1,6 @@
--- What the hands of one counter hold, and the rule of its word.
--- The word is how many numbers were drawn. Each number below it was drawn by one hand, once, and each draw of the quota that is left is
--- with one hand.
+-- What the hands of one counter hold, and the rule of its word. The word is how many numbers were
+-- drawn. Each number below it was drawn once, by one hand. Each draw of the quota that is left
+-- belongs to one hand.
 use Rattle.std.specs.Prelude.{◌≡◌, ℕ, ◌+◌, ◌-◌, ◌^◌, ◌<◌, ◌≤◌, List, [], ◌∷◌, ◌++◌, length, slice_index, max, sum_by, All}
 use Rattle.atomic_table.specs.Table.{State, Me, Step}
 use Rattle.tickets.specs.declared.rule.Holding.{Holding}
@@ -22,7 +22,7 @@ left_count h = h.left
 abbrev pub times_drawn : ℕ → Holding → ℕ
 times_drawn x h = times_in h.drawn x
 
--- the word counts the draws, and the holdings share the numbers below it and the rest of the quota
+-- the word counts the draws; the holdings share the numbers below it and the rest of the quota
 pub record IsSharedOut (quota word : ℕ) (holdings : List Holding) : Type 0 where
   pub small : quota ≤ 2 ^ 61
   pub drawn : sum_by drawn_count holdings ≡ word
@@ -51,7 +51,7 @@ Draws step hand n new = (new ≡ (after_draw hand.0 n, hand.1)) × (hand.0.floor
 abbrev pub noted : Holding → ℕ → Holding
 noted h part = holding h.drawn h.left h.floor part
 
--- the step's first number is noted
+-- the step's first number is noted in the hand
 abbrev pub SetsAside : Step (Unit {0}) → Place → ℕ → Place → Type 0
 SetsAside step hand n new = new ≡ (noted hand.0 step.first, hand.1)
 
@@ -59,11 +59,11 @@ SetsAside step hand n new = new ≡ (noted hand.0 step.first, hand.1)
 abbrev pub StaysWithin : Step (Unit {0}) → Place → ℕ → Place → Type 0
 StaysWithin step hand n new = (new ≡ hand) × (drawn_count hand.0 + left_count hand.0 ≤ 2 ^ 61)
 
--- what a hand keeps at a split
+-- the part that a hand keeps at a split
 abbrev pub kept_part : Holding → Holding
 kept_part h = holding h.drawn (h.left - h.set_aside) h.floor 0
 
--- what a hand gives away at a split
+-- the part that a hand gives away at a split
 abbrev pub given_part : Holding → Holding
 given_part h = holding [] h.set_aside h.floor 0
 

@@ -4,8 +4,8 @@ ghost use Rattle.std.specs.Prelude.{◌≡◌, ◌+◌, ◌^◌, ◌<◌, ◌≤
 use crate::rule::Holding;
 use atomic_table::Seat;
 
-/// A share of the draws from one [`Tickets`](crate::Tickets), for one thread at a time. Where a hand is dropped its
-/// share is lost, and without it the tickets can't be closed.
+/// A share of the draws from one [`Tickets`](crate::Tickets), for one thread at a time. If a hand
+/// is dropped, its share is lost, and the tickets cannot be closed without it.
 #[derive(Drop)]
 pub struct Hand {
     pub(crate) seat: Seat<(), Holding>,
@@ -21,7 +21,7 @@ pub struct Hand {
 impl Hand {
     ghost use Rattle.tickets.specs.Hands.{left_of};
 
-    /// How many numbers the hand may still draw.
+    /// Returns how many numbers the hand may still draw.
     pub fn left(&self) -> u64
         ensures { result ≡ left_of self.now }
     {

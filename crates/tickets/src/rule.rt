@@ -1,13 +1,14 @@
-// What a hand holds, the rule of the shared word, and what each atomic step tells. All of it is for the proofs alone.
+// What a hand holds, the rule of the shared word, and what each atomic step says. Only the proofs
+// need them.
 ghost use Rattle.std.specs.Prelude.{[]};
 ghost use Rattle.tickets.specs.Holdings.{holding, KeepsCount, Draws, SetsAside, StaysWithin, kept_part, given_part, both_parts, no_part};
 
 use atomic_table::{Join, Play, Split, TableRule};
 use std::collections::LinkedList;
 
-/// What a hand holds. No value of it is made.
+/// What a hand holds. No value of this type is made.
 pub(crate) struct Holding {
-    /// What the hand drew, with what the hands that were joined to it drew.
+    /// What the hand drew, and what the hands that were joined to it drew.
     pub drawn: LinkedList<u64>,
     /// How many numbers it may still draw.
     pub left: u64,
@@ -40,14 +41,14 @@ impl Play<(), Holding> for SetAside {
     ghost then = { SetsAside };
 }
 
-/// A look at the bound on what a hand holds.
+/// A look that shows that what a hand holds is within the bound.
 pub(crate) struct LookAtBound;
 
 impl Play<(), Holding> for LookAtBound {
     ghost then = { StaysWithin };
 }
 
-/// A split gives away what was set aside, and a join puts two holdings together.
+/// A split gives away the part that was set aside, and a join puts two holdings together.
 pub(crate) struct Share;
 
 impl Split<Holding> for Share {

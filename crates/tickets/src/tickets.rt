@@ -1,4 +1,4 @@
-// The shared counter, and what is done with its hands.
+// The shared counter, and the operations on its hands.
 ghost use Rattle.std.specs.Prelude.{◌≡◌, ◌+◌, ◌-◌, ◌^◌, ◌<◌, ◌≤◌, ◌↔◌, [], ◌∷◌, ◌++◌, max, All, IfOk, IfErr, IsOk};
 
 use crate::hand::Hand;
@@ -20,8 +20,8 @@ impl Tickets {
     ghost use Rattle.tickets.specs.Numbers.{EachOnce};
     ghost use Rattle.tickets.specs.Hands.{counter, quota_of, counter_of, drawn_by, left_of, floor_of, share_of, Holds};
 
-    /// Tickets from which `quota` numbers can be drawn, and a hand that may draw them all. Of all calls this alone
-    /// takes memory, and it fails only for want of it.
+    /// Opens tickets from which `quota` numbers can be drawn, with a hand that may draw them all.
+    /// This is the only call that takes memory, and it fails only if memory runs out.
     pub fn open(alloc: Global, quota: u64) -> Result<(Tickets, Hand), AllocError>
         requires { quota ≤ 2 ^ 61 }
         ensures quota { IfOk result (λ t. quota_of t.0 ≡ quota) }
@@ -37,9 +37,9 @@ impl Tickets {
         Ok((Tickets { table, quota }, hand))
     }
 
-    /// Draws a number that no other draw gives. It is greater than all that the hand drew, that was taken in by
-    /// `join`, or that a hand had drawn before this one was split from it. It is one fetch-and-add, and waits for
-    /// nobody.
+    /// Draws a number that no other draw gives. It is greater than all numbers that the hand drew
+    /// or got by `join`. It is also greater than all that a hand had drawn when this one was split
+    /// from it. It is one fetch-and-add, and waits for nobody.
     pub fn draw(&self, hand: &mut Hand) -> u64
         requires own { counter_of hand.old ≡ counter self.now }
         requires some { 0 < left_of hand.old }
@@ -56,8 +56,8 @@ impl Tickets {
         number
     }
 
-    /// Gives `part` of the hand's draws to a new hand, which draws no number below those that this one drew so far.
-    /// It is an exchange and a load, which leave the counter as it is.
+    /// Gives `part` of the hand's draws to a new hand. The new hand draws no number below those
+    /// that this one drew so far. It is an exchange and a load, which leave the counter as it is.
     pub fn split(&self, hand: &mut Hand, part: u64) -> Hand
         requires own { counter_of hand.old ≡ counter self.now }
         requires enough { part ≤ left_of hand.old }
@@ -66,7 +66,8 @@ impl Tickets {
         ensures given { Holds result [] part (floor_of hand.old) }
         ensures below { All (λ x. x < floor_of hand.old) (drawn_by hand.old) }
     {
-        // A holding is cut as it says itself, so the part is noted in it first. The exchange is of a number for itself.
+        // A holding is split as its own note says, so the part is noted in it first. The exchange
+        // stores the number that it found.
         self.table
             .shared
             .compare_exchange::<SetAside>(&mut hand.seat, 0, part, part);
@@ -79,7 +80,7 @@ impl Tickets {
         }
     }
 
-    /// Gives what the other hand drew, and may still draw, to the hand. It is two loads.
+    /// Gives the hand what the other hand drew and may still draw. It is two loads.
     pub fn join(&self, hand: &mut Hand, other: Hand)
         requires own { counter_of hand.old ≡ counter self.now }
         requires other { counter_of other ≡ counter self.now }
@@ -89,14 +90,15 @@ impl Tickets {
     {
         let Hand { seat, left, drawn } = other;
         self.table.shared.join_seat::<Share>(&mut hand.seat, seat);
-        // This load shows that what both have together is within the bound, so that the sums fit.
+        // This load shows that what both hands have together is within the bound, so that the sums
+        // fit.
         self.table.shared.load::<LookAtBound>(&mut hand.seat, 0);
         hand.left += left;
         hand.drawn += drawn;
     }
 
-    /// How many numbers were drawn, where the hand has the whole quota, drawn or left. Else a part of it is with
-    /// another hand, and both come back.
+    /// Returns how many numbers were drawn, if the hand has the whole quota, drawn or left.
+    /// Otherwise a part of the quota is with another hand, and both arguments are returned.
     pub fn close(self, hand: Hand) -> Result<u64, (Tickets, Hand)>
         requires { counter_of hand ≡ counter self }
         ensures whole { IsOk result ↔ (share_of hand ≡ quota_of self) }

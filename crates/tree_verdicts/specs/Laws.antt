@@ -1,4 +1,4 @@
--- What the judge answers of the histories of the full trees.
+-- The answers of the judge to the histories of the full trees.
 use Rattle.std.specs.Prelude.{◌≡◌, ◌⊎◌, ℕ, List}
 use Rattle.events.specs.HistoryView.{HistoryView}
 use Rattle.events.specs.Operations.{operations}
@@ -18,7 +18,7 @@ abbrev pub IsNoRefutation : Verdict → Type 0
 IsNoRefutation (No segment) = ⊥
 IsNoRefutation verdict = Unit {0}
 
--- No verdict that is shown of the calls of a run of a full tree, at whatever budget, refutes it: so
+-- No verdict that is shown of the calls of a run of a full tree refutes it, whatever the budget. So
 -- `judge_alone` and `judge`, which show what they answer, never answer No there.
 abbrev pub NeverRefuted : Type 0
 NeverRefuted =

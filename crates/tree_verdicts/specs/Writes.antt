@@ -1,4 +1,4 @@
--- What an engine writes of the run of a full tree, and what is never answered to it.
+-- What an engine writes of the run of a full tree, and the answers that it never gets.
 use Rattle.std.specs.Prelude.{◌≡◌, ◌≢◌, ◌⊎◌, ℕ, List, [], ◌++◌, Some, string_bytes}
 use Rattle.art_steps.specs.declared.variant.Variant.{Variant}
 use Rattle.art_steps.specs.declared.variant.Variant.TheVariants.{Coupled, Optimistic}
@@ -23,7 +23,8 @@ IsFull variant = (variant ≡ Coupled) ⊎ (variant ≡ Optimistic)
 abbrev pub SpellsFullReplay : List ℕ → Type 0
 SpellsFullReplay text = (r : ReplayView) × SpellsReplay text r × IsFull r.variant
 
--- what an outcome has for the output: its answer, with the line feed behind it, and nothing where it is none
+-- what an outcome writes to the output: its answer, with the line feed at the end; nothing if it is
+-- not an answer
 abbrev pub output_of : RunOutcome → List ℕ
 output_of (Answered answer bytes) = string_bytes bytes
 output_of (Noted answer bytes note) = string_bytes bytes
@@ -32,20 +33,21 @@ output_of Memory = []
 output_of (Words bytes) = []
 output_of Failed = []
 
--- No answer of `judge` to these bytes, with any white space around them, and at whatever budget, is No.
+-- No answer of `judge` to these bytes, with any white space around them, and at whatever budget, is
+-- No.
 abbrev pub AreNeverRefuted : List ℕ → Type 0
 AreNeverRefuted bytes =
     (before behind : List ℕ) → AreWhiteSpace before → AreWhiteSpace behind → (budget : ℕ) (answer : Answer) (report : List ℕ)
     → IsJudgeAnswer budget (before ++ (bytes ++ behind)) answer report → answer ≢ No
 
--- Nor does a run of `judge` that reads them so end with the status of No.
+-- No run of `judge` that reads them so ends with the status of No.
 abbrev pub AreRefutedByNoRun : List ℕ → Type 0
 AreRefutedByNoRun bytes =
     (before behind : List ℕ) → AreWhiteSpace before → AreWhiteSpace behind → (budget : ℕ) (source output faults hints : Change) (status : ℕ)
     → source.old.bytes ≡ Some (before ++ (bytes ++ behind)) → IsRun (IsJudgeOutcome budget source) output faults hints status
     → status ≢ answer_status No
 
--- these bytes were written to the output, behind what was in it
+-- these bytes were written to the output, after what was in it
 pub record WasWritten (output : Change) (bytes : List ℕ) : Type 0 where
   pub first : List ℕ
   pub old : output.old.bytes ≡ Some first

@@ -1,4 +1,4 @@
-// Laws of verdicts on what full trees record: each function only carries its clause.
+// Laws of verdicts on what full trees record. Each function only carries its clause.
 ghost use Rattle.tree_verdicts.specs.EngineLaws.{DriveRunsAreNeverRefuted, DrivesAreNeverRefuted, ReplayRunsAreNeverRefuted, ReplaysAreNeverRefuted};
 ghost use Rattle.tree_verdicts.specs.Laws.{LinearizableTextsAreNeverRefuted, NeverRefuted};
 
@@ -7,8 +7,8 @@ use history_text::one_history;
 use replay_text::one_replay;
 use white_space::{spells_between_white_space, white_space_tells_nothing};
 
-/// The judge answers Yes or Undecided, and never No, on the history of a full tree: whatever the schedule and the starting pairs,
-/// at any budget and with any number of workers.
+/// The judge answers Yes or Undecided, and never No, on the history of a full tree: whatever the
+/// schedule and the starting pairs, at any budget and with any number of workers.
 pub fn never_refuted()
     ensures { NeverRefuted }
 {
@@ -16,15 +16,16 @@ pub fn never_refuted()
     optimistic_is_linearizable();
 }
 
-/// Nor does it on a text that spells a linearizable history, such as those that a drive of a full tree writes.
+/// The judge never answers No to a text that spells a linearizable history, such as those that a
+/// drive of a full tree writes.
 pub fn linearizable_texts_are_never_refuted()
     ensures { LinearizableTextsAreNeverRefuted }
 {
     one_history();
 }
 
-/// The bytes that `replay` writes of a full tree, the line feed among them, are never answered No by `judge`, at any budget, with any
-/// number of workers, and with any white space around them.
+/// `judge` never answers No to the bytes that `replay` writes of a full tree, with their line feed:
+/// at any budget, with any number of workers, and with any white space around them.
 pub fn replays_are_never_refuted()
     ensures outcomes { ReplaysAreNeverRefuted }
     ensures runs { ReplayRunsAreNeverRefuted }
@@ -35,7 +36,7 @@ pub fn replays_are_never_refuted()
     white_space_tells_nothing();
 }
 
-/// Nor are those that `drive` writes of a full tree.
+/// `judge` never answers No to the bytes that `drive` writes of a full tree.
 pub fn drives_are_never_refuted()
     ensures outcomes { DrivesAreNeverRefuted }
     ensures runs { DriveRunsAreNeverRefuted }

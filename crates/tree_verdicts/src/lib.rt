@@ -1,4 +1,5 @@
-//! The judge and the full trees together: what it can answer of their histories, and of what the engines write of them. The laws alone.
+//! The judge and the full trees together: what it can answer to their histories, and to what the
+//! engines write of them. Laws only.
 #![tactic(auto)]
 
 mod laws;

@@ -1,4 +1,5 @@
-//! White space around the text of a history, such as the line feed after one that the program writes. Laws only.
+//! White space around the text of a history, such as the line feed after one that the program
+//! writes. Laws only.
 #![tactic(auto)]
 
 mod laws;
