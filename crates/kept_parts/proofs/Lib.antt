@@ -7,3 +7,4 @@ pub mod PastLemmas
 pub mod StepLemmas
 pub mod UniteLemmas
 pub mod DecideLemmas
+pub mod ReachLemmas

@@ -1,3 +1,4 @@
 pub mod KeptParts
 pub mod Events
 pub mod Steps
+pub mod Reached

@@ -12,6 +12,6 @@ pub use event_laws::{
 };
 pub use step_laws::{
     dead_pasts_are_lost, kept_parts_decide, kept_parts_fall_apart, kept_parts_unite,
-    kept_pasts_are_within, open_changes_are_kept, parts_move, pasts_in_any_order_are_kept,
-    pasts_move_on, same_keys_are_kept,
+    kept_pasts_are_reached, kept_pasts_are_within, open_changes_are_kept, parts_move,
+    pasts_in_any_order_are_kept, pasts_move_on, same_keys_are_kept,
 };

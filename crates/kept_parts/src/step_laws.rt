@@ -1,4 +1,5 @@
 // Laws of parts that are kept, between events, each the contract of a function that does nothing.
+ghost use Rattle.kept_parts.specs.Reached.{KeptPastsAreReached};
 ghost use Rattle.kept_parts.specs.Steps.{DeadPastsAreLost, KeptPartsDecide, KeptPartsFallApart, KeptPartsUnite, KeptPastsAreWithin, OpenChangesAreKept, PartsMove, PastsInAnyOrderAreKept, PastsMoveOn, SameKeysAreKept};
 
 /// The order of parts does not matter.
@@ -50,4 +51,10 @@ pub fn open_changes_are_kept()
 /// The events so far have an order exactly if some past of each part goes on.
 pub fn kept_parts_decide()
     ensures { KeptPartsDecide }
+{}
+
+/// Each past of a part is reached, if each other part has some past: some of the calls have a legal
+/// order that leads to it.
+pub fn kept_pasts_are_reached()
+    ensures { KeptPastsAreReached }
 {}

@@ -15,7 +15,7 @@ use Rattle.key_effects.proofs.DeadLemmas.{bool_cases}
 use Rattle.key_effects.proofs.OrderLemmas.{same_call}
 use Rattle.key_parts.specs.Parts.{Part, IsAt, IsOneOf, choices_of, ShareKeys, AgreesAt, left_at}
 use Rattle.key_parts.proofs.EventLemmas.{not_both}
-use Rattle.key_parts.proofs.PartLemmas.{keys_shared, with_past, with_other, part_steps}
+use Rattle.key_parts.proofs.PartLemmas.{keys_shared, with_past, with_other, TakesNoMore, part_steps}
 use Rattle.kept_pasts.specs.Pasts.{KeptPast, IsOpenRead, IsPast, AreKeptAlike}
 use Rattle.kept_pasts.specs.Cuts.{AlikePastsStand, AlikePastsGo}
 use Rattle.kept_pasts.proofs.DropLemmas.{pasts_in_any_order}
@@ -102,9 +102,10 @@ module _ (keys : Keys) (calls : List KeyedCall) (kept other : KeptPast) (past tw
   }
 
   -- all calls agree with it, with further events too
-  still_agrees : (place : ℕ) (more : List KeyedCall) → HaveGrown place calls more → (w : Choice) → IsAt keys past w → (b : KeyedCall)
-      → Contains more b → Agrees w b → Agrees (with_found keys twin w) b
-  still_agrees place more grown w same b b_in agrees = record {
+  still_agrees : (place : ℕ) (few more : List KeyedCall) (w : Choice)
+      → ((a : KeyedCall) (key : ℕ) → Contains calls a → w.taken a.inv key ≡ true → Contains few a) → HaveGrown place few more → IsAt keys past w
+      → (b : KeyedCall) → Contains more b → Agrees w b → Agrees (with_found keys twin w) b
+  still_agrees place few more w among grown same b b_in agrees = record {
     accepted = agrees.accepted;
     fits = λ key taken. by_key key taken (bool_cases (keys key));
   }
@@ -113,7 +114,8 @@ module _ (keys : Keys) (calls : List KeyedCall) (kept other : KeptPast) (past tw
       fits_here key taken here =
           let past_taken : past.taken b.inv key ≡ true = sym (same.taken b.inv key here) ∙ taken in
           let (a, a_in, a_is, concerned) = is.known b.inv key here past_taken in
-          let (c, c_in, later) = grown.stay a a_in in
+          let w_taken : w.taken a.inv key ≡ true = subst (λ (n : ℕ). w.taken n key ≡ true) (sym a_is) taken in
+          let (c, c_in, later) = grown.stay a (among a key a_in w_taken) in
           let one : c ≡ b = same_call more c b grown.apart.distinct c_in b_in (later.inv ∙ a_is) in
           let a_taken : past.taken a.inv key ≡ true = subst (λ (n : ℕ). past.taken n key ≡ true) (sym a_is) past_taken in
           ⊎_elim
@@ -130,34 +132,43 @@ module _ (keys : Keys) (calls : List KeyedCall) (kept other : KeptPast) (past tw
       by_key key taken (inl here) = rw here (fits_here key taken here)
       by_key key taken (inr out) = rw out (agrees.fits key taken)
 
-  twin_goes_on : (place : ℕ) (others : List Choice) (rest : List Part) (w : Choice) (more : List KeyedCall)
+  twin_goes_on : (place : ℕ) (others : List Choice) (rest : List Part) (w : Choice) (few more : List KeyedCall)
       → ShareKeys (record { keys = keys; pasts = past ∷ others } ∷ rest) → choices_of (record { keys = keys; pasts = past ∷ others } ∷ rest) w
-      → HaveGrown place calls more → GoesOn w more → SomeGoesOn (choices_of (record { keys = keys; pasts = twin ∷ others } ∷ rest)) more
-  twin_goes_on place others rest w more shared w_is grown goes_on =
+      → ((a : KeyedCall) (key : ℕ) → Contains calls a → w.taken a.inv key ≡ true → Contains few a) → HaveGrown place few more → GoesOn w more
+      → SomeGoesOn (λ v. choices_of (record { keys = keys; pasts = twin ∷ others } ∷ rest) v × TakesNoMore w v) more
+  twin_goes_on place others rest w few more shared w_is among grown goes_on =
       let (p, p_in, at_p) = All-head (λ part. IsOneOf part.keys part.pasts w) (record { keys = keys; pasts = past ∷ others }) rest w_is in
       ⊎_elim
       (λ first.
       let same : IsAt keys past w = subst (λ (q : Choice). IsAt keys q w) (sym first) at_p in (
         with_found keys twin w,
-        with_past keys (past ∷ others) (twin ∷ others) rest twin w (with_found keys twin w) shared (Contains-first twin others) w_is
-            (is_twin w same) (with_found_elsewhere keys twin w),
+        (
+          with_past keys (past ∷ others) (twin ∷ others) rest twin w (with_found keys twin w) shared (Contains-first twin others) w_is
+              (is_twin w same) (with_found_elsewhere keys twin w),
+          λ inv key taken. taken,
+        ),
         (
           All-from_contains (Agrees (with_found keys twin w)) more (λ b b_in.
-              still_agrees place more grown w same b b_in (All-contains (Agrees w) more b goes_on.0 b_in)),
+              still_agrees place few more w among grown same b b_in (All-contains (Agrees w) more b goes_on.0 b_in)),
           goes_on.1,
         ),
       ))
-      (λ later. (w, with_other keys (past ∷ others) (twin ∷ others) rest w p w_is (Contains-later twin others p later) at_p, goes_on))
+      (λ later. (
+        w,
+        (with_other keys (past ∷ others) (twin ∷ others) rest w p w_is (Contains-later twin others p later) at_p, λ inv key taken. taken),
+        goes_on,
+      ))
       (Contains-cases past others p p_in)
 
 pub alike_pasts_stand : AlikePastsStand
 alike_pasts_stand held place calls keys kept other past twin others rest alike is twin_is stand =
     part_steps held place calls keys (past ∷ others) (twin ∷ others) rest
     (λ w more w_is grown goes_on.
-    twin_goes_on keys calls kept other past twin alike is twin_is place others rest w more stand.shared w_is grown goes_on)
-    (λ w more w_is grown goes_on.
-    twin_goes_on keys calls other kept twin past (alike_back kept other alike) twin_is is place others rest w more
-    (keys_shared keys (past ∷ others) (twin ∷ others) rest stand.shared) w_is grown goes_on)
+    let (v, both, goes) = twin_goes_on keys calls kept other past twin alike is twin_is place others rest w calls more stand.shared w_is
+    (λ a key a_in taken. a_in) grown goes_on in (v, both.0, goes))
+    (λ w few more w_is alone are grown goes_on.
+    twin_goes_on keys calls other kept twin past (alike_back kept other alike) twin_is is place others rest w few more
+    (keys_shared keys (past ∷ others) (twin ∷ others) rest stand.shared) w_is are.taken grown goes_on)
     stand
 
 pub alike_pasts_go : AlikePastsGo

@@ -16,7 +16,7 @@ use Rattle.key_parts.specs.Parts.{Part, IsAt, IsOneOf, ShareKeys, choices_of, le
 use Rattle.key_parts.specs.Steps.{IsLeftAt, NoneIsLeftAt, MayComeNext, IsAfterCall, AreKnownAt, AreOwnOrBarred}
 use Rattle.key_parts.specs.Laws.{UnbarredCallsComeNext}
 use Rattle.key_parts.proofs.CallLemmas.{first_fits, first_goes_on, begun_first, goes_before}
-use Rattle.key_parts.proofs.FewerLemmas.{AreAmong, but_for, after_fewer, steps_forth}
+use Rattle.key_parts.proofs.FewerLemmas.{AreAmong, but_for, after_fewer, steps_forth, at_few}
 use Rattle.key_parts.proofs.FirstLemmas.{AtEnded, first_left, left_later, may_come}
 use Rattle.key_parts.proofs.PartLemmas.{at_fewer, instead, keys_shared, with_other, part_steps}
 
@@ -136,26 +136,21 @@ unbarred_calls_come_next
     (subst (λ (q : Choice). IsAt keys q w) (sym same) at_p) goes_on)
     (λ other. (w, with_other keys (past ∷ others) (nexts ++ others) rest w p w_is (Contains-append_right nexts others p other) at_p, goes_on))
     (Contains-cases past others p p_in))
-    (λ v more v_is grown goes_on.
+    (λ v few more v_is alone are grown goes_on.
     let (p, p_in, at_p) = All-head (λ part. IsOneOf part.keys part.pasts v) (record { keys = keys; pasts = nexts ++ others }) rest v_is in
     ⊎_elim
     (λ next.
     let (a, a_in, may, after) = reached p next in
-    let (d, d_in, later) = grown.stay a a_in in
-    goes_before keys keys place (answered + 1) calls more past p rest a d (record {
-      inside = λ key is. is;
-      parted = parted;
-      after = after;
-      may = may;
-      begun = begun_first keys (answered + 1) calls past ended a ended_in
-          (ended_before keys some place answered calls past nexts ended at) accepted
-          (is_left.0, inside is_left.0 is_left.1, is_left.2) may;
-      a_in = a_in;
-      grown = grown;
-      d_in = d_in;
-      later = later;
-    }) (nexts ++ others) (past ∷ others) v shared v_is at_p (Contains-first past others) goes_on)
-    (λ other. (v, with_other keys (nexts ++ others) (past ∷ others) rest v p v_is (Contains-later past others p other) at_p, goes_on))
+    let (d, at_next) = at_few keys keys place (answered + 1) calls few more past p v rest a (λ key is. is) parted after may
+    (begun_first keys (answered + 1) calls past ended a ended_in (ended_before keys some place answered calls past nexts ended at) accepted
+    (is_left.0, inside is_left.0 is_left.1, is_left.2) may) a_in at_p are grown in
+    goes_before keys keys place (answered + 1) few more past p rest a d at_next (nexts ++ others) (past ∷ others) v shared v_is at_p
+    (Contains-first past others) goes_on)
+    (λ other. (
+      v,
+      (with_other keys (nexts ++ others) (past ∷ others) rest v p v_is (Contains-later past others p other) at_p, λ inv key taken. taken),
+      goes_on,
+    ))
     (Contains-append_cases nexts others p p_in))
     stand
   where

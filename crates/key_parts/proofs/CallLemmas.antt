@@ -14,12 +14,12 @@ use Rattle.key_effects.proofs.TurnLemmas.{fit-back}
 use Rattle.key_parts.specs.Parts.{Part, IsAt, IsOneOf, ShareKeys, choices_of}
 use Rattle.key_parts.specs.Steps.{IsLeftAt, MayComeNext, IsAfterCall, ArePartedBefore}
 use Rattle.key_parts.specs.Laws.{CallsComeNext, ReadsComeNext}
-use Rattle.key_parts.proofs.FewerLemmas.{AreAmong, AtSome, after_fewer, is_alone, steps_forth, steps_back, taken_then, goes_on_before}
+use Rattle.key_parts.proofs.FewerLemmas.{AreAmong, AtSome, after_fewer, is_alone, steps_forth, steps_back, taken_then, takes_less, at_few, goes_on_before}
 use Rattle.key_parts.proofs.FirstLemmas.{begun_before, completed_stays, AtEnded, IsNotLeft, not_left_none, first_left, may_come}
 use Rattle.key_parts.proofs.MaskLemmas.{masked_by, first_masked}
 use Rattle.key_parts.proofs.NextLemmas.{taken_by, IsTaken, rest_leaves, taken_none, goes_on_next}
 use Rattle.key_parts.proofs.ReadLemmas.{read_goes_on}
-use Rattle.key_parts.proofs.PartLemmas.{at_fewer, instead, keys_shared, with_other, part_steps}
+use Rattle.key_parts.proofs.PartLemmas.{at_fewer, instead, keys_shared, with_other, TakesNoMore, part_steps}
 
 -- ---- above
 
@@ -73,15 +73,18 @@ begun_first keys limit calls past ended a ended_in ended_before accepted is_left
     let left : (not (past.taken ended.inv is_left.0) && ended.concerns is_left.0) ≡ true = is_left.2 in cc)
     (may.first ended ended_in before)))
 
--- a choice that goes on after a call goes on before it
+-- a choice that goes on after a call goes on before it, and takes nothing more
 pub goes_before : (keys some : Keys) (place limit : ℕ) (calls more : List KeyedCall) (past next : Choice) (rest : List Part) (a d : KeyedCall)
     → AtSome keys some place limit calls more past next rest a d → (pasts nexts : List Choice) (v : Choice)
     → ShareKeys (record { keys = keys; pasts = pasts } ∷ rest) → choices_of (record { keys = keys; pasts = pasts } ∷ rest) v → IsAt keys next v
-    → Contains nexts past → GoesOn v more → SomeGoesOn (choices_of (record { keys = keys; pasts = nexts } ∷ rest)) more
+    → Contains nexts past → GoesOn v more → SomeGoesOn (λ w. choices_of (record { keys = keys; pasts = nexts } ∷ rest) w × TakesNoMore v w) more
 goes_before keys some place limit calls more past next rest a d at pasts nexts v shared v_is same past_in goes_on = (
   instead some past v,
-  steps_back keys some place limit calls more past next rest a d at pasts v shared v_is same nexts
-      (taken_then keys some place limit calls more past next rest a d at pasts v shared v_is same goes_on) past_in,
+  (
+    steps_back keys some place limit calls more past next rest a d at pasts v shared v_is same nexts
+        (taken_then keys some place limit calls more past next rest a d at pasts v shared v_is same goes_on) past_in,
+    takes_less keys some past a next v at.inside at.after same,
+  ),
   goes_on_before keys some place limit calls more past next rest a d at pasts v shared v_is same goes_on,
 )
 
@@ -151,24 +154,20 @@ calls_come_next
     ))
     (λ other. (w, with_other keys (past ∷ others) (nexts ++ others) rest w p w_is (Contains-append_right nexts others p other) at_p, goes_on))
     (Contains-cases past others p p_in))
-    (λ v more v_is grown goes_on.
+    (λ v few more v_is alone are grown goes_on.
     let (p, p_in, at_p) = All-head (λ part. IsOneOf part.keys part.pasts v) (record { keys = keys; pasts = nexts ++ others }) rest v_is in
     ⊎_elim
     (λ first.
     let (a, a_in, may, after) = reached p first in
-    let (d, d_in, later) = grown.stay a a_in in
-    goes_before keys some place limit calls more past p rest a d (record {
-      inside = inside;
-      parted = parted;
-      after = after;
-      may = may;
-      begun = begun_first some limit calls past ended a ended_in ended_before accepted is_left may;
-      a_in = a_in;
-      grown = grown;
-      d_in = d_in;
-      later = later;
-    }) (nexts ++ others) (past ∷ others) v shared v_is at_p (Contains-first past others) goes_on)
-    (λ other. (v, with_other keys (nexts ++ others) (past ∷ others) rest v p v_is (Contains-later past others p other) at_p, goes_on))
+    let (d, at) = at_few keys some place limit calls few more past p v rest a inside parted after may
+    (begun_first some limit calls past ended a ended_in ended_before accepted is_left may) a_in at_p are grown in
+    goes_before keys some place limit few more past p rest a d at (nexts ++ others) (past ∷ others) v shared v_is at_p
+    (Contains-first past others) goes_on)
+    (λ other. (
+      v,
+      (with_other keys (nexts ++ others) (past ∷ others) rest v p v_is (Contains-later past others p other) at_p, λ inv key taken. taken),
+      goes_on,
+    ))
     (Contains-append_cases nexts others p p_in))
     stand
   where
@@ -193,14 +192,19 @@ reads_come_next held place limit calls keys some past next others rest b inside 
     ))
     (λ other. (w, with_other keys (past ∷ others) (next ∷ others) rest w p w_is (Contains-later next others p other) at_p, goes_on))
     (Contains-cases past others p p_in))
-    (λ v more v_is grown goes_on.
+    (λ v few more v_is alone are grown goes_on.
     let (p, p_in, at_p) = All-head (λ part. IsOneOf part.keys part.pasts v) (record { keys = keys; pasts = next ∷ others }) rest v_is in
     ⊎_elim
     (λ first.
-    let (d, d_in, later) = grown.stay b b_in in
-    goes_before keys some place limit calls more past next rest b d (step more grown d d_in later) (next ∷ others) (past ∷ others) v shared v_is
-    (subst (λ (q : Choice). IsAt keys q v) (sym first) at_p) (Contains-first past others) goes_on)
-    (λ other. (v, with_other keys (next ∷ others) (past ∷ others) rest v p v_is (Contains-later past others p other) at_p, goes_on))
+    let same : IsAt keys next v = subst (λ (q : Choice). IsAt keys q v) (sym first) at_p in
+    let (d, at) = at_few keys some place limit calls few more past next v rest b inside parted after may begun b_in same are grown in
+    goes_before keys some place limit few more past next rest b d at (next ∷ others) (past ∷ others) v shared v_is same
+    (Contains-first past others) goes_on)
+    (λ other. (
+      v,
+      (with_other keys (next ∷ others) (past ∷ others) rest v p v_is (Contains-later past others p other) at_p, λ inv key taken. taken),
+      goes_on,
+    ))
     (Contains-cases next others p p_in))
     stand
   where

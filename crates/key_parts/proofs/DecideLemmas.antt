@@ -16,7 +16,7 @@ use Rattle.key_effects.proofs.PartLemmas.{none_at, parts_judge}
 use Rattle.key_effects.proofs.RestLemmas.{none_none, none_or, refused_none}
 use Rattle.key_parts.specs.Laws.{PartsDecide}
 use Rattle.key_parts.specs.Parts.{Part, IsAt, IsOneOf, choices_of, ShareKeys, left_at, AgreesAt, GoesOnAt, SomePastGoesOn, IsOfOnePart, AreOfOnePart}
-use Rattle.key_parts.proofs.PartLemmas.{all_keys, at_back, at_next, goes_on_there, instead, instead_here, instead_there, same_goes_on_there}
+use Rattle.key_parts.proofs.PartLemmas.{all_keys, at_back, at_next, goes_on_there, instead, instead_here, instead_there, same_goes_on_there, stand_below}
 use Rattle.key_parts.proofs.SomeLemmas.{keyed_left, keyed_some, some_decide}
 
 -- ---- one choice of a past for each part
@@ -210,7 +210,7 @@ parts_decide held place calls parts grown rising one stand = (
       let (w, picked) = pick calls (at_first held) parts stand.shared.apart some in
       let is : choices_of parts w = All-from_contains (λ part. IsOneOf part.keys part.pasts w) parts (λ part part_in.
       let (past, past_in, same, goes_on) = All-contains (IsPicked calls w) parts part picked part_in in (past, past_in, same)) in
-      stand.below calls grown (
+      stand_below held place calls parts stand calls grown (
         w,
         is,
         (

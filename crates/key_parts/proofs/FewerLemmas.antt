@@ -1,7 +1,7 @@
 -- Steps at some of a part's keys: at its others nothing is left of the call, and they stay what they are.
-use Rattle.std.proofs.Common.{◌≡◌, ℕ, ◌<◌, Bool, true, false, not, ◌||◌, ◌&&◌, ◌==◌, List, [], ◌∷◌, refl, sym, ◌∙◌, subst, ⊎_elim}
-use Rattle.std.specs.Prelude.{Contains}
-use Rattle.std.proofs.lemmas.Bool.{and_parts, and_from, or_right, not-true, eqb-true, eq-eqb}
+use Rattle.std.proofs.Common.{◌≡◌, ℕ, ◌<◌, Bool, true, false, not, ◌||◌, ◌&&◌, ◌==◌, cond, List, [], ◌∷◌, inl, inr, refl, sym, ◌∙◌, subst, ⊎_elim}
+use Rattle.std.specs.Prelude.{◌⊎◌, Contains}
+use Rattle.std.proofs.lemmas.Bool.{and_parts, and_from, or_left, or_right, not-true, eqb-true, eq-eqb}
 use Rattle.std.proofs.lemmas.List.Elements.{All-contains}
 use Rattle.list_laws.proofs.Lists.{Contains-first}
 use Rattle.key_effects.specs.KeyedCalls.{KeyedCall, IsFormed, IsNoEffect}
@@ -10,12 +10,13 @@ use Rattle.key_effects.specs.Choices.{Choice, rest_of, GoesOn, Agrees}
 use Rattle.key_effects.specs.Cuts.{Keys, IsWithin, IsOutside}
 use Rattle.key_effects.specs.Apart.{other_keys}
 use Rattle.key_effects.proofs.CutLemmas.{outside_none}
+use Rattle.key_effects.proofs.DeadLemmas.{bool_cases}
 use Rattle.key_effects.proofs.RestLemmas.{later_stands}
-use Rattle.key_parts.specs.Parts.{Part, IsAt, ShareKeys, choices_of}
+use Rattle.key_parts.specs.Parts.{Part, IsAt, ShareKeys, AreSomeOf, choices_of}
 use Rattle.key_parts.specs.Steps.{NoneIsLeftAt, MayComeNext, IsAfterCall, ArePartedBefore}
 use Rattle.key_parts.proofs.FirstLemmas.{left_later}
 use Rattle.key_parts.proofs.InsertLemmas.{goes_back}
-use Rattle.key_parts.proofs.PartLemmas.{at_back, at_next, at_fewer, at_both, instead, instead_here, instead_there, with_past, with_instead}
+use Rattle.key_parts.proofs.PartLemmas.{at_back, at_next, at_fewer, at_both, instead, instead_here, instead_there, with_past, with_instead, TakesNoMore}
 
 abbrev pub AreAmong : Keys → Keys → Type 0
 AreAmong some keys = (key : ℕ) → some key ≡ true → keys key ≡ true
@@ -189,3 +190,53 @@ module _ (keys some : Keys) (place limit : ℕ) (calls more : List KeyedCall) (p
           later = at.later;
           agrees = goes_on.0;
         }) goes_on
+
+-- ---- some of the calls, with all that a choice took which took the step
+
+-- it took the call where that is left
+pub taken_after : (keys : Keys) (past : Choice) (a : KeyedCall) (next v : Choice) → IsAfterCall keys past a next → IsAt keys next v → (key : ℕ)
+    → keys key ≡ true → (rest_of past a).concerns key ≡ true → v.taken a.inv key ≡ true
+taken_after keys past a next v after same key is left =
+    let (untaken, there) = and_parts (not (past.taken a.inv key)) (a.concerns key) left in
+    same.taken a.inv key is ∙ after.taken a.inv key is
+    ∙ or_right (past.taken a.inv key) ((a.inv == a.inv) && a.concerns key)
+    (and_from (a.inv == a.inv) (a.concerns key) (eq-eqb a.inv a.inv refl) there)
+
+-- and one that has the past instead took nothing more
+pub takes_less : (keys some : Keys) (past : Choice) (a : KeyedCall) (next v : Choice) → AreAmong some keys → IsAfterCall keys past a next
+    → IsAt keys next v → TakesNoMore v (instead some past v)
+takes_less keys some past a next v inside after same inv key = by_key (bool_cases (some key))
+  where
+    by_key : (some key ≡ true) ⊎ (some key ≡ false) → cond (some key) (past.taken inv key) (v.taken inv key) ≡ true → v.taken inv key ≡ true
+    by_key (inl is) taken =
+        let before : past.taken inv key ≡ true = rw is at taken in
+        same.taken inv key (inside key is) ∙ after.taken inv key (inside key is)
+        ∙ or_left (past.taken inv key) ((inv == a.inv) && a.concerns key) before
+    by_key (inr is) taken = let there : v.taken inv key ≡ true = rw is at taken in there
+
+pub at_few : (keys some : Keys) (place limit : ℕ) (calls few more : List KeyedCall) (past next v : Choice) (rest : List Part) (a : KeyedCall)
+    → AreAmong some keys → ArePartedBefore some limit (record { keys = keys; pasts = past ∷ [] } ∷ rest) calls → IsAfterCall keys past a next
+    → MayComeNext some past calls a → a.inv < limit → Contains calls a → IsAt keys next v → AreSomeOf v calls few → HaveGrown place few more
+    → (d : KeyedCall) × AtSome keys some place limit few more past next rest a d
+at_few keys some place limit calls few more past next v rest a inside parted after may begun a_in same are grown =
+    let (key, is, left) = may.is_left in
+    let in_few : Contains few a = are.taken a key a_in (taken_after keys past a next v after same key (inside key is) left) in
+    let (d, d_in, later) = grown.stay a in_few in (
+      d,
+      record {
+        inside = inside;
+        parted = λ w b w_is b_in. parted w b w_is (are.from b b_in);
+        after = after;
+        may = record {
+          is_left = may.is_left;
+          accepted = may.accepted;
+          fits = may.fits;
+          first = λ b b_in before. may.first b (are.from b b_in) before;
+        };
+        begun = begun;
+        a_in = in_few;
+        grown = grown;
+        d_in = d_in;
+        later = later;
+      },
+    )

@@ -20,3 +20,4 @@ pub mod ComeLemmas
 pub mod EventLemmas
 pub mod UniteLemmas
 pub mod AnswerLemmas
+pub mod ReachLemmas

@@ -1,24 +1,27 @@
 -- Choices at some keys. `at_self`, `at_back`, `at_next`: being the same at some keys is an equivalence. `at_fewer`, `at_both`: at fewer keys,
 -- and at those of two sets. `instead`: a choice that is another at some keys. `goes_on_there`: a choice that goes on to an order goes on to one
 -- at some keys, and so does what it is there. `same_goes_on`: what is the same at all keys goes on too. `keys_shared`, `with_past`,
--- `with_instead`, `with_other`: a part with other pasts. `part_steps`: parts stand where one of them took a step.
-use Rattle.std.proofs.Common.{◌≡◌, ℕ, Bool, true, false, not, ◌||◌, ◌&&◌, cond, List, [], ◌∷◌, map, Option, inl, inr, refl, sym, ap, ◌∙◌, subst, ⊎_elim}
-use Rattle.std.specs.Prelude.{◌⊎◌, Contains}
+-- `with_instead`, `with_other`: a part with other pasts. `stand_below`: choices that are reached stand below the calls. `few_are`, `few_grown`: the
+-- calls that some grew from. `part_steps`: parts stand where one of them took a step.
+use Rattle.std.proofs.Common.{◌≡◌, ℕ, ◌<◌, Bool, true, false, not, ◌||◌, ◌&&◌, cond, List, [], ◌∷◌, map, Option, inl, inr, refl, sym, ap, ◌∙◌, subst, ⊎_elim}
+use Rattle.std.specs.Prelude.{◌≢◌, ◌⊎◌, Contains, filter}
 use Rattle.std.proofs.lemmas.List.Elements.{All-cons, All-tail, All-contains}
-use Rattle.std.proofs.lemmas.List.Kept.{AllPairs-cons}
+use Rattle.std.proofs.lemmas.List.Kept.{AllPairs-cons, AllPairs-filter}
 use Rattle.list_laws.proofs.FilterLemmas.{Contains-from_map}
-use Rattle.list_laws.proofs.Lists.{AllPairs-head, AllPairs-tail, All-from_contains, Contains-first, Contains-later, Contains-cases}
+use Rattle.list_laws.proofs.Lists.{AllPairs-head, AllPairs-tail, All-from_contains, Contains-first, Contains-later, Contains-cases, Contains-filter, Contains-from_filter}
 use mathlib.Core.Path.{fun_ext}
-use Rattle.key_effects.specs.KeyedCalls.{KeyedCall, Effect, no_effect, IsNoEffect}
-use Rattle.key_effects.specs.KeyedOrders.{FitInTurn, HasKeyedOrder}
+use Rattle.key_effects.specs.KeyedCalls.{KeyedCall, Effect, no_effect, IsFormed, IsNoEffect, precedes}
+use Rattle.key_effects.specs.KeyedOrders.{AreDistinct, FitInTurn, HasKeyedOrder}
 use Rattle.key_effects.specs.Growth.{HaveGrown}
-use Rattle.key_effects.specs.Choices.{Choice, Agrees, rest_of, GoesOn, SomeGoesOn}
-use Rattle.key_effects.specs.Cuts.{Keys}
+use Rattle.key_effects.specs.Choices.{Choice, Agrees, rest_of, GoesOn, SomeGoesOn, StandBelow}
+use Rattle.key_effects.specs.Cuts.{Keys, has_call}
 use Rattle.key_effects.specs.Apart.{only, other_keys, AreApart}
 use Rattle.key_effects.proofs.ApartLemmas.{some_refute}
+use Rattle.key_effects.proofs.AfterLemmas.{named_in, from_named}
 use Rattle.key_effects.proofs.DeadLemmas.{bool_cases}
+use Rattle.key_effects.proofs.OrderLemmas.{same_call}
 use Rattle.key_effects.proofs.RestLemmas.{none_none}
-use Rattle.key_parts.specs.Parts.{Part, IsAt, IsOneOf, choices_of, ShareKeys, StandFor, left_at, AgreesAt, GoesOnAt}
+use Rattle.key_parts.specs.Parts.{Part, IsAt, IsOneOf, choices_of, ShareKeys, AreSomeOf, StandFor, left_at, AgreesAt, GoesOnAt}
 
 -- ---- choices that are the same at some keys
 
@@ -274,16 +277,81 @@ with_other keys pasts nexts rest w past is past_in same =
     All-cons (λ part. IsOneOf part.keys part.pasts w) (record { keys = keys; pasts = nexts }) rest (past, past_in, same)
     (All-tail (λ part. IsOneOf part.keys part.pasts w) (record { keys = keys; pasts = pasts }) rest is)
 
--- the first of parts took a step: each of its choices that goes on has one after the step that does, and the other way round
+-- ---- some of the calls
+
+pub stand_below : (held : ℕ → Option ℕ) (place : ℕ) (calls : List KeyedCall) (parts : List Part) → StandFor held place calls parts
+    → StandBelow held place calls (choices_of parts)
+stand_below held place calls parts stand more grown some =
+    stand.reached more more some.0 grown some.1
+    (record { from = λ a a_in. a_in; taken = λ a key a_in taken. a_in; distinct = grown.apart.distinct }) some.2
+
+-- the calls whose names are among those of some
+abbrev pub those_of : List KeyedCall → List KeyedCall → List KeyedCall
+those_of calls some = filter (λ a. has_call some a.inv) calls
+
+module _ (place : ℕ) (calls more some : List KeyedCall) (w : Choice) (grown : HaveGrown place calls more) (are : AreSomeOf w more some) where
+  pub few_are : AreSomeOf w calls (those_of calls some)
+  few_are = record {
+    from = λ a a_in. (Contains-from_filter (λ a. has_call some a.inv) calls a a_in).0;
+    taken = λ a key a_in taken.
+        let (b, b_in, later) = grown.stay a a_in in
+        let in_some : Contains some b = are.taken b key b_in (subst (λ (n : ℕ). w.taken n key ≡ true) (sym later.inv) taken) in
+        Contains-filter (λ a. has_call some a.inv) calls a a_in
+        (subst (λ (n : ℕ). has_call some n ≡ true) later.inv (named_in some b in_some));
+    distinct = AllPairs-filter (λ x y. x.inv ≢ y.inv) (λ a. has_call some a.inv) calls grown.alone;
+  }
+
+  pub few_grown : HaveGrown place (those_of calls some) some
+  few_grown = record {
+    begun = All-from_contains (λ a. a.inv < place) (those_of calls some) (λ a a_in.
+        All-contains (λ a. a.inv < place) calls a grown.begun (few_are.from a a_in));
+    ended = λ a res a_in is. grown.ended a res (few_are.from a a_in) is;
+    stay = λ a a_in.
+        let (a_old, named) = Contains-from_filter (λ a. has_call some a.inv) calls a a_in in
+        let (b, b_in, later) = grown.stay a a_old in
+        let (c, c_in, c_is) = from_named some a.inv named in
+        let one : c ≡ b = same_call more c b grown.apart.distinct (are.from c c_in) b_in (c_is ∙ sym later.inv) in
+        (b, subst (λ (z : KeyedCall). Contains some z) one c_in, later);
+    come = λ b b_in. ⊎_elim
+        (λ old.
+        let (a, a_in, later) = old in
+        inl (
+          a,
+          Contains-filter (λ a. has_call some a.inv) calls a a_in
+              (subst (λ (n : ℕ). has_call some n ≡ true) later.inv (named_in some b b_in)),
+          later,
+        ))
+        (λ new. inr new)
+        (grown.come b (are.from b b_in));
+    alone = few_are.distinct;
+    formed = All-from_contains IsFormed some (λ b b_in. All-contains IsFormed more b grown.formed (are.from b b_in));
+    apart = record {
+      distinct = are.distinct;
+      last = All-from_contains (λ b. precedes b b ≡ false) some (λ b b_in.
+          All-contains (λ b. precedes b b ≡ false) more b grown.apart.last (are.from b b_in));
+    };
+  }
+
+-- a choice takes nothing that another does not
+abbrev pub TakesNoMore : Choice → Choice → Type 0
+TakesNoMore v w = (inv key : ℕ) → w.taken inv key ≡ true → v.taken inv key ≡ true
+
+-- the first of parts took a step: each of its choices that goes on has one after the step that does; and of any calls among which are all that a
+-- choice after the step took, one that goes on has one before it that does, and takes nothing more
 pub part_steps : (held : ℕ → Option ℕ) (place : ℕ) (calls : List KeyedCall) (keys : Keys) (pasts nexts : List Choice) (rest : List Part)
     → ((w : Choice) (more : List KeyedCall) → choices_of (record { keys = keys; pasts = pasts } ∷ rest) w → HaveGrown place calls more → GoesOn w more
     → SomeGoesOn (choices_of (record { keys = keys; pasts = nexts } ∷ rest)) more)
-    → ((w : Choice) (more : List KeyedCall) → choices_of (record { keys = keys; pasts = nexts } ∷ rest) w → HaveGrown place calls more → GoesOn w more
-    → SomeGoesOn (choices_of (record { keys = keys; pasts = pasts } ∷ rest)) more)
+    → ((v : Choice) (few more : List KeyedCall) → choices_of (record { keys = keys; pasts = nexts } ∷ rest) v → AreDistinct calls
+    → AreSomeOf v calls few → HaveGrown place few more → GoesOn v more
+    → SomeGoesOn (λ w. choices_of (record { keys = keys; pasts = pasts } ∷ rest) w × TakesNoMore v w) more)
     → StandFor held place calls (record { keys = keys; pasts = pasts } ∷ rest)
     → StandFor held place calls (record { keys = keys; pasts = nexts } ∷ rest)
 part_steps held place calls keys pasts nexts rest forth back stand = record {
   shared = keys_shared keys pasts nexts rest stand.shared;
   above = λ more grown order. let (w, w_is, goes_on) = stand.above more grown order in forth w more w_is grown goes_on;
-  below = λ more grown some. stand.below more grown (back some.0 more some.1 grown some.2);
+  reached = λ more some v grown v_is are goes_on.
+      let (w, both, goes_before) = back v (those_of calls some) some v_is grown.alone (few_are place calls more some v grown are)
+      (few_grown place calls more some v grown are) goes_on in
+      stand.reached more some w grown both.0
+      (record { from = are.from; taken = λ a key a_in taken. are.taken a key a_in (both.1 a.inv key taken); distinct = are.distinct }) goes_before;
 }

@@ -2,7 +2,7 @@
 -- `read_back`, `none_back`: one goes on where the other does, which has taken it.
 use Rattle.std.proofs.Common.{◌≡◌, ℕ, ◌==◌, ◌<◌, Bool, true, false, not, ◌&&◌, ◌||◌, cond, List, [], ◌∷◌, ◌++◌, map, Option, inl, inr, refl, sym, ap, ◌∙◌, subst, ⊎_elim, arith}
 use Rattle.std.specs.Prelude.{◌≢◌, ◌⊎◌, All, Contains}
-use Rattle.std.proofs.lemmas.Bool.{eqb-true, eq-eqb, and_parts}
+use Rattle.std.proofs.lemmas.Bool.{eqb-true, eq-eqb, and_parts, or_left, or_right}
 use Rattle.std.proofs.lemmas.List.Elements.{All-head, All-contains, Contains-append_left}
 use Rattle.list_laws.proofs.FilterLemmas.{AllPairs-map, Contains-map, Contains-from_map}
 use Rattle.list_laws.proofs.Lists.{AllPairs-across, AllPairs-back, AllPairs-head, All-from_contains, Contains-first, Contains-later, Contains-cases, Contains-split}
@@ -11,16 +11,18 @@ use Rattle.key_effects.specs.KeyedCalls.{KeyedCall, Effect, IsNoEffect, IsFormed
 use Rattle.key_effects.specs.KeyedOrders.{FitInTurn, AreDistinct, KeepPrecedence, IsKeyedOrder, AreKeyedCalls}
 use Rattle.key_effects.specs.Growth.{LeaveTheSame, IsAnsweredAs, IsLater, HaveGrown}
 use Rattle.key_effects.specs.Choices.{Choice, rest_of, Agrees, GoesOn, SomeGoesOn}
-use Rattle.key_effects.specs.Cuts.{Keys}
+use Rattle.key_effects.specs.Cuts.{Keys, has_call}
 use Rattle.key_effects.specs.Apart.{other_keys, AreApart, IsQuiet}
+use Rattle.key_effects.proofs.AfterLemmas.{named_in, from_named}
 use Rattle.key_effects.proofs.DeadLemmas.{bool_cases, response_of}
 use Rattle.key_effects.proofs.OrderLemmas.{same_call, ends_at}
 use Rattle.key_effects.proofs.RestLemmas.{none_none, refused_none}
 use Rattle.key_parts.specs.Laws.{ReadsAreTakenAtRest}
 use Rattle.key_parts.specs.CallLaws.{CallsWithoutEffectAreTaken}
-use Rattle.key_parts.specs.Parts.{Part, IsAt, IsOneOf, choices_of, StandFor}
+use Rattle.key_parts.specs.Parts.{Part, IsAt, IsOneOf, AreSomeOf, choices_of, StandFor}
 use Rattle.key_parts.specs.Steps.{IsAfterCall, IsReadAt, IsAtRest}
-use Rattle.key_parts.proofs.PartLemmas.{at_back, instead, instead_here, instead_there, keys_shared, with_instead, with_other, part_steps}
+use Rattle.key_parts.proofs.PartLemmas.{at_back, instead, instead_here, instead_there, keys_shared, with_instead, with_other, TakesNoMore, part_steps}
+use Rattle.key_parts.proofs.FewerLemmas.{takes_less}
 use Rattle.key_parts.proofs.FirstLemmas.{completed_stays}
 use Rattle.key_parts.proofs.ReadLemmas.{read_comes, read_fits, read_quiet}
 
@@ -393,64 +395,120 @@ at_rest place calls more keys past next v b grown b_in completed rest after same
 apart_others : (keys : Keys) → AreApart keys (other_keys keys)
 apart_others keys key is = rw is refl
 
+or_false : (t c : Bool) → c ≡ false → (t || c) ≡ t
+or_false true c is = refl
+or_false false c is = is
+
+-- a choice that has taken a read at some keys, where it has taken nothing of it, is one that has not
+at_untaken : (keys : Keys) (past next : Choice) (b : KeyedCall) (v : Choice) → IsAfterCall keys past b next → IsReadAt keys past b
+    → ((key : ℕ) → keys key ≡ true → ((rest_of past b).effect key).fits (past.holds key) ≡ true) → IsAt keys next v
+    → ((key : ℕ) → v.taken b.inv key ≡ true → ⊥) → IsAt keys past v
+at_untaken keys past next b v after read fits second never = record {
+  taken = λ inv key is.
+      second.taken inv key is ∙ after.taken inv key is ∙ still inv key is (bool_cases ((inv == b.inv) && b.concerns key));
+  found = λ inv key is taken.
+      let next_taken : next.taken inv key ≡ true =
+      after.taken inv key is ∙ or_left (past.taken inv key) ((inv == b.inv) && b.concerns key) taken in
+      second.found inv key is next_taken ∙ after.found_before inv key is taken;
+  holds = λ key is. second.holds key is ∙ after.holds key is ∙ read key is (past.holds key) (fits key is);
+}
+  where
+    still : (inv key : ℕ) → keys key ≡ true → ((inv == b.inv) && b.concerns key) ≡ true ⊎ (((inv == b.inv) && b.concerns key) ≡ false)
+        → (past.taken inv key || ((inv == b.inv) && b.concerns key)) ≡ past.taken inv key
+    still inv key is (inl some) =
+        let named : inv ≡ b.inv = eqb-true inv b.inv (and_parts (inv == b.inv) (b.concerns key) some).0 in
+        let taken : v.taken inv key ≡ true =
+        second.taken inv key is ∙ after.taken inv key is ∙ or_right (past.taken inv key) ((inv == b.inv) && b.concerns key) some in
+        absurd (never key (subst (λ (n : ℕ). v.taken n key ≡ true) named taken))
+    still inv key is (inr none) = or_false (past.taken inv key) ((inv == b.inv) && b.concerns key) none
+
 -- a read is taken at keys, where each choice that has it goes on as the one that leaves it
 read_taken : (held : ℕ → Option ℕ) (place : ℕ) (calls : List KeyedCall) (keys : Keys) (past next : Choice) (others : List Choice) (rest : List Part)
     (b : KeyedCall) → Contains calls b → is_completed b ≡ true → b.refused ≡ false → IsReadAt keys past b
     → ((key : ℕ) → keys key ≡ true → ((rest_of past b).effect key).fits (past.holds key) ≡ true) → IsAfterCall keys past b next
-    → ((w v : Choice) (more : List KeyedCall) → HaveGrown place calls more → IsAt keys past w → IsAt keys next v
-    → AtRead (concerned keys b) more w v b → GoesOn v more → GoesOn w more)
+    → ((w v : Choice) (few more : List KeyedCall) → ((a : KeyedCall) → Contains few a → Contains calls a) → Contains few b
+    → HaveGrown place few more → IsAt keys past w → IsAt keys next v → AtRead (concerned keys b) more w v b → GoesOn v more → GoesOn w more)
     → StandFor held place calls (record { keys = keys; pasts = past ∷ others } ∷ rest)
     → StandFor held place calls (record { keys = keys; pasts = next ∷ others } ∷ rest)
 read_taken held place calls keys past next others rest b b_in completed accepted read fits after given stand =
     part_steps held place calls keys (past ∷ others) (next ∷ others) rest
     (read_comes place calls keys past next others rest b b_in completed accepted read fits after stand.shared) back stand
   where
-    in_more : (more : List KeyedCall) → HaveGrown place calls more → Contains more b
-    in_more more grown = completed_stays place calls more b grown b_in completed
-
-    at_read : (w v : Choice) (more : List KeyedCall) → HaveGrown place calls more → IsAt keys past w → IsAt keys next v → IsAt (other_keys keys) w v
-        → AtRead (concerned keys b) more w v b
-    at_read w v more grown first second same = record {
-      b_in = in_more more grown;
+    at_read : (w v : Choice) (few more : List KeyedCall) → Contains few b → HaveGrown place few more → IsAt keys past w → IsAt keys next v
+        → IsAt (other_keys keys) w v → AtRead (concerned keys b) more w v b
+    at_read w v few more in_few grown first second same = record {
+      b_in = in_more;
       apart = grown.apart;
       completed = completed;
       taken = at_taken keys past next b w v after read fits first second same;
       quiet = λ key here.
-          read_quiet keys place calls more past next w b first grown (in_more more grown) accepted read fits after key
+          read_quiet keys place few more past next w b first grown in_more accepted read fits after key
           (and_parts (keys key) (b.concerns key) here).0;
       fits = λ key here.
-          read_fits keys place calls more past next w b first grown (in_more more grown) accepted read fits after key
+          read_fits keys place few more past next w b first grown in_more accepted read fits after key
           (and_parts (keys key) (b.concerns key) here).0;
     }
+      where
+        in_more : Contains more b
+        in_more = completed_stays place few more b grown in_few completed
 
-    back : (v : Choice) (more : List KeyedCall) → choices_of (record { keys = keys; pasts = next ∷ others } ∷ rest) v → HaveGrown place calls more
-        → GoesOn v more → SomeGoesOn (choices_of (record { keys = keys; pasts = past ∷ others } ∷ rest)) more
-    back v more v_is grown goes_on =
+    back : (v : Choice) (few more : List KeyedCall) → choices_of (record { keys = keys; pasts = next ∷ others } ∷ rest) v → AreDistinct calls
+        → AreSomeOf v calls few → HaveGrown place few more → GoesOn v more
+        → SomeGoesOn (λ w. choices_of (record { keys = keys; pasts = past ∷ others } ∷ rest) w × TakesNoMore v w) more
+    back v few more v_is alone are grown goes_on =
         let (p, p_in, same) = All-head (λ part. IsOneOf part.keys part.pasts v) (record { keys = keys; pasts = next ∷ others }) rest v_is in
         ⊎_elim
         (λ one.
-        let second : IsAt keys next v = subst (λ (z : Choice). IsAt keys z v) (sym one) same in (
-          instead keys past v,
-          with_instead keys (next ∷ others) (past ∷ others) rest past v
-              (keys_shared keys (past ∷ others) (next ∷ others) rest stand.shared) (Contains-first past others) v_is,
-          given (instead keys past v) v more grown (instead_here keys past v) second
-              (at_read (instead keys past v) v more grown (instead_here keys past v) second
-              (at_back (other_keys keys) v (instead keys past v) (instead_there keys (other_keys keys) past v (apart_others keys))))
-              goes_on,
+        let second : IsAt keys next v = subst (λ (z : Choice). IsAt keys z v) (sym one) same in
+        by_name second (bool_cases (has_call few b.inv)))
+        (λ later. (
+          v,
+          (with_other keys (next ∷ others) (past ∷ others) rest v p v_is (Contains-later past others p later) same, λ inv key taken. taken),
+          goes_on,
         ))
-        (λ later. (v, with_other keys (next ∷ others) (past ∷ others) rest v p v_is (Contains-later past others p later) same, goes_on))
         (Contains-cases next others p p_in)
+      where
+        by_name : IsAt keys next v → (has_call few b.inv ≡ true) ⊎ (has_call few b.inv ≡ false)
+            → SomeGoesOn (λ w. choices_of (record { keys = keys; pasts = past ∷ others } ∷ rest) w × TakesNoMore v w) more
+        by_name second (inl named) =
+            let (c, c_in, c_is) = from_named few b.inv named in
+            let in_few : Contains few b = subst (Contains few) (same_call calls c b alone (are.from c c_in) b_in c_is) c_in in (
+              instead keys past v,
+              (
+                with_instead keys (next ∷ others) (past ∷ others) rest past v
+                    (keys_shared keys (past ∷ others) (next ∷ others) rest stand.shared) (Contains-first past others) v_is,
+                takes_less keys keys past b next v (λ key is. is) after second,
+              ),
+              given (instead keys past v) v few more are.from in_few grown (instead_here keys past v) second
+                  (at_read (instead keys past v) v few more in_few grown (instead_here keys past v) second
+                  (at_back (other_keys keys) v (instead keys past v) (instead_there keys (other_keys keys) past v (apart_others keys))))
+                  goes_on,
+            )
+        by_name second (inr unnamed) = (
+          v,
+          (
+            with_other keys (next ∷ others) (past ∷ others) rest v past v_is (Contains-first past others)
+                (at_untaken keys past next b v after read fits second (λ key taken.
+                let named : has_call few b.inv ≡ true = named_in few b (are.taken b key b_in taken) in
+                let never : has_call few b.inv ≡ false = unnamed in cc)),
+            λ inv key taken. taken,
+          ),
+          goes_on,
+        )
 
 pub reads_at_rest : ReadsAreTakenAtRest
 reads_at_rest held place calls keys past next others rest b b_in completed accepted read fits quiet after =
-    read_taken held place calls keys past next others rest b b_in completed accepted read fits after (λ w v more grown first second at.
-    read_back (concerned keys b) more w v b at (at_rest place calls more keys past next v b grown b_in completed quiet after second))
+    read_taken held place calls keys past next others rest b b_in completed accepted read fits after
+    (λ w v few more among in_few grown first second at.
+    read_back (concerned keys b) more w v b at (at_rest place few more keys past next v b grown in_few completed
+    (λ a key a_in is concerns. quiet a key (among a a_in) is concerns) after second))
 
 -- a call that has no effect at the keys is a read there, and gains and loses nothing as it is taken
 pub calls_without_effect : CallsWithoutEffectAreTaken
 calls_without_effect held place calls keys past next others rest b b_in completed accepted none after =
     read_taken held place calls keys past next others rest b b_in completed accepted
-    (λ key is value fit. (none key is).leaves value) (λ key is. (none key is).fits (past.holds key)) after (λ w v more grown first second at.
+    (λ key is value fit. (none key is).leaves value) (λ key is. (none key is).fits (past.holds key)) after
+    (λ w v few more among in_few grown first second at.
     none_back (concerned keys b) more w v b at (λ key here.
     let is : keys key ≡ true = (and_parts (keys key) (b.concerns key) here).0 in
     subst (λ (t : Bool). IsNoEffect (cond t no_effect (b.effect key))) (sym (first.taken b.inv key is)) (none key is)))

@@ -13,7 +13,7 @@ use Rattle.key_effects.proofs.GrowthLemmas.{growth_on}
 use Rattle.key_parts.specs.Parts.{Part, IsAt, IsOneOf, choices_of, ShareKeys}
 use Rattle.key_parts.specs.Steps.{AreJoined}
 use Rattle.key_parts.specs.Laws.{PartsBegin, PartsStay, PartsInAnyOrder, PartsUnite, DeadPastsGo}
-use Rattle.key_parts.proofs.PartLemmas.{all_keys, at_self, at_back, at_next, at_fewer, at_both, or_cases, same_goes_on, goes_on_there, part_steps}
+use Rattle.key_parts.proofs.PartLemmas.{all_keys, at_self, at_back, at_next, at_fewer, at_both, or_cases, same_goes_on, goes_on_there, few_grown, part_steps}
 
 pub parts_begin : PartsBegin
 parts_begin held = record {
@@ -30,12 +30,11 @@ parts_begin held = record {
             (All-nil (λ part. IsOneOf part.keys part.pasts (at_first held))),
         subst (λ (v : Choice). GoesOn v more) same goes_on,
       );
-  below = λ more grown some.
-      let (w, w_is, goes_on) = some in
+  reached = λ more some w grown w_is are goes_on.
       let (past, past_in, same) = All-head (λ part. IsOneOf part.keys part.pasts w) first [] w_is in
       ⊎_elim
-      (λ is. (begin held).1 more grown
-      (at_first held, refl, same_goes_on (at_first held) w more (subst (λ (v : Choice). IsAt all_keys v w) (sym is) same) goes_on))
+      (λ is. (begin held).1 some (few_grown 0 [] more some w grown are)
+      (at_first held, refl, same_goes_on (at_first held) w some (subst (λ (v : Choice). IsAt all_keys v w) (sym is) same) goes_on))
       (λ later. absurd (Contains-nil past later))
       (Contains-cases (at_first held) [] past past_in);
 }
@@ -47,7 +46,8 @@ pub parts_stay : PartsStay
 parts_stay held place next calls more parts less grown stand = record {
   shared = stand.shared;
   above = λ most grows order. stand.above most (growth_on place next calls more most less grown grows) order;
-  below = λ most grows some. stand.below most (growth_on place next calls more most less grown grows) some;
+  reached = λ most some w grows w_is are goes_on.
+      stand.reached most some w (growth_on place next calls more most less grown grows) w_is are goes_on;
 }
 
 pub parts_in_any_order : PartsInAnyOrder
@@ -60,14 +60,11 @@ parts_in_any_order held place calls parts others shared forth back stand = recor
             All-contains (λ other. IsOneOf other.keys other.pasts w) parts part w_is (back part part_in)),
         goes_on,
       );
-  below = λ more grown some.
-      let (w, w_is, goes_on) = some in
-      stand.below more grown (
-        w,
-        All-from_contains (λ part. IsOneOf part.keys part.pasts w) parts (λ part part_in.
-            All-contains (λ other. IsOneOf other.keys other.pasts w) others part w_is (forth part part_in)),
-        goes_on,
-      );
+  reached = λ more some w grown w_is are goes_on.
+      stand.reached more some w grown
+      (All-from_contains (λ part. IsOneOf part.keys part.pasts w) parts (λ part part_in.
+      All-contains (λ other. IsOneOf other.keys other.pasts w) others part w_is (forth part part_in)))
+      are goes_on;
 }
 
 -- ---- pasts that go
@@ -91,9 +88,9 @@ dead_pasts_go held place calls keys pasts left rest kept back stand =
     (λ stays. (w, first_part keys pasts left rest w (one_of_next keys left past w stays same) w_is, goes_on))
     (λ dead. absurd (dead (goes_on_there keys past w calls same (dead_stay_dead place calls more w grown goes_on))))
     (kept past past_in))
-    (λ w more w_is grown goes_on.
+    (λ w few more w_is alone are grown goes_on.
     let (past, past_in, same) = All-head (λ part. IsOneOf part.keys part.pasts w) (record { keys = keys; pasts = left }) rest w_is in
-    (w, first_part keys left pasts rest w (one_of_next keys pasts past w (back past past_in) same) w_is, goes_on))
+    (w, (first_part keys left pasts rest w (one_of_next keys pasts past w (back past past_in) same) w_is, λ inv key taken. taken), goes_on))
     stand
 
 -- ---- two parts that become one
@@ -192,11 +189,11 @@ parts_unite held place calls part other both rest apart joined = (
   λ stand. record {
     shared = shared_united part other both rest joined stand.shared;
     above = λ more grown order. let (w, w_is, goes_on) = stand.above more grown order in (w, united part other both rest joined w w_is, goes_on);
-    below = λ more grown some. stand.below more grown (some.0, parted part other both rest joined some.0 some.1, some.2);
+    reached = λ more some w grown w_is are goes_on. stand.reached more some w grown (parted part other both rest joined w w_is) are goes_on;
   },
   λ stand. record {
     shared = shared_parted part other both rest joined apart stand.shared;
     above = λ more grown order. let (w, w_is, goes_on) = stand.above more grown order in (w, parted part other both rest joined w w_is, goes_on);
-    below = λ more grown some. stand.below more grown (some.0, united part other both rest joined some.0 some.1, some.2);
+    reached = λ more some w grown w_is are goes_on. stand.reached more some w grown (united part other both rest joined w w_is) are goes_on;
   },
 )

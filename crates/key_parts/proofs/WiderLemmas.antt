@@ -19,7 +19,7 @@ use Rattle.key_effects.proofs.TurnLemmas.{fit-back}
 use Rattle.key_parts.specs.Parts.{Part, IsAt, IsOneOf, choices_of, StandFor, left_at, AgreesAt, SomePastGoesOn}
 use Rattle.key_parts.specs.Steps.{IsLeftAt, NoneIsLeftAt, MayComeNext, IsAfterCall}
 use Rattle.key_parts.specs.Laws.{PartsMayBeTied, PastsMayStay, TiedCallsMayWait, EarlyReadsGain}
-use Rattle.key_parts.proofs.PartLemmas.{all_keys, at_self, at_back, same_goes_on, fit_none, none_left_out}
+use Rattle.key_parts.proofs.PartLemmas.{all_keys, at_self, at_back, same_goes_on, fit_none, none_left_out, stand_below}
 use Rattle.key_parts.proofs.StepLemmas.{parts_begin, parts_stay, parts_unite}
 
 abbrev nothing : ℕ → Option ℕ
@@ -372,7 +372,7 @@ early_reads_gain rule =
     (λ key is value fits. at_cases (λ e. e.leaves value ≡ value) 0 key (read_of None) refl refl)
     (λ key is. at_cases (λ e. e.fits None ≡ true) 0 key (read_of None) refl refl) after_none
     (stands_first 4 (put ∷ get ∷ []) formed_put keyed_put) in
-    never_put (stand.below (put ∷ get ∷ []) grown_put (with_none, is_only_past with_none, goes_on_early))
+    never_put (stand_below nothing 4 (put ∷ get ∷ []) (record { keys = all_keys; pasts = with_none ∷ [] } ∷ []) stand (put ∷ get ∷ []) grown_put (with_none, is_only_past with_none, goes_on_early))
 
 -- ---- inserts at two keys, one before the other, and a scan that finds what the later put, and not what the earlier did
 

@@ -2,8 +2,9 @@
 -- alone count. So what is known of one part does not depend on what the others have come to.
 use Rattle.std.specs.Prelude.{◌≡◌, ◌⊎◌, ℕ, true, false, List, map, All, AllPairs, Contains, Option}
 use Rattle.key_effects.specs.KeyedCalls.{KeyedCall, is_completed}
-use Rattle.key_effects.specs.KeyedOrders.{HasKeyedOrder}
-use Rattle.key_effects.specs.Choices.{Choice, Choices, rest_of, StandAbove, StandBelow}
+use Rattle.key_effects.specs.KeyedOrders.{HasKeyedOrder, AreDistinct}
+use Rattle.key_effects.specs.Growth.{HaveGrown}
+use Rattle.key_effects.specs.Choices.{Choice, Choices, rest_of, GoesOn, StandAbove}
 use Rattle.key_effects.specs.Cuts.{Keys, IsWithin}
 use Rattle.key_effects.specs.Apart.{only, AreApart, IsRead}
 
@@ -31,11 +32,24 @@ pub record ShareKeys (parts : List Part) : Type 0 where
   pub apart : AllPairs (λ part other. AreApart part.keys other.keys) parts
   pub every : (key : ℕ) → (part : Part) × Contains parts part × (part.keys key ≡ true)
 
--- parts stand for the calls so far, whatever events follow: their choices stand above the calls, and below
+-- some of the calls, with all that a choice took
+pub record AreSomeOf (w : Choice) (calls some : List KeyedCall) : Type 0 where
+  pub from : (a : KeyedCall) → Contains some a → Contains calls a
+  pub taken : (a : KeyedCall) (key : ℕ) → Contains calls a → w.taken a.inv key ≡ true → Contains some a
+  pub distinct : AreDistinct some
+
+-- each of some choices is reached: whatever events follow, and whichever calls are left out that it did not take, where it goes on to an order of the
+-- others, these have one. So it does where all are left out that it did not take: these calls have an order that leads to it.
+abbrev pub AreReached : (ℕ → Option ℕ) → ℕ → List KeyedCall → Choices → Type 0
+AreReached held place calls choices =
+    (more some : List KeyedCall) (w : Choice) → HaveGrown place calls more → choices w → AreSomeOf w more some → GoesOn w some
+    → HasKeyedOrder held some
+
+-- parts stand for the calls so far, whatever events follow: their choices stand above the calls, and each of them is reached
 pub record StandFor (held : ℕ → Option ℕ) (place : ℕ) (calls : List KeyedCall) (parts : List Part) : Type 0 where
   pub shared : ShareKeys parts
   pub above : StandAbove held place calls (choices_of parts)
-  pub below : StandBelow held place calls (choices_of parts)
+  pub reached : AreReached held place calls (choices_of parts)
 
 -- what is left of a call at some keys
 abbrev pub left_at : Keys → Choice → KeyedCall → KeyedCall

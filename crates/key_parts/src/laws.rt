@@ -1,5 +1,6 @@
 // Laws of parts, each the contract of a function that does nothing.
 ghost use Rattle.key_parts.specs.Laws.{CallsAreKnown, CallsComeNext, DeadPastsGo, EarlyReadsGain, OperationsComeNext, OperationsDecide, OperationsMayCome, PartsBegin, PartsDecide, PartsInAnyOrder, PartsMayBeTied, PartsStay, PartsUnite, PastsMayStay, ReadsAreTakenAtRest, ReadsComeNext, TiedCallsMayWait, UnbarredCallsComeNext};
+ghost use Rattle.key_parts.specs.Reached.{ChoicesAreReached};
 
 /// Before any event all keys are one part, of one past.
 pub fn parts_begin()
@@ -90,4 +91,9 @@ pub fn operations_may_come()
 /// An operation that may come next leads to what is left after its call.
 pub fn operations_come_next()
     ensures { OperationsComeNext }
+{}
+
+/// Each choice of the parts is reached: the calls that it took have an order that leads to it.
+pub fn choices_are_reached()
+    ensures { ChoicesAreReached }
 {}

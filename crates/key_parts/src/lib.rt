@@ -1,9 +1,9 @@
 //! Laws of what a monitor may save of the calls of a stream, for each part of the keys.
 //!
 //! A part is some keys, with the pasts that these may have. A past says which calls took effect at the keys, what they found there, and what the
-//! keys hold. The pasts of all parts together represent the calls so far (`StandFor`): whatever events follow, the calls have an order exactly if
-//! some of these pasts go on to one. One group of laws lets a part take a step, whatever the others hold. The others unite two parts, or judge by
-//! all of them.
+//! keys hold. The pasts of all parts together represent the calls so far (`StandFor`). Whatever events follow, the calls have an order exactly if
+//! some of these pasts go on to one. Each choice of pasts is reached: the calls that it took have an order that leads to it. One group of laws lets
+//! a part take a step, whatever the others hold. The others unite two parts, or judge by all of them.
 #![tactic(auto)]
 
 mod call_laws;
@@ -16,8 +16,8 @@ pub use call_laws::{
     taken_calls_are_answered,
 };
 pub use laws::{
-    calls_are_known, calls_come_next, dead_pasts_go, early_reads_gain, operations_come_next,
-    operations_decide, operations_may_come, parts_begin, parts_decide, parts_in_any_order,
-    parts_may_be_tied, parts_stay, parts_unite, pasts_may_stay, reads_are_taken_at_rest,
-    reads_come_next, tied_calls_may_wait, unbarred_calls_come_next,
+    calls_are_known, calls_come_next, choices_are_reached, dead_pasts_go, early_reads_gain,
+    operations_come_next, operations_decide, operations_may_come, parts_begin, parts_decide,
+    parts_in_any_order, parts_may_be_tied, parts_stay, parts_unite, pasts_may_stay,
+    reads_are_taken_at_rest, reads_come_next, tied_calls_may_wait, unbarred_calls_come_next,
 };

@@ -1,0 +1,45 @@
+-- What it means that a past is reached, as it is kept.
+use Rattle.std.specs.Prelude.{◌≡◌, ◌≢◌, ◌⊎◌, ℕ, true, List, [], ◌∷◌, ◌++◌, None, IsTrue, All, AllPairs, Contains}
+use Rattle.events.specs.declared.operation.Operation.{Operation}
+use Rattle.events.specs.Precedence.{is_completed}
+use Rattle.map_object.specs.MapObject.{Contents, IsRising, value_at}
+use Rattle.orders.specs.Orders.{IsLegal, KeepsPrecedence, after_calls}
+use Rattle.key_effects.specs.Cuts.{Keys}
+use Rattle.key_parts.specs.Operations.{HasSomeKeyIn}
+use Rattle.kept_pasts.specs.Pasts.{FoundAt, KeptPast}
+use Rattle.kept_parts.specs.KeptParts.{KeptPart, AreKept}
+
+-- in an order, a pending call found a value, or none
+pub record IsFoundIn (start : Contents) (order : List Operation) (f : FoundAt) : Type 0 where
+  pub front : List Operation
+  pub call : Operation
+  pub back : List Operation
+  pub parts : order ≡ front ++ call ∷ back
+  pub own : call.inv ≡ f.inv
+  pub pending : call.response ≡ None
+  pub value : value_at (after_calls start front) f.key ≡ f.value
+
+-- A past of some keys is reached: some of the calls have a legal order that keeps precedence, and leaves at these keys what the past has there. Of
+-- the calls with a key among these, an answered one is in the order or left in the past, and a pending one is in the order if what it found is kept.
+pub record IsReached (start : Contents) (calls : List Operation) (keys : Keys) (past : KeptPast) : Type 0 where
+  pub order : List Operation
+  pub known : (o : Operation) → Contains order o → Contains calls o
+  pub distinct : AllPairs (λ a b. a.inv ≢ b.inv) order
+  pub precedence : KeepsPrecedence order
+  pub legal : IsLegal start order
+  pub leaves : (key : ℕ) → keys key ≡ true → value_at (after_calls start order) key ≡ value_at past.pairs key
+  pub taken : (o : Operation) → Contains order o → Contains past.left o → ⊥
+  pub whole : (o : Operation) → Contains calls o → IsTrue (is_completed o) → HasSomeKeyIn keys o → Contains past.left o ⊎ Contains order o
+  pub found : (f : FoundAt) → Contains past.found f → IsFoundIn start order f
+  pub pending : (o : Operation) → Contains order o → o.response ≡ None → HasSomeKeyIn keys o
+      → (f : FoundAt) × Contains past.found f × (f.inv ≡ o.inv)
+
+-- a part has some past
+abbrev pub HasPasts : KeptPart → Type 0
+HasPasts part = part.pasts ≢ []
+
+-- each past of a part is reached, where each other part has some
+abbrev pub KeptPastsAreReached : Type 0
+KeptPastsAreReached =
+    (start : Contents) (place : ℕ) (calls : List Operation) (part : KeptPart) (rest : List KeptPart) → IsRising start
+    → AreKept start place calls (part ∷ rest) → All HasPasts rest → All (IsReached start calls part.keys) part.pasts

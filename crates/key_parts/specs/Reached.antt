@@ -1,0 +1,37 @@
+-- What it means that a past of all keys is reached.
+use Rattle.std.specs.Prelude.{◌≡◌, ℕ, ◌<◌, true, false, List, ◌∷◌, ◌++◌, Option, All, AllPairs, Contains}
+use Rattle.key_effects.specs.KeyedCalls.{KeyedCall, IsNoEffect, is_completed}
+use Rattle.key_effects.specs.KeyedOrders.{IsKeyedOrder, left_by}
+use Rattle.key_effects.specs.Growth.{HaveGrown}
+use Rattle.key_effects.specs.Choices.{Choice, Agrees, rest_of}
+use Rattle.key_parts.specs.Parts.{Part, AreSomeOf, choices_of, StandFor}
+
+-- some calls lead to a choice, where the keys hold these values at first: they have an order with all of them, in which the pending ones find what
+-- the choice says that they found, and which leaves what it holds
+pub record Lead (held : ℕ → Option ℕ) (some : List KeyedCall) (w : Choice) : Type 0 where
+  pub order : List KeyedCall
+  pub is_order : IsKeyedOrder held some order
+  pub all : (a : KeyedCall) → Contains some a → Contains order a
+  pub found : (front back : List KeyedCall) (a : KeyedCall) (key : ℕ) → order ≡ front ++ a ∷ back → is_completed a ≡ false
+      → w.taken a.inv key ≡ true → left_by key (held key) front ≡ w.found a.inv key
+  pub leaves : (key : ℕ) → left_by key (held key) order ≡ w.holds key
+
+-- a pending call fits all values, and was not refused
+pub record IsOpen (a : KeyedCall) : Type 0 where
+  pub accepted : a.refused ≡ false
+  pub fits : (key : ℕ) (value : Option ℕ) → (a.effect key).fits value ≡ true
+
+-- calls by rising invocation, among which are all that a choice took, and of which nothing is left by it
+pub record AreAllTaken (calls some : List KeyedCall) (w : Choice) : Type 0 where
+  pub are_some : AreSomeOf w calls some
+  pub rising : AllPairs (λ a b. a.inv < b.inv) some
+  pub agree : All (Agrees w) some
+  pub none : (a : KeyedCall) (key : ℕ) → Contains some a → IsNoEffect ((rest_of w a).effect key)
+  pub known : (inv key : ℕ) → w.taken inv key ≡ true → (a : KeyedCall) × Contains calls a × (a.inv ≡ inv) × (a.concerns key ≡ true)
+
+-- each choice of parts that stand for the calls is reached: those lead to it that it took
+abbrev pub ChoicesAreReached : Type 0
+ChoicesAreReached =
+    (held : ℕ → Option ℕ) (place : ℕ) (calls some : List KeyedCall) (parts : List Part) (w : Choice) → HaveGrown place calls calls
+    → ((a : KeyedCall) → Contains calls a → is_completed a ≡ false → IsOpen a) → StandFor held place calls parts → choices_of parts w
+    → AreAllTaken calls some w → Lead held some w
