@@ -33,7 +33,12 @@ pub fn follow(
 }
 
 /// Pushes a call if it may come next. Any number is allowed.
-fn try_next(alloc: Global, calls: &[Operation], front: &mut Front, place: u32) -> Result<(), Memory>
+pub fn try_next(
+    alloc: Global,
+    calls: &[Operation],
+    front: &mut Front,
+    place: u32,
+) -> Result<(), Memory>
     requires rising { AllPairs (λ a b. a.inv < b.inv) calls.now }
     requires apart { NonePrecedesItself calls.now }
     requires stands { Stands calls.now front.old }

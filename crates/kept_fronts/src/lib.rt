@@ -2,10 +2,12 @@
 //! stack, with the map after its last call, and what undoes each call.
 //!
 //! Calls are pushed as the map allows, and taken back. A front follows a guess; a call can be put at
-//! the last place that allows it and the calls after it; and the calls that are left can be searched
-//! for an order after the last few calls are taken back (`call_search`).
+//! the last place that allows it and the calls after it; and after the last few calls are taken
+//! back, an order of the calls that are left can be guessed by the values that they found (`chains`),
+//! or searched for (`call_search`).
 #![tactic(auto)]
 
+mod chains;
 mod front;
 mod guessing;
 mod mending;

@@ -4,7 +4,9 @@ ghost use Rattle.orders.specs.Orders.{calls_at, IsOrder};
 ghost use Rattle.kept_fronts.specs.Closed.{AreLeft};
 ghost use Rattle.kept_fronts.specs.Standing.{places, Stands, AreCalls, IsWhole};
 
+use crate::chains::follow_chains;
 use crate::front::Front;
+use crate::guessing::is_whole;
 use crate::pushing::{go_back, push_all};
 use call_search::{SearchEnd, search_calls};
 use events::{Memory, Operation};
@@ -13,12 +15,15 @@ use std::alloc::Global;
 /// How many of the last calls are taken back before each search.
 static WINDOWS: [u32; 5] = [16, 64, 256, 1_024, 4_096];
 
-/// How many configurations such a search may meet besides one for each of these calls.
+/// How many configurations such a search may meet for each of these calls.
+const WORK_OF_CALL: u32 = 16;
+
+/// How many configurations it may meet besides.
 const NEAR_BUDGET: u32 = 1_000;
 
-/// Takes the last calls of the front back and searches what is left, with more calls taken back
-/// each time, and says whether that led to an order. When no call of the front would be left, it
-/// takes all back and does not search.
+/// Takes the last calls of the front back, guesses an order of what is left, and searches if that
+/// is none, with more calls taken back each time, and says whether that led to an order. When no
+/// call of the front would be left, it takes all back and does not search.
 pub fn search_windows(
     alloc: Global,
     calls: &[Operation],
@@ -37,7 +42,15 @@ pub fn search_windows(
         if front.levels.is_empty() {
             return Ok(false);
         }
-        let near = window.saturating_add(NEAR_BUDGET);
+        let left = front.levels.len();
+        follow_chains(alloc, calls, front)?;
+        if is_whole(calls, front) {
+            return Ok(true);
+        }
+        go_back(alloc, calls, front, left)?;
+        let near = window
+            .saturating_mul(WORK_OF_CALL)
+            .saturating_add(NEAR_BUDGET);
         let found = search_left(alloc, calls, front, budget.min(near))?;
         if found {
             return Ok(true);
