@@ -1,11 +1,11 @@
 // Bits of words.
-ghost use Rattle.std.specs.Prelude.{◌==◌, ◌≡◌, ◌≢◌, ◌↔◌, IsTrue, ℕ, ◌+◌, ◌-◌, ◌*◌, ◌/◌, ◌%◌, ◌^◌, ◌<◌, ◌≤◌, length, map, take, slice_index, All, IfOk};
+ghost use Rattle.std.specs.Prelude.{◌==◌, ◌≡◌, ◌≢◌, ◌↔◌, IsTrue, ℕ, ◌+◌, ◌-◌, ◌*◌, ◌/◌, ◌%◌, ◌^◌, ◌<◌, ◌≤◌, length, map, take, slice_index, All, IfOk, []};
 ghost use Rattle.std.specs.Prelude.{bit_or};
+ghost use Rattle.std.specs.Vec.{vec_len};
 ghost use Rattle.std.specs.List.{range_with_len};
 ghost use Rattle.memo.specs.Words.{bit_of, IsTrimmed, AreWords, shifted_word};
 
 use events::Memory;
-use std::alloc::Global;
 
 /// The word at a place, 0 past the last one.
 fn word_at(words: &[u64], at: usize) -> u64
@@ -24,8 +24,8 @@ pub(crate) fn is_set(words: &[u64], bit: usize) -> bool
     (word_at(words, bit / 64) >> (bit % 64)) % 2 == 1
 }
 
-/// The words with one more bit set.
-pub(crate) fn with_bit(alloc: Global, words: &[u64], bit: usize) -> Result<Vec<u64>, Memory>
+/// The words with one more bit set, in the room of a list.
+pub(crate) fn with_bit(room: Vec<u64>, words: &[u64], bit: usize) -> Result<Vec<u64>, Memory>
     requires { IsTrimmed words.now }
     ensures set { IfOk result (λ v. bit_of v.items bit ≡ 1) }
     ensures others { IfOk result (λ v. (n : ℕ) → n ≢ bit → bit_of v.items n ≡ bit_of words.now n) }
@@ -33,11 +33,22 @@ pub(crate) fn with_bit(alloc: Global, words: &[u64], bit: usize) -> Result<Vec<u
     ensures each { IfOk result (λ v. AreWords v.items) }
 {
     let count = words.len().max(bit / 64 + 1);
-    let mut set = Vec::with_capacity(alloc, count)?;
+    let mut set = emptied(room, count)?;
     set.extend_from_slice(words)?;
     set.resize(count, 0)?;
     set[bit / 64] |= 1u64 << (bit % 64);
     Ok(set)
+}
+
+/// An empty list in the room of this one, with room for so many words.
+fn emptied(room: Vec<u64>, count: usize) -> Result<Vec<u64>, Memory>
+    ensures items { IfOk result (λ v. v.items ≡ []) }
+    ensures len { IfOk result (λ v. vec_len v ≡ 0) }
+{
+    let mut room = room;
+    room.clear();
+    room.reserve_exact(count)?;
+    Ok(room)
 }
 
 /// How many bits from the lowest on are set: whole words, and bits of the next word.
@@ -54,23 +65,23 @@ pub(crate) fn ones_of(words: &[u64]) -> (usize, u32)
     (full, word_at(words, full).trailing_ones())
 }
 
-/// The words without their lowest bits: some, and the one after them.
-pub(crate) fn without_lowest(alloc: Global, words: &[u64], count: u32) -> Result<Vec<u64>, Memory>
+/// The words without their lowest bits, some and the one after them, in the room of a list.
+pub(crate) fn without_lowest(room: Vec<u64>, words: &[u64], count: u32) -> Result<Vec<u64>, Memory>
     requires { count < 64 }
     ensures bits { IfOk result (λ v. (n : ℕ) → bit_of v.items n ≡ bit_of words.now (n + (count + 1))) }
     ensures trimmed { IfOk result (λ v. IsTrimmed v.items) }
     ensures each { IfOk result (λ v. AreWords v.items) }
 {
-    let moved = shift_down(alloc, words, count)?;
+    let moved = shift_down(room, words, count)?;
     Ok(without_zeros(moved))
 }
 
-/// The words, with each bit moved down by one more place than `count`.
-fn shift_down(alloc: Global, words: &[u64], count: u32) -> Result<Vec<u64>, Memory>
+/// The words, with each bit moved down by one more place than `count`, in the room of a list.
+fn shift_down(room: Vec<u64>, words: &[u64], count: u32) -> Result<Vec<u64>, Memory>
     requires { count < 64 }
     ensures { IfOk result (λ v. v.items ≡ map (shifted_word words.now count) (range_with_len 0 (length words.now))) }
 {
-    let mut moved = Vec::with_capacity(alloc, words.len())?;
+    let mut moved = emptied(room, words.len())?;
     for at in 0..words.len() {
         let upper = word_at(words, at + 1) << (63 - count);
         moved.push((words[at] >> count >> 1) | upper)?;
