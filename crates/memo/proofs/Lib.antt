@@ -5,5 +5,6 @@ mod KeptLemmas
 mod KeyLemmas
 mod PlacesLemmas
 mod ValueLemmas
+mod VisitedLemmas
 mod WordLemmas
 pub mod TakingLemmas

@@ -1,5 +1,5 @@
 // Pairs by rising key, and their differences from the pairs at the start of a search.
-ghost use Rattle.std.specs.Prelude.{◌≡◌, ◌≤◌, length, take, drop, filter, is_none, IfOk, IfErr};
+ghost use Rattle.std.specs.Prelude.{◌≡◌, ◌≤◌, length, take, drop, filter, is_none, IfOk, IfErr, OnOk};
 ghost use Rattle.map_object.specs.MapObject.{IsRising, value_at, below, above};
 ghost use Rattle.map_object.specs.Places.{IsAt, IsGapFor};
 ghost use Rattle.memo.specs.Differences.{with_value, value_put, value_gone, value_from, differs, pairs_from, IsDifference};
@@ -42,7 +42,7 @@ fn around(pairs: &[(u64, u64)], key: u64) -> (usize, usize)
 }
 
 /// Returns the pairs with this value, or none, at a key.
-pub(crate) fn with_value(
+fn with_value(
     alloc: Global,
     pairs: &[(u64, u64)],
     key: u64,
@@ -51,19 +51,31 @@ pub(crate) fn with_value(
     requires { IsRising pairs.now }
     ensures { IfOk result (λ v. v.items ≡ with_value key value pairs.now) }
 {
+    let mut with = Vec::new(alloc);
+    write_with_value(&mut with, pairs, key, value)?;
+    Ok(with)
+}
+
+/// Writes the pairs with this value, or none, at a key over the items of a list.
+pub(crate) fn write_with_value(
+    room: &mut Vec<(u64, u64)>,
+    pairs: &[(u64, u64)],
+    key: u64,
+    value: Option<u64>,
+) -> Result<(), Memory>
+    requires { IsRising pairs.now }
+    ensures { OnOk result (room.new.items ≡ with_value key value pairs.now) }
+{
     let (from, upto) = around(pairs, key);
-    let (lower, higher) = (&pairs[..from], &pairs[upto..]);
+    room.clear();
+    room.extend_from_slice(&pairs[..from])?;
     let Some(value) = value else {
-        let mut left = Vec::with_capacity(alloc, lower.len() + higher.len())?;
-        left.extend_from_slice(lower)?;
-        left.extend_from_slice(higher)?;
-        return Ok(left);
+        room.extend_from_slice(&pairs[upto..])?;
+        return Ok(());
     };
-    let mut put = Vec::with_capacity(alloc, lower.len() + 1 + higher.len())?;
-    put.extend_from_slice(lower)?;
-    put.push((key, value))?;
-    put.extend_from_slice(higher)?;
-    Ok(put)
+    room.push((key, value))?;
+    room.extend_from_slice(&pairs[upto..])?;
+    Ok(())
 }
 
 /// Returns the value, if it is not the one at the start.

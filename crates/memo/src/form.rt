@@ -1,5 +1,5 @@
 // The form in which a configuration is stored.
-ghost use Rattle.std.specs.Prelude.{◌≡◌, ◌↔◌, [], IsTrue, IfOk, Contains};
+ghost use Rattle.std.specs.Prelude.{◌≡◌, ◌↔◌, [], IsTrue, IfOk, OnOk, Contains};
 ghost use Rattle.memo.specs.Kept.{configuration_from, IsKept};
 ghost use Rattle.memo.specs.Taking.{after_one};
 ghost use Rattle.memo.specs.Keys.{AgreeBut};
@@ -7,7 +7,7 @@ ghost use Rattle.map_object.specs.MapObject.{value_at};
 
 use crate::base::Base;
 use crate::differences::{
-    Changes, difference, pairs_from, value_at, value_from, value_gone, value_put, with_value,
+    Changes, difference, pairs_from, value_at, value_from, value_gone, value_put, write_with_value,
 };
 use crate::digests::{mix, mix_value, sum_of};
 use crate::places::Places;
@@ -180,49 +180,67 @@ impl Form {
         })
     }
 
-    /// Returns what `with` returns, for a call that changes the value of at most this key, or of
-    /// none if none is given. It costs as much as it copies: the bits of the calls taken, and the
-    /// pairs that differ from those at the start. Only the pair that changed is mixed again.
-    pub(crate) fn with_key(
-        &self,
-        alloc: Global,
+    /// Returns a copy of the form.
+    pub(crate) fn copy(&self, alloc: Global) -> Result<Form, Memory>
+        ensures { IfOk result (λ f. f ≡ self.now) }
+    {
+        Ok(Form {
+            places: self.places.copy(alloc)?,
+            put: Vec::from_slice(alloc, &self.put)?,
+            gone: Vec::from_slice(alloc, &self.gone)?,
+            digest: self.digest,
+        })
+    }
+
+    /// Becomes what `with` returns of the form before a call that changes the value of at most this
+    /// key, or of none if none is given. It costs as much as it copies: the bits of the calls taken,
+    /// and the pairs that differ from those at the start. Only the pair that changed is mixed again.
+    /// It takes memory only if it has less room than that. On `Memory` it is any form.
+    pub(crate) fn follow(
+        &mut self,
+        before: &Form,
         base: &Base,
         place: u32,
         key: Option<u64>,
         after: &SortedMap,
-    ) -> Result<Form, Memory>
-        requires new { Contains self.now.taken place → ⊥ }
-        requires kept { IsKept base.now self.now }
-        requires others { AgreeBut key (configuration_from base.now self.now).pairs after.now }
-        ensures kept { IfOk result (IsKept base.now) }
-        ensures is { IfOk result (λ f. configuration_from base.now f
-            ≡ after_one (configuration_from base.now self.now) place after.now) }
+    ) -> Result<(), Memory>
+        requires new { Contains before.now.taken place → ⊥ }
+        requires kept { IsKept base.now before.now }
+        requires others { AgreeBut key (configuration_from base.now before.now).pairs after.now }
+        ensures kept { OnOk result (IsKept base.now self.new) }
+        ensures is { OnOk result (configuration_from base.now self.new
+            ≡ after_one (configuration_from base.now before.now) place after.now) }
     {
-        let places = self.places.with(alloc, place as usize)?;
-        let digest = self.digest.wrapping_add(mix(place as u64 + 1));
+        let room = self.places.take_room();
+        self.places = before.places.with_in(room, place as usize)?;
+        let digest = before.digest.wrapping_add(mix(place as u64 + 1));
         let Some(key) = key else {
-            let put = Vec::from_slice(alloc, &self.put)?;
-            let gone = Vec::from_slice(alloc, &self.gone)?;
-            return Ok(Form {
-                places,
-                put,
-                gone,
-                digest,
-            });
+            write_copy(&mut self.put, &before.put)?;
+            write_copy(&mut self.gone, &before.gone)?;
+            self.digest = digest;
+            return Ok(());
         };
         let first = base.value(key);
-        let before = value_from(first, value_at(&self.put, key), value_at(&self.gone, key));
+        let was = value_from(
+            first,
+            value_at(&before.put, key),
+            value_at(&before.gone, key),
+        );
         let value = after.value(key);
-        let put = with_value(alloc, &self.put, key, value_put(first, value))?;
-        let gone = with_value(alloc, &self.gone, key, value_gone(first, value))?;
-        let digest = digest
-            .wrapping_sub(mix_value(key, before))
+        write_with_value(&mut self.put, &before.put, key, value_put(first, value))?;
+        write_with_value(&mut self.gone, &before.gone, key, value_gone(first, value))?;
+        self.digest = digest
+            .wrapping_sub(mix_value(key, was))
             .wrapping_add(mix_value(key, value));
-        Ok(Form {
-            places,
-            put,
-            gone,
-            digest,
-        })
+        Ok(())
     }
+}
+
+/// Writes a copy of pairs into the room of a list.
+fn write_copy(room: &mut Vec<(u64, u64)>, pairs: &[(u64, u64)]) -> Result<(), Memory>
+    ensures { OnOk result (room.new.items ≡ pairs.now) }
+{
+    room.clear();
+    room.extend_from_slice(pairs)?;
+    Ok(())
 }

@@ -21,6 +21,8 @@ pub struct Memo {
     alloc: Global,
     base: Base,
     visited: IndexSet<Form>,
+    // Room for the next form: it is looked up before anything is allocated for it.
+    next: Form,
 }
 
 impl Model for Memo {
@@ -41,10 +43,13 @@ impl Memo {
     pub fn new(alloc: Global) -> Memo
         ensures { result ≡ [] }
     {
+        let base = Base::new();
+        let next = Form::start(alloc, &base);
         Memo {
             alloc,
-            base: Base::new(),
+            base,
             visited: IndexSet::new(alloc),
+            next,
         }
     }
 
@@ -100,11 +105,9 @@ impl Memo {
         ensures unchanged { OnErr result (self.new ≡ self.old) }
     {
         let before = &self.visited.as_slice()[from];
-        let form = before.with_key(alloc, &self.base, place, key_changed(&call.call), after)?;
-        match insert(&mut self.visited, form) {
-            Ok(new) => Ok(new),
-            Err(_refused) => Err(Memory),
-        }
+        self.next
+            .follow(before, &self.base, place, key_changed(&call.call), after)?;
+        add(alloc, &mut self.visited, &self.next)
     }
 
     /// Returns how many configurations were visited.
@@ -156,6 +159,30 @@ fn insert(visited: &mut IndexSet<Form>, form: Form) -> Result<bool, Form>
         Ok(new) => Ok(new),
         Err(refused) => Err(refused.value),
     }
+}
+
+/// Inserts a copy of the form if it is new, and returns whether it is. Memory is allocated only for
+/// a new one.
+fn add(alloc: Global, visited: &mut IndexSet<Form>, form: &Form) -> Result<bool, Memory>
+    ensures new { IfOk result (λ new. IsTrue new ↔ (Contains visited.old.keys form.now → ⊥)) }
+    ensures visited { IfOk result (λ new. visited.new.keys
+        ≡ (if new then visited.old.keys ++ form.now ∷ [] else visited.old.keys)) }
+    ensures unchanged { OnErr result (visited.new.keys ≡ visited.old.keys) }
+{
+    if contains(visited, form) {
+        return Ok(false);
+    }
+    match insert(visited, form.copy(alloc)?) {
+        Ok(new) => Ok(new),
+        Err(_refused) => Err(Memory),
+    }
+}
+
+/// Returns whether the form is among those visited.
+fn contains(visited: &IndexSet<Form>, form: &Form) -> bool
+    ensures { IsTrue result ↔ Contains visited.now.keys form.now }
+{
+    visited.contains(form)
 }
 
 /// Returns whether a form over the other pairs can be added as it is: the visited forms are over

@@ -8,6 +8,7 @@ use crate::words::{is_set, ones_of, with_bit, without_lowest};
 use events::Memory;
 use std::alloc::Global;
 use std::marker::Model;
+use std::mem::replace;
 
 /// A set of places of calls: the least place that is not in it, and a bit for each place above that
 /// one. The last word of bits is not 0. Contracts see the places by rising number. Only the places
@@ -51,6 +52,18 @@ impl Places {
         })
     }
 
+    /// Takes the list of words out, for its room, and leaves no places.
+    pub(crate) fn take_room(&mut self) -> Vec<u64>
+        ensures { self.new ≡ [] }
+    {
+        let none = Places::new(*self.words.allocator());
+        let Places {
+            least: _least,
+            words,
+        } = replace(self, none);
+        words
+    }
+
     /// Returns whether both sets have the same places.
     pub fn is_same(&self, other: &Places) -> bool
         ensures { IsTrue result ↔ (self.now ≡ other.now) }
@@ -92,15 +105,25 @@ impl Places {
         ensures is { IfOk result (λ p. p ≡ with_place self.now place) }
         ensures rising { IfOk result IsStrictlyIncreasing }
     {
+        self.with_in(Vec::new(alloc), place)
+    }
+
+    /// Returns the set with one more place, in the room of a list.
+    pub(crate) fn with_in(&self, room: Vec<u64>, place: usize) -> Result<Places, Memory>
+        requires new { Contains self.now place → ⊥ }
+        requires small { place < 2 ^ 64 - 1 }
+        ensures is { IfOk result (λ p. p ≡ with_place self.now place) }
+        ensures rising { IfOk result IsStrictlyIncreasing }
+    {
         if place > self.least {
-            let words = with_bit(alloc, &self.words, place - (self.least + 1))?;
+            let words = with_bit(room, &self.words, place - (self.least + 1))?;
             return Ok(Places {
                 least: self.least,
                 words,
             });
         }
         let (full, ones) = ones_of(&self.words);
-        let words = without_lowest(alloc, &self.words[full..], ones)?;
+        let words = without_lowest(room, &self.words[full..], ones)?;
         let least = self.least + 64 * full + ones as usize + 1;
         Ok(Places { least, words })
     }

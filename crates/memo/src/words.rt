@@ -1,11 +1,11 @@
 // Bits of words.
-ghost use Rattle.std.specs.Prelude.{◌==◌, ◌≡◌, ◌≢◌, ◌↔◌, IsTrue, ℕ, ◌+◌, ◌-◌, ◌*◌, ◌/◌, ◌%◌, ◌^◌, ◌<◌, ◌≤◌, length, map, take, slice_index, All, IfOk};
+ghost use Rattle.std.specs.Prelude.{◌==◌, ◌≡◌, ◌≢◌, ◌↔◌, IsTrue, ℕ, ◌+◌, ◌-◌, ◌*◌, ◌/◌, ◌%◌, ◌^◌, ◌<◌, ◌≤◌, length, map, take, slice_index, All, IfOk, []};
 ghost use Rattle.std.specs.Prelude.{bit_or};
+ghost use Rattle.std.specs.Vec.{vec_len};
 ghost use Rattle.std.specs.List.{range_with_len};
 ghost use Rattle.memo.specs.Words.{bit_of, IsTrimmed, AreWords, shifted_word};
 
 use events::Memory;
-use std::alloc::Global;
 
 /// Returns the word at a place, or 0 after the last one.
 fn word_at(words: &[u64], at: usize) -> u64
@@ -24,8 +24,8 @@ pub(crate) fn is_set(words: &[u64], bit: usize) -> bool
     (word_at(words, bit / 64) >> (bit % 64)) % 2 == 1
 }
 
-/// Returns the words with one more bit set.
-pub(crate) fn with_bit(alloc: Global, words: &[u64], bit: usize) -> Result<Vec<u64>, Memory>
+/// Returns the words with one more bit set, in the memory of a list.
+pub(crate) fn with_bit(room: Vec<u64>, words: &[u64], bit: usize) -> Result<Vec<u64>, Memory>
     requires { IsTrimmed words.now }
     ensures set { IfOk result (λ v. bit_of v.items bit ≡ 1) }
     ensures others { IfOk result (λ v. (n : ℕ) → n ≢ bit → bit_of v.items n ≡ bit_of words.now n) }
@@ -33,11 +33,22 @@ pub(crate) fn with_bit(alloc: Global, words: &[u64], bit: usize) -> Result<Vec<u
     ensures each { IfOk result (λ v. AreWords v.items) }
 {
     let count = words.len().max(bit / 64 + 1);
-    let mut set = Vec::with_capacity(alloc, count)?;
+    let mut set = emptied(room, count)?;
     set.extend_from_slice(words)?;
     set.resize(count, 0)?;
     set[bit / 64] |= 1u64 << (bit % 64);
     Ok(set)
+}
+
+/// Returns an empty list in the memory of this one, with capacity for this many words.
+fn emptied(room: Vec<u64>, count: usize) -> Result<Vec<u64>, Memory>
+    ensures items { IfOk result (λ v. v.items ≡ []) }
+    ensures len { IfOk result (λ v. vec_len v ≡ 0) }
+{
+    let mut room = room;
+    room.clear();
+    room.reserve_exact(count)?;
+    Ok(room)
 }
 
 /// Returns how many bits are set from the lowest bit up to the first one that is not: whole words,
@@ -55,23 +66,23 @@ pub(crate) fn ones_of(words: &[u64]) -> (usize, u32)
     (full, word_at(words, full).trailing_ones())
 }
 
-/// Returns the words without their lowest `count + 1` bits.
-pub(crate) fn without_lowest(alloc: Global, words: &[u64], count: u32) -> Result<Vec<u64>, Memory>
+/// Returns the words without their lowest `count + 1` bits, in the memory of a list.
+pub(crate) fn without_lowest(room: Vec<u64>, words: &[u64], count: u32) -> Result<Vec<u64>, Memory>
     requires { count < 64 }
     ensures bits { IfOk result (λ v. (n : ℕ) → bit_of v.items n ≡ bit_of words.now (n + (count + 1))) }
     ensures trimmed { IfOk result (λ v. IsTrimmed v.items) }
     ensures each { IfOk result (λ v. AreWords v.items) }
 {
-    let moved = shift_down(alloc, words, count)?;
+    let moved = shift_down(room, words, count)?;
     Ok(without_zeros(moved))
 }
 
-/// Returns the words, with each bit moved down by `count + 1` places.
-fn shift_down(alloc: Global, words: &[u64], count: u32) -> Result<Vec<u64>, Memory>
+/// Returns the words, with each bit moved down by `count + 1` places, in the memory of a list.
+fn shift_down(room: Vec<u64>, words: &[u64], count: u32) -> Result<Vec<u64>, Memory>
     requires { count < 64 }
     ensures { IfOk result (λ v. v.items ≡ map (shifted_word words.now count) (range_with_len 0 (length words.now))) }
 {
-    let mut moved = Vec::with_capacity(alloc, words.len())?;
+    let mut moved = emptied(room, words.len())?;
     for at in 0..words.len() {
         let upper = word_at(words, at + 1) << (63 - count);
         moved.push((words[at] >> count >> 1) | upper)?;

@@ -1,16 +1,9 @@
-use Rattle.std.proofs.Common.{List, not}
-use Rattle.std.specs.Prelude.{Contains}
+use Rattle.std.proofs.Common.{not}
 use Rattle.std.specs.List.{list_any}
-use Rattle.std.specs.Bool.{Decides}
 use Rattle.std.proofs.lemmas.Bool.Decides.{Decides-at, Decides-not}
-use Rattle.std.proofs.lemmas.Map.Views.{Contains-from_any, list_any-from_Contains}
-use Rattle.memo.specs.Kept.{Kept, is_kept_same, Decides-is_kept_same, is_kept_same-equivalence}
+use Rattle.memo.specs.Kept.{is_kept_same}
+use Rattle.memo.proofs.VisitedLemmas.{Decides-visited}
 use Rattle.memo.proofs.memo.insert.Goals as goal
-
--- the test tells whether what is kept is among what was
-Decides-visited : (visited : List Kept) (kept : Kept) → Decides (list_any (is_kept_same kept) visited) (Contains visited kept)
-Decides-visited visited kept =
-    (Contains-from_any (λ a b. (Decides-is_kept_same a b).0) kept visited, list_any-from_Contains is_kept_same-equivalence kept visited)
 
 pub returns-in-Ok-clause-new : goal.returns-in-Ok-clause-new
 returns-in-Ok-clause-new c =

@@ -1,14 +1,15 @@
-use Rattle.std.proofs.Common.{◌≡◌, Some, slice_get, sym, subst}
+use Rattle.std.proofs.Common.{◌≡◌, ◌++◌, ◌∷◌, [], Bool, List, Some, Result, Ok, Err, slice_get, sym, subst}
+use Rattle.std.specs.Prelude.{◌↔◌, IsTrue, IfOk, IsSomeAnd, Contains, if◌then◌else◌}
 use Rattle.configurations.specs.Configurations.{Configuration}
 use Rattle.memo.specs.Keys.{key_changed, AgreeBut}
-use Rattle.memo.specs.Kept.{configuration_from}
+use Rattle.memo.specs.Kept.{Kept, configuration_from}
 use Rattle.memo.specs.Taking.{after_one, IsOneMore}
+use Rattle.memo.specs.Visits.{configurations_from}
 use Rattle.memo.proofs.KeptLemmas.{kept_at, all_kept, new_told, visited_told}
 use Rattle.memo.proofs.KeyLemmas.{agree-after_call}
 use Rattle.memo.proofs.memo.Memo.visit_next.Goals as goal
-use Rattle.memo.proofs.memo.Memo.visit_next.Goals.{in-Ok, in-Err}
 
-module _ (c : goal.Joined-insert) where
+module _ (c : goal.After-add) where
   abbrev before : Configuration
   before = configuration_from c.self.inside.base c.index-as_slice-from.result
 
@@ -19,8 +20,8 @@ module _ (c : goal.Joined-insert) where
   here = kept_at c.self.inside.base c.self.inside.visited.keys c.as_slice.result.now c.args.self.now c.args.from c.index-as_slice-from.result
       (λ d. IsOneMore d c.args.place c.args.call.now c.args.after.now) c.self.view_is c.as_slice.ensures.keys c.index-as_slice-from.is c.requires
 
-pub with_key-requires-clause-others : goal.with_key-requires-clause-others
-with_key-requires-clause-others c =
+pub follow-requires-clause-others : goal.follow-requires-clause-others
+follow-requires-clause-others c =
     let before = configuration_from c.self.inside.base c.index-as_slice-from.result in
     let here =
     kept_at c.self.inside.base c.self.inside.visited.keys c.as_slice.result.now c.args.self.now c.args.from c.index-as_slice-from.result
@@ -31,22 +32,34 @@ with_key-requires-clause-others c =
     (subst (AgreeBut (key_changed call.call) before.pairs) (sym one.after) (agree-after_call before.pairs call.call call.response))
 
 pub invariant_of-self : goal.invariant_of-self
-invariant_of-self c =
-    all_kept c.self.inside.base c.self.inside.visited.keys c.in_ok-form.form c.insert.new.visited.keys c.insert.result
-    c.insert.ensures.visited c.insert.ensures.unchanged c.self.invariant c.in_ok-form.ensures.kept
+invariant_of-self c = c.self.invariant
+
+pub invariant_of-self-2 : goal.invariant_of-self-2
+invariant_of-self-2 c =
+    all_kept c.self.inside.base c.self.inside.visited.keys c.follow.new.self c.add.new.visited.keys c.add.result
+    c.add.ensures.visited c.add.ensures.unchanged c.self.invariant c.in_ok-follow.ensures.kept
 
 pub returns-clause-new : goal.returns-clause-new
-returns-clause-new c = elim c.match-insert.branch [
-  | in-Ok w ↦ rw (w.result-is, here c, ← c.self.view_is)
-      (new_told c.self.inside.base c.self.inside.visited.keys c.in_ok-form.form c.insert.new.visited.keys (next c) c.in_ok-form.ensures.is
-      w.in-Ok.new c.self.invariant c.in_ok-form.ensures.kept w.in-Ok.ensures.new)
-  | in-Err w ↦ rw w.result-is tt
-]
+returns-clause-new c = told c.add.result c.add.ensures.new
+  where
+    told : {E : Type 0} (r : Result Bool E) → IfOk r (λ new. IsTrue new ↔ (Contains c.self.inside.visited.keys c.follow.new.self → ⊥))
+        → IfOk r (λ new. IsSomeAnd (slice_get c.args.self.now c.args.from)
+        (λ d. IsTrue new ↔ (Contains c.args.self.now (after_one d c.args.place c.args.after.now) → ⊥)))
+    told (Ok new) h = rw (here c, ← c.self.view_is)
+        (new_told c.self.inside.base c.self.inside.visited.keys c.follow.new.self c.add.new.visited.keys (next c) c.in_ok-follow.ensures.is
+        new c.self.invariant c.in_ok-follow.ensures.kept h)
+    told (Err e) h = tt
 
 pub returns-clause-visited : goal.returns-clause-visited
-returns-clause-visited c = elim c.match-insert.branch [
-  | in-Ok w ↦ rw (w.result-is, here c, ← c.self.view_is)
-      (visited_told c.self.inside.base c.self.inside.visited.keys c.in_ok-form.form c.insert.new.visited.keys (next c) c.in_ok-form.ensures.is
-      w.in-Ok.new w.in-Ok.ensures.visited)
-  | in-Err w ↦ rw w.result-is tt
-]
+returns-clause-visited c = told c.add.result c.add.ensures.visited
+  where
+    keys : List Kept
+    keys = c.self.inside.visited.keys
+
+    told : {E : Type 0} (r : Result Bool E)
+        → IfOk r (λ new. c.add.new.visited.keys ≡ (if new then keys ++ c.follow.new.self ∷ [] else keys))
+        → IfOk r (λ new. IsSomeAnd (slice_get c.args.self.now c.args.from) (λ d. configurations_from c.self.inside.base c.add.new.visited.keys
+        ≡ (if new then c.args.self.now ++ after_one d c.args.place c.args.after.now ∷ [] else c.args.self.now)))
+    told (Ok new) h = rw (here c, ← c.self.view_is)
+        (visited_told c.self.inside.base keys c.follow.new.self c.add.new.visited.keys (next c) c.in_ok-follow.ensures.is new h)
+    told (Err e) h = tt

@@ -6,7 +6,7 @@ use Rattle.memo.specs.Words.{bit_of, places_of, ArePlaces}
 use Rattle.memo.proofs.BitLemmas.{bit_of-drop}
 use Rattle.memo.proofs.PlacesLemmas.{places_of-with, ArePlaces-with, IsAmong-set, IsAmong-run, place_above}
 use Rattle.memo.proofs.WordLemmas.{IsAmong, places_of-rises, run_small}
-use Rattle.memo.proofs.places.Places.with.Goals as goal
+use Rattle.memo.proofs.places.Places.with_in.Goals as goal
 
 -- a bit is set above the least missing place
 set : (c : goal.In_ok-words) → (n : ℕ) → IsAmong c.self.inside.least c.in_ok-words.words.items n
