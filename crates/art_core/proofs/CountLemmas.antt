@@ -1,24 +1,11 @@
 -- Starting words: each insert is answered.
-use Rattle.std.proofs.Common.{◌≡◌, ℕ, ◌+◌, ◌≤◌, cond, arith, refl, sym, subst, ap, ◌∙◌, List, [], ◌∷◌, ◌++◌, length, inl, inr}
-use Rattle.std.specs.Prelude.{Option, Some, None, is_some, slice_get, slice_index, filter_map}
-use Rattle.std.proofs.lemmas.Bool.{cases_lt}
-use Rattle.std.proofs.lemmas.List.{length-append, length-map}
-use Rattle.std.proofs.lemmas.List.Elements.{filter_map-append}
-use Rattle.std.proofs.lemmas.Option.{same_Some, none-some, slice_get_within}
-use Rattle.list_laws.proofs.NumberLemmas.{slice_get-below}
-use Rattle.events.specs.declared.event.Call.{Call}
-use Rattle.events.specs.declared.event.Call.TheVariants.{Insert}
-use Rattle.events.specs.declared.event.Event.TheVariants.{Invoke, Answer}
-use Rattle.logs.specs.Logs.{Stamped}
-use Rattle.art_steps.specs.Steps.{Turn, Asks, Answers}
-use Rattle.art_steps.specs.Act.{act}
-use Rattle.art_core.specs.declared.process.Process.{Process}
-use Rattle.art_core.specs.Core.{Plan, State, Move, Invokes, opened, step, next_in, next_call, next_move, move_from, move_of, invocation}
-use Rattle.art_core.specs.Core.{word_of_move, after_move, begun, finished, invoked, answered}
-use Rattle.art_core.specs.Runs.{run_on}
-use Rattle.art_core.specs.Starts.{start_plan, inserts}
-use Rattle.art_core.specs.Laws.{StartsAreAnswered}
-use Rattle.art_core.proofs.HistoryLemmas.{nowhere, is-moved, changed-at, all-idle}
+use Rattle.art_core.proofs.Common.{◌≡◌, ℕ, ◌+◌, ◌≤◌, cond, arith, refl, sym, subst, ap, ◌∙◌, List, [], ◌∷◌, ◌++◌, length, inl, inr, Option, Some}
+use Rattle.art_core.proofs.Common.{None, is_some, slice_get, slice_index, filter_map, length-append, filter_map-append, same_Some, none-some}
+use Rattle.art_core.proofs.Common.{slice_get_within, Call, Invoke, Answer, Stamped, Turn, Asks, Answers, act, Process, Plan, State, Move}
+use Rattle.art_core.proofs.Common.{Invokes, step, next_in, next_call, next_move, move_from, move_of, invocation, word_of_move, after_move, begun}
+use Rattle.art_core.proofs.Common.{invoked, answered}
+use Rattle.art_core.specs.Core.{finished}
+use Rattle.art_core.proofs.HistoryLemmas.{is-moved, changed-at}
 
 module _ (plan : Plan) where
   -- of the calls that a process has begun, all but the open one are finished, and they are no more than its script has
@@ -80,43 +67,3 @@ module _ (plan : Plan) where
             (subst (λ q. IsCounted p q) (sym t.1) (counted-move p n m.process (h p m.process m.here) m.move m.is_next))
         | inr t ↦ h i q t.1
       ]
-
-  counted-run : (schedule : List ℕ) (first s : State) → run_on plan (Some first) schedule ≡ Some s → are_counted first → are_counted s
-  counted-run [] first s e h = subst are_counted (same_Some first s e) h
-  counted-run (p ∷ schedule) first s e h = go (step plan first p) refl e (λ next. counted-run schedule next s)
-    where
-      go : (o : Option State) → step plan first p ≡ o → run_on plan o schedule ≡ Some s
-          → ((next : State) → run_on plan (Some next) schedule ≡ Some s → are_counted next → are_counted s) → are_counted s
-      go None f l later = absurd (nowhere plan schedule s l)
-      go (Some next) f l later = later next l (counted-step first p next f h)
-
-  at-end : (script : List Call) (q : Process) → slice_get plan.scripts 0 ≡ Some script → next_move plan 0 q ≡ None → IsCounted 0 q
-      → length (finished q) ≡ length script
-  at-end script q at over h = go q.call refl over
-    where
-      past : (n : ℕ) (o : Option Call) → slice_get script n ≡ o → invocation o ≡ None → n ≤ length script → n ≡ length script
-      past n (Some call) e k most = absurd (none-some (Invokes call) (sym k))
-      past n None e k most = elim (cases_lt n (length script)) [
-        | inl less ↦ let x = slice_get-below script n less in absurd (none-some x.0 (sym e ∙ x.1))
-        | inr more ↦ omega arith
-      ]
-
-      go : (o : Option Call) → q.call ≡ o → move_from plan 0 q o ≡ None → length (finished q) ≡ length script
-      go (Some call) is k = absurd (none-some (move_of (act plan.shape plan.variant call q.got)) (sym k))
-      go None is k =
-          let all = past (length (begun q)) (slice_get script (length (begun q))) refl
-          (sym (ap (λ o. invocation (next_in o (length (begun q)))) at) ∙ k) (h.within script at) in
-          let counts = h.counts ∙ ap (λ o. length (finished q) + cond (is_some o) 1 0) is in
-          omega (arith, all, counts)
-
-pub opened-counted : (plan : Plan) → are_counted plan (opened plan)
-opened-counted plan i q at =
-    subst (λ q. IsCounted plan i q) (sym (all-idle (length plan.scripts) i q at))
-    (record { counts = refl; within = λ script at. omega arith })
-
-pub starts-are-answered : StartsAreAnswered
-starts-are-answered shape variant start words h =
-    let plan = start_plan shape variant start in
-    at-end plan (inserts start) h.process refl h.all
-    (counted-run plan h.inserted.schedule (opened plan) h.state h.inserted.gives (opened-counted plan) 0 h.process h.inserted.is_process)
-    ∙ length-map start (λ pair. Insert pair.0 pair.1)

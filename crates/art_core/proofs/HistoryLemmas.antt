@@ -1,48 +1,34 @@
 -- What a state logs is a history: each event is stamped higher than all before it, and is sound after them.
-use Rattle.std.proofs.Common.{◌≡◌, ◌≢◌, ℕ, zero, suc, ◌+◌, ◌*◌, ◌%◌, ◌^◌, ◌<◌, ◌≤◌, ◌==◌, Bool, true, false, ◌&&◌, cond, arith, refl, sym}
-use Rattle.std.proofs.Common.{List, [], ◌∷◌, ◌++◌, length, map}
-use Rattle.std.proofs.Common.{ap, subst, ◌∙◌, inl, inr, eq-eqb, ne_eqb, IsTrue, get_or-set_other, get_or-set_same, sum}
-use Rattle.std.specs.Prelude.{Option, Some, None, is_some, ◌⊎◌, nat_lt, nat_le, All, slice_get, slice_index, slice_set, replicate, flat_map}
-use Rattle.std.specs.Prelude.{filter_map, sum_by}
-use Rattle.std.specs.List.{AllZip}
+use Rattle.art_core.proofs.Common.{◌≡◌, ◌≢◌, ℕ, zero, suc, ◌+◌, ◌*◌, ◌%◌, ◌^◌, ◌<◌, ◌≤◌, Bool, true, false, cond, arith, refl, sym, List, []}
+use Rattle.art_core.proofs.Common.{◌∷◌, ◌++◌, length, map, ap, subst, ◌∙◌, inl, inr, eq-eqb, get_or-set_other, get_or-set_same, Option, Some}
+use Rattle.art_core.proofs.Common.{None, is_some, All, slice_get, slice_index, slice_set, replicate, flat_map, filter_map, sum_by, AllZip}
+use Rattle.art_core.proofs.Common.{length-set, length-append, sum-map, sum_by-set, sum_by-cons, slice_get_within, get_or_from_slice_get}
+use Rattle.art_core.proofs.Common.{none-some, same_Some, zip_left, Call, Invoke, Answer, AreBelow, Shape, opening, table_words, Variant, Point}
+use Rattle.art_core.proofs.Common.{act, word_of, Turn, Asks, Answers, act-stays, Process, Plan, State, Move, Invokes, Makes, Responds, begun}
+use Rattle.art_core.proofs.Common.{moved, word_of_move, after_move, idle, opened, opened_on, history_of, move_of, invoked, next_in, next_call}
+use Rattle.art_core.proofs.Common.{next_move, move_from, invocation, moved_by, step_of, step, run_on, StartsOn, start_plan, IsPlan}
+use Rattle.std.proofs.Common.{◌==◌, ◌&&◌, ne_eqb, IsTrue, sum}
+use Rattle.std.specs.Prelude.{◌⊎◌, nat_lt, nat_le}
 use Rattle.std.proofs.lemmas.Bool.{lt-leb, lt-ltb, le-leb}
-use Rattle.std.proofs.lemmas.List.{length-set, length-append, length-replicate, map-set}
-use Rattle.std.proofs.lemmas.List.Sums.{sum-map, sum_by-set, sum_by-cons}
+use Rattle.std.proofs.lemmas.List.{length-replicate, map-set}
 use Rattle.std.proofs.lemmas.List.Folds.{sum_by-replicate}
 use Rattle.std.proofs.lemmas.Nat.{mod-mul-add}
-use Rattle.std.proofs.lemmas.Option.{slice_get_within, get_or_from_slice_get, none-some, same_Some}
 use Rattle.list_laws.proofs.Lists.{All-at}
-use Rattle.list_laws.proofs.ZipLemmas.{zip_left}
-use Rattle.events.specs.declared.event.Call.{Call}
 use Rattle.events.specs.declared.event.Call.TheVariants.{Get, Insert, Remove, Scan, Replace}
 use Rattle.events.specs.declared.event.Reply.{Reply}
 use Rattle.events.specs.declared.event.Event.{Event}
-use Rattle.events.specs.declared.event.Event.TheVariants.{Invoke, Answer}
 use Rattle.events.specs.Events.{process_of, is_invocation}
 use Rattle.events.specs.Histories.{AreHistoryEvents, has_range, call_count, pair_count}
 use Rattle.events.specs.HistoryFaults.{has_open_call, fault_after}
 use Rattle.events.specs.Limits.{call_limit, pair_limit, process_limit}
 use Rattle.events.proofs.HistoryLemmas.{AreHistoryEvents-push, has_open_call-push, call_count-push}
 use Rattle.logs.specs.Logs.{events_by_stamp, history_of_logs}
-use Rattle.logs.proofs.GrowthLemmas.{AreBelow, history-push, below-push}
-use Rattle.art_rows.specs.declared.table.Shape.{Shape}
+use Rattle.logs.proofs.GrowthLemmas.{history-push, below-push}
 use Rattle.map_object.specs.MapObject.{Contents}
-use Rattle.art_rows.specs.Table.{opening, table_words}
-use Rattle.art_steps.specs.declared.variant.Variant.{Variant}
 use Rattle.art_steps.specs.declared.access.Access.{Access}
-use Rattle.art_steps.specs.declared.access.Point.{Point}
-use Rattle.art_steps.specs.Act.{act}
-use Rattle.art_steps.specs.Fits.{word_of}
-use Rattle.art_steps.specs.Steps.{Turn, Asks, Answers}
 use Rattle.art_steps.specs.TreeCalls.{is_tree_call}
-use Rattle.art_steps.proofs.AccessLemmas.{act-stays, act-small}
-use Rattle.art_core.specs.declared.process.Process.{Process}
-use Rattle.art_core.specs.Core.{Plan, State, Move, Invokes, Makes, Responds, begun, moved, word_of_move, after_move, idle, opened}
-use Rattle.art_core.specs.Core.{opened_on, history_of}
-use Rattle.art_core.specs.Core.{move_of, invoked, next_in, next_call, next_move, move_from, invocation, moved_by, step_of, step}
-use Rattle.art_core.specs.Runs.{run_on, HasFewSteps}
-use Rattle.art_core.specs.Starts.{StartsOn, start_plan}
-use Rattle.art_core.specs.Plans.{IsPlan}
+use Rattle.art_steps.proofs.AccessLemmas.{act-small}
+use Rattle.art_core.specs.Runs.{HasFewSteps}
 use Rattle.art_core.specs.Claims.{LogsAreHistory}
 use Rattle.art_core.proofs.RunLemmas.{begun-more}
 

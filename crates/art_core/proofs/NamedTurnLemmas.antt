@@ -1,13 +1,10 @@
 -- The turns that items name, one after another.
-use Rattle.std.proofs.Common.{◌≡◌, ℕ, ◌+◌, List, [], ◌∷◌, ◌++◌, refl, sym, ap, subst, ◌∙◌, arith, inl, inr, Some}
-use Rattle.std.specs.Prelude.{replicate}
+use Rattle.art_core.proofs.Common.{◌≡◌, ℕ, ◌+◌, List, [], ◌∷◌, ◌++◌, refl, sym, ap, subst, ◌∙◌, arith, inl, inr, replicate, same_Some, Item}
+use Rattle.art_core.proofs.Common.{Plan, State, step, run_on, Gives, process_of_item, WantsTurn, AreMade, IsMadeWhole}
+use Rattle.std.proofs.Common.{Some}
 use Rattle.std.proofs.lemmas.Bool.{cases_lt}
 use Rattle.std.proofs.lemmas.List.{replicate_more}
-use Rattle.std.proofs.lemmas.Option.{same_Some}
-use Rattle.art_core.specs.declared.item.Item.{Item}
-use Rattle.art_core.specs.Core.{Plan, State, step}
-use Rattle.art_core.specs.Runs.{run_on, Gives}
-use Rattle.art_core.specs.NamedTurns.{process_of_item, WantsTurn, AreMade, IsMadeWhole, AreMadeWhole}
+use Rattle.art_core.specs.NamedTurns.{AreMadeWhole}
 use Rattle.art_core.specs.Laws.{NamedTurnsAreOne}
 use Rattle.art_core.proofs.RunLemmas.{run-on-append}
 

@@ -1,11 +1,9 @@
 -- The rows, computed.
-use Rattle.std.proofs.Common.{refl}
+use Rattle.art_core.proofs.Common.{refl, step, history_of}
 use Rattle.art_steps.specs.Computing.{computing}
-use Rattle.art_core.specs.Core.{step, history_of}
 use Rattle.art_core.specs.Schedules.{schedule_run}
-use Rattle.art_core.specs.WorkedRows.{eights, words_at, events, last_event, deep, shifted, shifted_items, lost, lost_items, torn}
-use Rattle.art_core.specs.WorkedRows.{torn_items, early}
-use Rattle.art_core.specs.WorkedRows.{early_items, one_each, count_events, beside, WorkedRows}
+use Rattle.art_core.specs.WorkedRows.{eights, words_at, events, last_event, deep, shifted, shifted_items, lost, lost_items, torn, torn_items}
+use Rattle.art_core.specs.WorkedRows.{early, early_items, one_each, count_events, beside, WorkedRows}
 
 pub worked-rows : WorkedRows
 unfolding eights words_at events last_event deep shifted shifted_items lost lost_items torn torn_items early early_items one_each

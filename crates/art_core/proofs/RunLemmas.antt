@@ -1,24 +1,12 @@
 -- How schedules go on.
-use Rattle.std.proofs.Common.{◌≡◌, ℕ, zero, suc, List, [], ◌∷◌, ◌++◌, length, map, subst, sym, refl, ap, ◌∙◌, Option, Some, None}
-use Rattle.std.specs.Prelude.{slice_get, slice_index, slice_set, filter_map, replicate}
-use Rattle.std.proofs.lemmas.List.{append-nil, length-set, length-map}
-use Rattle.std.proofs.lemmas.List.Elements.{filter_map-append}
-use Rattle.events.specs.declared.event.Event.TheVariants.{Invoke, Answer}
-use Rattle.logs.specs.Logs.{Stamped}
-use Rattle.art_rows.specs.declared.table.Shape.{Shape}
-use Rattle.art_rows.specs.Table.{opening}
-use Rattle.art_steps.specs.declared.variant.Variant.{Variant}
-use Rattle.std.specs.List.{AllZip}
-use Rattle.std.proofs.lemmas.Option.{slice_get_within, none-some, same_Some}
+use Rattle.art_core.proofs.Common.{◌≡◌, ℕ, zero, suc, List, [], ◌∷◌, ◌++◌, length, map, subst, sym, refl, ap, ◌∙◌, slice_get, slice_index}
+use Rattle.art_core.proofs.Common.{slice_set, filter_map, replicate, length-set, filter_map-append, Invoke, Answer, Stamped, Shape, opening}
+use Rattle.art_core.proofs.Common.{Variant, AllZip, slice_get_within, none-some, same_Some, zip_left, Call, act, Process, Plan, State, Move}
+use Rattle.art_core.proofs.Common.{Invokes, Makes, Responds, invoked, moved, word_of_move, after_move, idle, opened, begun, next_in, next_call}
+use Rattle.art_core.proofs.Common.{invocation, move_of, move_from, next_move, moved_by, step_of, step, run_on, Gives}
+use Rattle.std.proofs.Common.{Option, Some, None}
+use Rattle.std.proofs.lemmas.List.{append-nil, length-map}
 use Rattle.list_laws.proofs.Lists.{slice_get-append_left, slice_get-middle}
-use Rattle.list_laws.proofs.ZipLemmas.{zip_left}
-use Rattle.events.specs.declared.event.Call.{Call}
-use Rattle.art_steps.specs.Act.{act}
-use Rattle.art_core.specs.declared.process.Process.{Process}
-use Rattle.art_core.specs.Core.{Plan, State, Move, Invokes, Makes, Responds, invoked, moved, word_of_move, after_move, idle, opened, begun}
-use Rattle.art_core.specs.Core.{next_in, next_call}
-use Rattle.art_core.specs.Core.{invocation, move_of, move_from, next_move, moved_by, step_of, step}
-use Rattle.art_core.specs.Runs.{run_on, Gives}
 use Rattle.art_core.specs.Laws.{Begins, begun_plan, MayMove}
 
 pub run-on-append : (plan : Plan) (s : Option State) (earlier later : List ℕ)

@@ -1,18 +1,14 @@
 -- What is computed of a schedule is what its items name.
-use Rattle.std.proofs.Common.{◌≡◌, ℕ, zero, suc, ◌+◌, Bool, true, false, not, ◌||◌, List, [], ◌∷◌, refl, sym, ap, subst, ◌∙◌, arith}
-use Rattle.std.proofs.Common.{Option, Some, None, eqb-true, eq-eqb}
-use Rattle.std.proofs.lemmas.Option.{none-some}
+use Rattle.art_core.proofs.Common.{◌≡◌, ℕ, zero, suc, ◌+◌, Bool, true, false, List, [], ◌∷◌, refl, sym, ap, subst, ◌∙◌, arith, eq-eqb, none-some}
+use Rattle.art_core.proofs.Common.{slice_get, Point, Item, Process, Plan, State, step, process_of_item, WantsTurn, AreMade, IsMadeWhole}
+use Rattle.std.proofs.Common.{not, ◌||◌, Option, Some, None, eqb-true}
 use Rattle.std.proofs.lemmas.Bool.{not-false, not-true, or_parts, true≢false}
-use Rattle.std.specs.Prelude.{slice_get, if◌then◌else◌}
-use Rattle.art_steps.specs.declared.access.Point.{Point}
+use Rattle.std.specs.Prelude.{if◌then◌else◌}
 use Rattle.art_steps.specs.declared.access.Point.TheVariants as point
-use Rattle.art_core.specs.declared.item.Item.{Item}
 use Rattle.art_core.specs.declared.item.Item.TheVariants.{Turns, End, Until}
-use Rattle.art_core.specs.declared.process.Process.{Process}
-use Rattle.art_core.specs.Core.{Plan, State, step}
-use Rattle.art_core.specs.NamedTurns.{process_of_item, next_point, finished_count, WantsTurn, AreMade, IsMadeWhole}
-use Rattle.art_core.specs.Schedules.{Refusal, Run, turn_with, turn, if_refused, unless_refused, turns_made, turns_until}
-use Rattle.art_core.specs.Schedules.{point_number, is_at, has_finished, made, items_made, begun_run}
+use Rattle.art_core.specs.NamedTurns.{next_point, finished_count}
+use Rattle.art_core.specs.Schedules.{Refusal, Run, turn_with, turn, if_refused, unless_refused, turns_made, turns_until, point_number, is_at}
+use Rattle.art_core.specs.Schedules.{has_finished, made, items_made, begun_run}
 use Rattle.art_core.specs.Laws.{HasComputed, SchedulesCompute}
 use Rattle.art_core.proofs.NamedTurnLemmas.{made-none, made-more}
 

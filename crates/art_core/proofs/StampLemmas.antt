@@ -1,29 +1,14 @@
 -- The clock counts the events of the logs, and a plan has few of them.
-use Rattle.std.proofs.Common.{◌≡◌, ◌≢◌, ℕ, suc, ◌+◌, ◌*◌, ◌%◌, ◌^◌, ◌<◌, ◌≤◌, Bool, true, false, cond, arith, refl}
-use Rattle.std.proofs.Common.{sym, subst, ap}
-use Rattle.std.proofs.Common.{List, [], ◌∷◌, length, map, get_or-set_same, get_or-set_other}
-use Rattle.std.specs.Prelude.{Option, Some, None, is_some, All, slice_get, slice_index, slice_set}
-use Rattle.std.specs.Prelude.{filter_map, flat_map, sum_by}
-use Rattle.std.proofs.lemmas.List.{length-append}
-use Rattle.std.proofs.lemmas.List.Sums.{sum-map, sum_by-set, sum_by-cons}
-use Rattle.std.proofs.lemmas.List.Elements.{All-nil, All-cons}
-use Rattle.std.proofs.lemmas.Option.{slice_get_within, get_or_from_slice_get, same_Some, none-some}
-use Rattle.events.specs.declared.event.Call.{Call}
-use Rattle.events.specs.declared.event.Event.TheVariants.{Invoke, Answer}
-use Rattle.logs.specs.Logs.{Stamped}
-use Rattle.logs.proofs.GrowthLemmas.{AreBelow, AreBelow-front, AreBelow-back}
-use Rattle.art_rows.specs.Table.{table_words}
-use Rattle.art_steps.specs.Fits.{word_of}
-use Rattle.art_steps.specs.Steps.{Turn, Asks, Answers}
-use Rattle.art_steps.specs.Act.{act}
-use Rattle.art_steps.proofs.AccessLemmas.{act-stays}
-use Rattle.art_core.specs.declared.process.Process.{Process}
-use Rattle.art_core.specs.Core.{Plan, State, Move, Invokes, Makes, Responds, begun, invoked, answered, moved}
-use Rattle.art_core.specs.Core.{after_move, move_of}
-use Rattle.art_core.specs.Core.{move_from, next_move, next_call, invocation, step, opened_on, history_of}
+use Rattle.art_core.proofs.Common.{◌≡◌, ◌≢◌, ℕ, suc, ◌+◌, ◌*◌, ◌%◌, ◌^◌, ◌<◌, ◌≤◌, Bool, true, false, cond, arith, refl, sym, subst, ap, List}
+use Rattle.art_core.proofs.Common.{[], ◌∷◌, length, map, get_or-set_same, get_or-set_other, Option, Some, None, is_some, All, slice_get}
+use Rattle.art_core.proofs.Common.{slice_index, slice_set, filter_map, flat_map, sum_by, length-append, sum-map, sum_by-set, sum_by-cons}
+use Rattle.art_core.proofs.Common.{All-nil, slice_get_within, get_or_from_slice_get, same_Some, none-some, Call, Invoke, Answer, Stamped}
+use Rattle.art_core.proofs.Common.{AreBelow, table_words, word_of, Turn, Asks, Answers, act, act-stays, Process, Plan, State, Move, Invokes}
+use Rattle.art_core.proofs.Common.{Makes, Responds, begun, invoked, answered, moved, after_move, move_of, move_from, next_move, next_call}
+use Rattle.art_core.proofs.Common.{invocation, step, opened_on, history_of, run_on, IsPlan}
+use Rattle.std.proofs.lemmas.List.Elements.{All-cons}
+use Rattle.logs.proofs.GrowthLemmas.{AreBelow-front, AreBelow-back}
 use Rattle.art_core.specs.Accesses.{changed}
-use Rattle.art_core.specs.Runs.{run_on}
-use Rattle.art_core.specs.Plans.{IsPlan}
 use Rattle.art_core.specs.Laws.{ClocksAreAhead}
 use Rattle.art_core.proofs.HistoryLemmas.{IsLogged, one-drawn, is-moved, nowhere, opened-logged, calls-within, all-idle}
 use Rattle.art_core.proofs.CountLemmas.{IsCounted, are_counted, counted-step}

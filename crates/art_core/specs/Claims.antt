@@ -2,8 +2,7 @@
 -- (`logs_are_history`), of serial schedules (`serial_is_map`), of scans (`scans_have_one_moment`),
 -- of the optimistic tree (`optimistic_is_linearizable`) and of the coupled one
 -- (`coupled_is_linearizable`).
-use Rattle.std.specs.Prelude.{◌≡◌, ◌≢◌, ◌⊎◌, ℕ, Bool, true, false, IsTrue, List, length, slice_get, All, Some}
-use Rattle.events.specs.declared.event.Call.{Call}
+use Rattle.std.specs.Prelude.{◌≡◌, ◌≢◌, ◌⊎◌, ℕ, List, length, slice_get, Some}
 use Rattle.events.specs.declared.event.Call.TheVariants.{Scan}
 use Rattle.events.specs.declared.event.Reply.{Reply}
 use Rattle.events.specs.declared.event.Reply.TheVariants as replies
@@ -37,17 +36,6 @@ abbrev pub CoupledIsLinearizable : Type 0
 CoupledIsLinearizable =
     (plan : Plan) (start : Contents) (words schedule : List ℕ) (s : State) → IsRun plan start words schedule s
     → plan.variant ≡ Coupled → IsLinearizable start (operations (history_of s))
-
-abbrev pub is_scan_free : Call → Bool
-is_scan_free (Scan low high) = false
-is_scan_free call = true
-
--- then of the optimistic one where no script holds a scan,
-abbrev pub OptimisticIsLinearizableWithoutScans : Type 0
-OptimisticIsLinearizableWithoutScans =
-    (plan : Plan) (start : Contents) (words schedule : List ℕ) (s : State) → IsRun plan start words schedule s
-    → plan.variant ≡ Optimistic
-    → All (λ script. All (λ call. IsTrue (is_scan_free call)) script) plan.scripts → IsLinearizable start (operations (history_of s))
 
 -- and then of the optimistic one with scans.
 abbrev pub OptimisticIsLinearizable : Type 0

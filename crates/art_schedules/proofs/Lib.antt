@@ -1,3 +1,4 @@
+mod Common
 pub mod points
 pub mod calls
 pub mod calm

@@ -1,8 +1,6 @@
 -- The work of a call in the rows that it holds: what it touches, and what it does where it goes on by itself.
 pub mod Solo
 pub mod Own
-pub mod Follow
 pub mod Works
 pub mod Ways
-pub mod Finds
 pub mod Laws

@@ -1,6 +1,5 @@
 // Laws of every schedule, by parts.
 pub mod calls;
-pub mod calm;
 pub mod changes;
 pub mod coupled;
 pub mod coupled_runs;

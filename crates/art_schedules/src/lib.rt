@@ -21,113 +21,31 @@
 
 mod laws;
 
-pub use laws::calls::effects_give_orders;
-pub use laws::calls::effects_keep_few_pairs;
-pub use laws::calls::effects_leave_pairs;
-pub use laws::calls::fronts_have_moments;
-pub use laws::calls::moments_end_runs;
-pub use laws::calls::pairs_stay_few;
-pub use laws::calls::runs_have_calls;
-pub use laws::calm::calm_goes_on;
-pub use laws::calm::calm_is_kept;
-pub use laws::calm::calm_is_steady;
-pub use laws::calm::calm_rows_are_of_moments;
-pub use laws::calm::words_stay_small;
-pub use laws::changes::effects_follow;
-pub use laws::changes::fresh_rows_are_of_rows;
-pub use laws::changes::kept_trees_follow;
-pub use laws::changes::low_words_keep;
-pub use laws::changes::new_children_are_of_rows;
-pub use laws::changes::rows_are_by_words;
-pub use laws::changes::same_rows_say_the_same;
-pub use laws::changes::slots_are_children;
-pub use laws::changes::ways_are_paths;
-pub use laws::changes::ways_say_values;
-pub use laws::changes::ways_stay;
-pub use laws::changes::works_are_leaves;
-pub use laws::changes::works_are_rows;
-pub use laws::changes::writes_are_rows;
-pub use laws::changes::writes_are_slots;
-pub use laws::coupled::calls_begin;
-pub use laws::coupled::calls_go_on;
-pub use laws::coupled::calls_stay;
-pub use laws::coupled::calls_take_live;
-pub use laws::coupled::coupled_findings_stay;
-pub use laws::coupled::coupled_ways_are_kept;
-pub use laws::coupled::coupled_ways_go_on;
-pub use laws::coupled::found_is_answered;
-pub use laws::coupled::good_rows_stay;
-pub use laws::coupled::held_rows_live;
-pub use laws::coupled::obsolete_rows_leave;
-pub use laws::coupled::others_leave_good;
-pub use laws::coupled::others_leave_ways;
-pub use laws::coupled::scans_know_trees;
-pub use laws::coupled::seekers_are_not_answered;
-pub use laws::coupled::walks_are_the_maps;
-pub use laws::coupled::ways_hold_reached;
-pub use laws::coupled::ways_take_reached;
+pub use laws::calls::{
+    effects_give_orders, fronts_have_moments, moments_end_runs, runs_have_calls,
+};
+pub use laws::changes::{effects_follow, kept_trees_follow, ways_say_values};
+pub use laws::coupled::{
+    calls_begin, calls_go_on, calls_stay, calls_take_live, found_is_answered, good_rows_stay,
+    obsolete_rows_leave, others_leave_good, others_leave_ways, seekers_are_not_answered,
+    walks_are_the_maps, ways_take_reached,
+};
 pub use laws::coupled_runs::coupled_is_linearizable;
-pub use laws::effects::effects_bring_theirs;
-pub use laws::effects::enders_go_on;
-pub use laws::effects::fresh_is_claimed;
-pub use laws::effects::fresh_rows_stay_apart;
-pub use laws::effects::hangers_hold_above;
-pub use laws::effects::leavers_hold_reached;
-pub use laws::effects::leavers_step;
-pub use laws::effects::obsolete_rows_hang;
-pub use laws::effects::others_keep_ends;
-pub use laws::effects::others_keep_marked;
-pub use laws::effects::others_keep_work;
-pub use laws::effects::work_begins;
-pub use laws::effects::workers_do_not_scan;
-pub use laws::effects::workers_go_on;
-pub use laws::effects::workers_hold_reached;
-pub use laws::effects::workers_may_have_no_mark;
-pub use laws::effects::workers_only_work;
-pub use laws::effects::workers_step;
-pub use laws::locked_scans::found_scans_answer;
-pub use laws::locked_scans::found_scans_stay;
-pub use laws::locked_scans::others_leave_scans;
-pub use laws::locked_scans::others_leave_trees;
-pub use laws::locked_scans::scans_begin;
-pub use laws::locked_scans::scans_come_on;
-pub use laws::locked_scans::scans_go_on;
-pub use laws::locked_scans::scans_take_live;
-pub use laws::locked_scans::scans_take_reached;
-pub use laws::locked_scans::walked_scans_find;
-pub use laws::locked_scans::walking_scans_ask;
-pub use laws::optimistic::calm_agrees;
-pub use laws::optimistic::infos_stay;
-pub use laws::optimistic::optimistic_findings_stay;
-pub use laws::optimistic::optimistic_ways_are_kept;
-pub use laws::optimistic::optimistic_ways_go_on;
-pub use laws::optimistic::other_steps_keep_ways;
-pub use laws::optimistic::own_findings_stay;
-pub use laws::optimistic::own_steps_go_on;
-pub use laws::optimistic::quiet_steps_keep_trees;
-pub use laws::optimistic::scans_store_nothing;
-pub use laws::optimistic::ways_begin;
+pub use laws::effects::{
+    effects_bring_theirs, enders_go_on, fresh_is_claimed, leavers_hold_reached, leavers_step,
+    obsolete_rows_hang, others_keep_ends, others_keep_marked, others_keep_work, work_begins,
+    workers_go_on, workers_hold_reached, workers_may_have_no_mark, workers_only_work, workers_step,
+};
+pub use laws::locked_scans::{
+    found_scans_answer, found_scans_stay, others_leave_scans, others_leave_trees, scans_begin,
+    scans_come_on, scans_take_live, scans_take_reached, walked_scans_find, walking_scans_ask,
+};
+pub use laws::optimistic::{
+    other_steps_keep_ways, own_findings_stay, own_steps_go_on, quiet_steps_keep_trees,
+    scans_store_nothing, ways_begin,
+};
 pub use laws::optimistic_runs::optimistic_is_linearizable;
-pub use laws::optimistic_runs::optimistic_is_linearizable_without_scans;
-pub use laws::points::orders_give_points;
-pub use laws::points::points_give_orders;
-pub use laws::points::points_order_calls;
-pub use laws::points::windows_give_precedence;
+pub use laws::points::{orders_give_points, points_give_orders};
 pub use laws::scan_points::answered_scans_have_points;
-pub use laws::stories::starts_are_at_rest;
-pub use laws::stories::stories_give_effects;
-pub use laws::stories::stories_give_orders;
-pub use laws::work::finds_are_seen;
-pub use laws::work::locked_rows_are_read;
-pub use laws::work::locked_touches_own;
-pub use laws::work::own_can_follow;
-pub use laws::work::rows_are_known;
-pub use laws::work::seen_is_there;
-pub use laws::work::solos_are_one;
-pub use laws::work::solos_follow;
-pub use laws::work::solos_go_on;
-pub use laws::work::solos_run_alone;
-pub use laws::work::work_claims_first;
-pub use laws::work::work_comes_to_release;
+pub use laws::stories::{starts_are_at_rest, stories_give_effects, stories_give_orders};
 pub use laws::work::work_is_done;
-pub use laws::work::work_touches_own;

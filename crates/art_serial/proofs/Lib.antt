@@ -1,3 +1,4 @@
+mod Common
 pub mod words
 pub mod trees
 pub mod alone

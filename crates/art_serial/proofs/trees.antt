@@ -13,15 +13,10 @@ pub mod NewMaps
 pub mod OneMap
 pub mod Opening
 pub mod Pairs
-pub mod PutKeys
-pub mod PutRows
 pub mod RowHeads
-pub mod RowKeys
 pub mod RowSlots
-pub mod RowsApart
 pub mod SameRows
 pub mod SameTrees
-pub mod Stores
 pub mod Walks
 pub mod WayValues
 pub mod Ways

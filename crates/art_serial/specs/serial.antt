@@ -1,4 +1,3 @@
 -- Calls that run alone, one after another, and what each of them keeps.
 pub mod Serial
-pub mod Composition
 pub mod Laws

@@ -1,6 +1,3 @@
 -- Trees in a table at rest: what the map has at a key, and what a change of one row makes of the map.
 pub mod Children
-pub mod Keys
-pub mod Puts
-pub mod Stores
 pub mod Trees

@@ -6,4 +6,3 @@ pub mod serial;
 pub mod trees;
 pub mod walks;
 pub mod words;
-pub mod writes;

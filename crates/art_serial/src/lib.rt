@@ -11,24 +11,14 @@
 
 mod laws;
 
-pub use laws::alone::{ends_once, seeks_are_the_maps};
-pub use laws::inserts::{inserts_are_the_maps, settled_words_rest};
+pub use laws::alone::seeks_are_the_maps;
+pub use laws::inserts::inserts_are_the_maps;
 pub use laws::maps::{serial_is_map, starts_end};
-pub use laws::serial::{
-    serial_runs_compose, serial_schedules_compose, serial_schedules_run_alone,
-    sole_process_runs_script,
-};
+pub use laws::serial::serial_schedules_run_alone;
 pub use laws::trees::{
-    children_are_read, grown_rows_are_hung, keys_are_put_in, keys_are_read, keys_part,
-    leaves_are_put, leaves_are_removed, leaves_are_small, maps_are_one, pairs_are_hung,
-    rows_have_two, rows_take_one_more, same_trees_are_one, slots_are_stored, tables_open_at_rest,
-    trees_are_walked, ways_go_down, ways_lead_to_values,
+    children_are_read, grown_rows_are_hung, keys_part, leaves_are_put, leaves_are_removed,
+    leaves_are_small, maps_are_one, pairs_are_hung, same_trees_are_one, tables_open_at_rest,
+    trees_are_walked, ways_lead_to_values,
 };
 pub use laws::walks::scans_are_the_maps;
-pub use laws::words::{
-    keys_are_kept, rows_are_apart, versions_say, words_are_read_back, words_are_small,
-};
-pub use laws::writes::{
-    grown_rows_are_written, pairs_are_written, puts_write_leaves, rows_are_filled,
-    rows_are_their_fields,
-};
+pub use laws::words::{versions_say, words_are_read_back, words_are_small};

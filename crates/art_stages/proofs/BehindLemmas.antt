@@ -1,13 +1,6 @@
 -- Every list of words got leaves a call at a stage.
-use Rattle.std.proofs.Common.{◌≡◌, ℕ, List, [], ◌∷◌, ◌++◌, refl, ap, ◌∙◌, false}
-use Rattle.events.specs.declared.event.Call.{Call}
-use Rattle.events.specs.declared.event.Call.TheVariants.{Get, Insert, Remove, Scan, Replace}
-use Rattle.art_steps.specs.Rows.{Setting, locks, is_scan}
-use Rattle.art_steps.specs.Act.{act}
-use Rattle.art_stages.specs.declared.stage.Stage.{Stage}
-use Rattle.art_stages.specs.Automaton.{start_at, stage_after}
-use Rattle.art_stages.specs.Scans.{ScanAt, scan_after, scan_start}
-use Rattle.art_stages.specs.Stages.{rest_in}
+use Rattle.art_stages.proofs.Common.{◌≡◌, ℕ, List, [], ◌∷◌, ◌++◌, refl, ap, ◌∙◌, false, Call, Get, Insert, Remove, Scan, Replace, Setting, locks}
+use Rattle.art_stages.proofs.Common.{is_scan, act, Stage, start_at, stage_after, ScanAt, scan_after, scan_start, rest_in}
 use Rattle.art_stages.specs.Calls.{CallAt, OnKey, OnScan, rest_at, call_turn, begun_as, after_all, call_behind}
 use Rattle.art_stages.proofs.TurnLemmas.{next}
 use Rattle.art_stages.proofs.StepLemmas.{begins, goes_on}

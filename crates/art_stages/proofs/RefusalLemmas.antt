@@ -1,35 +1,20 @@
 -- A refused call's last claim found the capacity of its kind reached.
-use Rattle.std.proofs.Common.{◌≡◌, ℕ, zero, suc, ◌<◌, ◌≤◌, List, [], ◌∷◌, ◌++◌, append_assoc, length, take, refl, ap, sym, subst, ◌∙◌, Bool}
-use Rattle.std.proofs.Common.{true, false}
-use Rattle.std.proofs.Common.{arith, inl, inr, ◌⊎◌}
-use Rattle.std.proofs.lemmas.Bool.{false≢true}
+use Rattle.art_stages.proofs.Common.{◌≡◌, ℕ, zero, suc, ◌≤◌, List, [], ◌∷◌, ◌++◌, refl, ap, sym, ◌∙◌, Bool, true, false, arith, inl, inr, ◌⊎◌}
+use Rattle.art_stages.proofs.Common.{false≢true, Option, Some, None, Call, Get, Insert, Remove, Scan, Replace, Reply, Kind, rows_of, claims_of}
+use Rattle.art_stages.proofs.Common.{Add, Asks, reply_of, act, Setting, locks, releases_early, is_insert, is_scan, Four, Sixteen, FortyEight}
+use Rattle.art_stages.proofs.Common.{Full, Held, ScanStep, FirstKeys, SecondKeys, Index, Release, ScanAt, at, scan_in, scan_turn, scan_start}
+use Rattle.art_stages.proofs.Common.{scan_after, keys_turn, release_turn, Stage, rest_in, turn_at, start_at, stage_after}
+use Rattle.std.proofs.Common.{◌<◌, append_assoc, length, take, subst}
 use Rattle.std.proofs.Math.Seq.{get_or-append_seam, take-append_seam}
 use Rattle.std.proofs.lemmas.List.{append-nil, get_or_append_left, take-append-le}
-use Rattle.std.specs.Prelude.{Option, Some, None}
-use Rattle.events.specs.declared.event.Call.{Call}
-use Rattle.events.specs.declared.event.Call.TheVariants.{Get, Insert, Remove, Scan, Replace}
-use Rattle.events.specs.declared.event.Reply.{Reply}
 use Rattle.events.specs.declared.event.Reply.TheVariants as reply
-use Rattle.art_rows.specs.declared.table.Kind.{Kind}
-use Rattle.art_rows.specs.Table.{rows_of, claims_of}
-use Rattle.art_steps.specs.declared.access.Access.TheVariants.{Add}
-use Rattle.art_steps.specs.Steps.{Asks, Answers, reply_of}
-use Rattle.art_steps.specs.Act.{act}
+use Rattle.art_steps.specs.Steps.{Answers}
 use Rattle.art_steps.specs.Fits.{Fits, Claims, RefusedAtCapacity, RefusesOnlyAtCapacity}
-use Rattle.art_steps.specs.Rows.{Setting, locks, releases_early, is_insert, is_scan}
-use Rattle.art_rows.specs.declared.table.Kind.TheVariants.{Four, Sixteen, FortyEight, Full}
 use Rattle.art_rows.specs.declared.table.Shape.{Shape}
 use Rattle.art_steps.specs.declared.variant.Variant.{Variant}
-use Rattle.art_stages.specs.declared.stage.Held.{Held}
-use Rattle.art_stages.specs.declared.stage.ScanStep.{ScanStep}
-use Rattle.art_stages.specs.declared.stage.ScanStep.TheVariants.{Lock, Exchange, Wait, Info, Keys, FirstKeys, SecondKeys, Index, Child}
-use Rattle.art_stages.specs.declared.stage.ScanStep.TheVariants.{Release}
-use Rattle.art_stages.specs.declared.stage.ScanStep.TheVariants.{Over as ScanOver}
-use Rattle.art_stages.specs.Scans.{ScanAt, at, scan_in, scan_turn, scan_start, scan_after, keys_turn, release_turn}
+use Rattle.art_stages.specs.declared.stage.ScanStep.TheVariants.{Lock, Exchange, Wait, Info, Keys, Child, Over as ScanOver}
 use Rattle.art_stages.proofs.ScanLemmas.{scan_next, scan_begins, scan_goes_on}
-use Rattle.art_stages.specs.declared.stage.Stage.{Stage}
-use Rattle.art_stages.specs.Stages.{setting, rest_in}
-use Rattle.art_stages.specs.Automaton.{turn_at, start_at, stage_after}
+use Rattle.art_stages.specs.Stages.{setting}
 use Rattle.art_stages.proofs.TurnLemmas.{next}
 use Rattle.art_stages.proofs.StepLemmas.{begins, goes_on}
 use Rattle.art_stages.proofs.RefusingStageLemmas.{refuses, is_add, no_claim, Came, came, answers_refused}

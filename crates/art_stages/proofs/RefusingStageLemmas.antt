@@ -1,55 +1,26 @@
 -- Stages that refuse, and where a call comes to them.
-use Rattle.std.proofs.Common.{◌≡◌, ℕ, zero, suc, ◌+◌, ◌≤◌, refl, sym, ◌∙◌, Bool, true, false, arith, inl, inr, ◌⊎◌}
-use Rattle.std.proofs.lemmas.Bool.{false≢true}
-use Rattle.std.specs.Prelude.{◌==◌, nat_lt, nat_le, if◌then◌else◌, Option, Some, None, slice_index}
-use Rattle.events.specs.declared.event.Reply.{Reply}
+use Rattle.art_stages.proofs.Common.{◌≡◌, ℕ, zero, suc, ◌+◌, ◌≤◌, refl, sym, ◌∙◌, Bool, true, false, arith, inl, inr, ◌⊎◌, false≢true, ◌==◌}
+use Rattle.art_stages.proofs.Common.{nat_lt, nat_le, if◌then◌else◌, Option, Some, None, slice_index, Reply, Kind, Four, Sixteen, FortyEight}
+use Rattle.art_stages.proofs.Common.{Full, Empty, ChildRow, Leaf, rows_of, claims_of, base_of, is_locked, is_obsolete, entries_of, Add, Asks}
+use Rattle.art_stages.proofs.Common.{reply_of, Setting, locks, takes_unchecked, leaves_out_check, is_insert, is_full, key_of, next_kind}
+use Rattle.art_stages.proofs.Common.{overwriting, keys_differ_at, Held, Keys, Finding, Position, Hold, Pair, Down, Work, Taking, Target, Growing}
+use Rattle.art_stages.proofs.Common.{Spread, PairWord, Outcome, Stage, Root, Below, Taken, Refused, Lock, Exchange, Wait, Leave, Between, Info}
+use Rattle.art_stages.proofs.Common.{Find, FindKeys, FindMore, FindCount, Slot, Check, CheckLast, LetGo, Take, Write, ClaimPair, StorePair}
+use Rattle.art_stages.proofs.Common.{PutLoad, PutStore, PutLeaf, PutKeys, PutMore, PutCount, ClaimGrow, GrowInfo, GrowLoad, GrowStore}
+use Rattle.art_stages.proofs.Common.{SpreadIndex, SpreadLoad, SpreadStore, GrowLeaf, GrowKeys, GrowCount, Hang, Obsolete, Unlock, Over, row_at}
+use Rattle.art_stages.proofs.Common.{count_in, between_turn, find_turn, pair_turn, put_keys_turn, grow_keys_turn, grow_leaf_turn}
+use Rattle.art_stages.proofs.Common.{grow_count_turn, turn_at, start_at, release_at, moves_at, put_at, work_at, take_at, taken_at, overwrite_at}
+use Rattle.art_stages.proofs.Common.{seek_coupled, insert_coupled, let_go_at, place_coupled, overwrite_unlocked, seek_unlocked, grow_unlocked}
+use Rattle.art_stages.proofs.Common.{insert_unlocked, found_at, checked_at, among_at, indexed_at, find_at, arrived_at, entered_at, below_at}
+use Rattle.art_stages.proofs.Common.{pair_after, put_keys_after, copies_at, spreads_at, entries_at, fill_at, leaf_after, keys_at_after}
+use Rattle.art_stages.proofs.Common.{after_with, keys_one}
 use Rattle.events.specs.declared.event.Reply.TheVariants as reply
-use Rattle.art_rows.specs.declared.table.Kind.{Kind}
-use Rattle.art_rows.specs.declared.table.Kind.TheVariants.{Four, Sixteen, FortyEight, Full}
-use Rattle.art_rows.specs.declared.table.Child.TheVariants.{Empty, Row as ChildRow, Leaf}
-use Rattle.art_rows.specs.Table.{rows_of, claims_of, base_of}
-use Rattle.art_rows.specs.Words.{is_locked, is_obsolete, entries_of}
-use Rattle.art_steps.specs.declared.access.Access.TheVariants.{Add}
-use Rattle.art_steps.specs.Steps.{Turn, Asks, reply_of}
-use Rattle.art_steps.specs.Rows.{Setting, locks, takes_unchecked, leaves_out_check, is_insert, is_full, key_of}
-use Rattle.art_steps.specs.Updates.{next_kind, overwriting, keys_differ_at}
-use Rattle.art_stages.specs.declared.stage.Held.{Held}
-use Rattle.art_stages.specs.declared.stage.Keys.{Keys}
-use Rattle.art_stages.specs.declared.stage.Finding.{Finding}
-use Rattle.art_stages.specs.declared.stage.Position.{Position}
-use Rattle.art_stages.specs.declared.stage.Hold.{Hold}
-use Rattle.art_stages.specs.declared.stage.Pair.{Pair}
-use Rattle.art_stages.specs.declared.stage.Down.{Down}
-use Rattle.art_stages.specs.declared.stage.Work.{Work}
-use Rattle.art_stages.specs.declared.stage.Taking.{Taking}
-use Rattle.art_stages.specs.declared.stage.Target.{Target}
-use Rattle.art_stages.specs.declared.stage.Growing.{Growing}
-use Rattle.art_stages.specs.declared.stage.Spread.{Spread}
-use Rattle.art_stages.specs.declared.stage.PairWord.{PairWord}
-use Rattle.art_stages.specs.declared.stage.Outcome.{Outcome}
-use Rattle.art_stages.specs.declared.stage.Stage.{Stage}
+use Rattle.art_steps.specs.Steps.{Turn}
 use Rattle.art_stages.specs.declared.stage.Finding.TheVariants.{Has, Lacks}
 use Rattle.art_stages.specs.declared.stage.Work.TheVariants as work
-use Rattle.art_stages.specs.declared.stage.Target.TheVariants.{Root, Below, Taken}
 use Rattle.art_stages.specs.declared.stage.PairWord.TheVariants as pair_word
-use Rattle.art_stages.specs.declared.stage.Outcome.TheVariants.{Value, Refused}
-use Rattle.art_stages.specs.declared.stage.Stage.TheVariants.{Lock, Exchange, Wait, Leave, Between, Info, Find, FindKeys, FindMore}
-use Rattle.art_stages.specs.declared.stage.Stage.TheVariants.{FindCount, Slot, Check}
-use Rattle.art_stages.specs.declared.stage.Stage.TheVariants.{CheckLast, LetGo, Take, Write, ClaimPair, StorePair, PutLoad, PutStore}
-use Rattle.art_stages.specs.declared.stage.Stage.TheVariants.{PutLeaf, PutKeys, PutMore}
-use Rattle.art_stages.specs.declared.stage.Stage.TheVariants.{PutCount, ClaimGrow, GrowInfo, GrowLoad, GrowStore, SpreadIndex, SpreadLoad}
-use Rattle.art_stages.specs.declared.stage.Stage.TheVariants.{SpreadStore}
-use Rattle.art_stages.specs.declared.stage.Stage.TheVariants.{GrowLeaf, GrowKeys, GrowCount, Hang, Obsolete, Unlock, Over}
-use Rattle.art_stages.specs.Stages.{row_at, count_in}
-use Rattle.art_stages.specs.Automaton.{between_turn, find_turn, pair_turn, put_keys_turn, grow_keys_turn, grow_leaf_turn, grow_count_turn}
-use Rattle.art_stages.specs.Automaton.{store_of, turn_at}
-use Rattle.art_stages.specs.Automaton.{start_at, release_at, moves_at, put_at, work_at, take_at, taken_at, overwrite_at, seek_coupled}
-use Rattle.art_stages.specs.Automaton.{insert_coupled}
-use Rattle.art_stages.specs.Automaton.{let_go_at, place_coupled, overwrite_unlocked, seek_unlocked, grow_unlocked, insert_unlocked}
-use Rattle.art_stages.specs.Automaton.{found_at, checked_at}
-use Rattle.art_stages.specs.Automaton.{among_at, indexed_at, find_at, arrived_at, entered_at, below_at, pair_after, put_keys_after}
-use Rattle.art_stages.specs.Automaton.{copies_at}
-use Rattle.art_stages.specs.Automaton.{spreads_at, entries_at, fill_at, leaf_after, keys_at_after, after_with, keys_one}
+use Rattle.art_stages.specs.declared.stage.Outcome.TheVariants.{Value}
+use Rattle.art_stages.specs.Automaton.{store_of}
 
 abbrev pub refuses : Stage → Bool
 refuses (Unlock h (Some Refused)) = true

@@ -1,44 +1,34 @@
 -- One step of each stage of a scan.
-use Rattle.std.proofs.Common.{◌≡◌, ℕ, zero, suc, ◌+◌, ◌-◌, ◌*◌, ◌%◌, List, [], ◌∷◌, ◌++◌, map, refl, ap, sym, ◌∙◌, Bool, true, false}
-use Rattle.std.specs.Prelude.{if◌then◌else◌, ◌==◌, ◌&&◌, nat_lt, nat_le, length, filter, slice_index, Option, Some, None}
-use Rattle.events.specs.declared.event.Call.TheVariants.{Scan}
-use Rattle.events.specs.declared.event.Reply.{Reply}
+use Rattle.art_stages.proofs.Common.{◌≡◌, ℕ, zero, suc, ◌+◌, ◌-◌, ◌*◌, List, [], ◌∷◌, ◌++◌, refl, ap, sym, ◌∙◌, Bool, true, false, if◌then◌else◌}
+use Rattle.art_stages.proofs.Common.{◌==◌, nat_lt, nat_le, slice_index, Option, Some, None, Scan, Reply, Kind, Four, Sixteen, FortyEight, Full}
+use Rattle.art_stages.proofs.Common.{Empty, ChildRow, Leaf, child_at, is_locked, is_obsolete, locked_word, entries_of, child_of, Held, ScanStep}
+use Rattle.art_stages.proofs.Common.{FirstKeys, SecondKeys, Index, Release, Rest, Part, ◌>>=◌, ◌>>◌, give, start_again, load, swap, each}
+use Rattle.art_stages.proofs.Common.{Setting, locks, leaves_out_check, lock_again, lock, wait, unlock, unlock_all, check, check_of, load_child}
+use Rattle.art_stages.proofs.Common.{procedure, act, lock_turn, lock_again-body, wait_turn, wait-body, act-body, row_at, held, ends, keys_one}
+use Rattle.art_stages.proofs.Common.{ScanAt, at, scan_in, keys_turn, release_turn, scan_turn, scan_start, scan_after}
+use Rattle.std.proofs.Common.{◌%◌, map}
+use Rattle.std.specs.Prelude.{◌&&◌, length, filter}
 use Rattle.events.specs.declared.event.Reply.TheVariants as reply
-use Rattle.art_rows.specs.declared.table.Kind.{Kind}
-use Rattle.art_rows.specs.declared.table.Kind.TheVariants.{Four, Sixteen, FortyEight, Full}
 use Rattle.art_rows.specs.declared.table.Child.{Child}
-use Rattle.art_rows.specs.declared.table.Child.TheVariants.{Empty, Row as ChildRow, Leaf}
-use Rattle.art_rows.specs.Table.{root_base, index_at, child_at}
-use Rattle.art_rows.specs.Words.{is_locked, is_obsolete, locked_word, entries_of, place_of, child_of}
+use Rattle.art_rows.specs.Table.{root_base, index_at}
+use Rattle.art_rows.specs.Words.{place_of}
 use Rattle.events.specs.Limits.{pair_limit}
-use Rattle.art_stages.specs.declared.stage.Held.{Held}
 use Rattle.art_stages.specs.declared.stage.Keys.{Keys as KeyWords}
 use Rattle.art_stages.specs.declared.stage.Entry.{Entry}
 use Rattle.art_stages.specs.declared.stage.Entry.TheVariants.{Root, Below}
 use Rattle.art_stages.specs.declared.stage.Frame.{Frame}
-use Rattle.art_stages.specs.declared.stage.ScanStep.{ScanStep}
-use Rattle.art_stages.specs.declared.stage.ScanStep.TheVariants.{Lock, Exchange, Wait, Info, Keys, FirstKeys, SecondKeys, Index}
-use Rattle.art_stages.specs.declared.stage.ScanStep.TheVariants.{Child as LoadChild, Release}
-use Rattle.art_stages.specs.declared.stage.ScanStep.TheVariants.{Over}
-use Rattle.art_steps.specs.Steps.{Rest, Part, ◌>>=◌, ◌>>◌, give, start_again, load, exchange as swap, each, over, numbers}
-use Rattle.art_steps.specs.Rows.{Setting, Row, locks, leaves_out_check, lock_again, lock, wait, unlock, unlock_all, check, check_of}
-use Rattle.art_steps.specs.Rows.{load_child}
+use Rattle.art_stages.specs.declared.stage.ScanStep.TheVariants.{Lock, Exchange, Wait, Info, Keys, Child as LoadChild, Over}
+use Rattle.art_steps.specs.Steps.{over, numbers}
+use Rattle.art_steps.specs.Rows.{Row}
 use Rattle.art_steps.specs.Scan.{Walked, enter, bytes_of, with_leaf, has_row, walk_child, walk_slot, walk_place, walk_keys, walk_entry}
-use Rattle.art_steps.specs.Scan.{walk_index, walk_in}
-use Rattle.art_steps.specs.Scan.{walk_bytes, scan}
-use Rattle.art_steps.specs.Act.{procedure, act}
-use Rattle.art_steps.proofs.GuardLemmas.{lock_turn, lock_again-body, wait_turn, wait-body, walk_from-body, act-body}
-use Rattle.art_stages.specs.Stages.{row_at, held, ends, keys_among}
-use Rattle.art_stages.specs.Automaton.{keys_one}
-use Rattle.art_stages.specs.Scans.{Walk, ScanAt, at, no_walk, walked, on_way, walk_on, lies, in_word, words_rest, frame_rest, close}
-use Rattle.art_stages.specs.Scans.{scan_rest, visit_rest}
-use Rattle.art_stages.specs.Scans.{entry_base, entry_rest, frame_of, keys16, release_rest, scan_part, scan_in, keys_turn, release_turn}
-use Rattle.art_stages.specs.Scans.{scan_turn, release_rows}
-use Rattle.art_stages.specs.Scans.{close_at, slot_at, bytes_at, index_at_list, words_at, entry_slot, place_slot, child_from, word_test}
-use Rattle.art_stages.specs.Scans.{frame_at, way_at}
-use Rattle.art_stages.specs.Scans.{resume_at, with_frame, with_held, row_begins, visit_list, visit_at, entry_at, enter_at, child_after}
-use Rattle.art_stages.specs.Scans.{keys_after_word}
-use Rattle.art_stages.specs.Scans.{scan_start, release_after, step_after, scan_after}
+use Rattle.art_steps.specs.Scan.{walk_index, walk_in, walk_bytes, scan}
+use Rattle.art_steps.proofs.GuardLemmas.{walk_from-body}
+use Rattle.art_stages.specs.Stages.{keys_among}
+use Rattle.art_stages.specs.Scans.{Walk, no_walk, walked, on_way, walk_on, lies, in_word, words_rest, frame_rest, close, scan_rest, visit_rest}
+use Rattle.art_stages.specs.Scans.{entry_base, entry_rest, frame_of, keys16, release_rest, scan_part, release_rows, close_at, slot_at, bytes_at}
+use Rattle.art_stages.specs.Scans.{index_at_list, words_at, entry_slot, place_slot, child_from, word_test, frame_at, way_at, resume_at}
+use Rattle.art_stages.specs.Scans.{with_frame, with_held, row_begins, visit_list, visit_at, entry_at, enter_at, child_after, keys_after_word}
+use Rattle.art_stages.specs.Scans.{release_after, step_after}
 
 -- what is left at a stage, where the call starts again so
 abbrev left : Setting → ℕ → ℕ → Rest → ScanAt → Rest

@@ -1,62 +1,31 @@
 -- One step of every stage: what is left behind a word is what is left at the next stage.
-use Rattle.std.proofs.Common.{◌≡◌, ℕ, zero, suc, ◌+◌, ◌-◌, ◌*◌, List, ◌∷◌, refl, ap, sym, ◌∙◌, Bool, true, false}
-use Rattle.std.proofs.lemmas.Bool.{false≢true}
-use Rattle.std.specs.Prelude.{if◌then◌else◌, ◌==◌, nat_lt, slice_index, Option, Some, None}
-use Rattle.events.specs.declared.event.Call.{Call}
-use Rattle.events.specs.declared.event.Call.TheVariants.{Get, Insert, Remove, Scan, Replace}
-use Rattle.events.specs.declared.event.Reply.{Reply}
+use Rattle.art_stages.proofs.Common.{◌≡◌, ℕ, zero, suc, ◌+◌, ◌-◌, ◌*◌, List, ◌∷◌, refl, ap, sym, ◌∙◌, Bool, true, false, false≢true}
+use Rattle.art_stages.proofs.Common.{if◌then◌else◌, ◌==◌, nat_lt, slice_index, Option, Some, None, Call, Get, Insert, Remove, Scan, Replace}
+use Rattle.art_stages.proofs.Common.{Reply, Kind, Four, Sixteen, FortyEight, Full, rows_of, base_of, child_at, is_locked, is_obsolete}
+use Rattle.art_stages.proofs.Common.{locked_word, entries_of, child_of, Held, Keys, Down, Hold, Pair, Taking, Target, PairWord, Growing, Spread}
+use Rattle.art_stages.proofs.Common.{Refused, Stage, Lock, Exchange, Wait, Leave, Between, Info, Find, FindKeys, FindMore, FindCount, Slot}
+use Rattle.art_stages.proofs.Common.{Check, CheckLast, LetGo, Take, Write, ClaimPair, StorePair, PutLoad, PutStore, PutLeaf, PutKeys, PutMore}
+use Rattle.art_stages.proofs.Common.{PutCount, ClaimGrow, GrowInfo, GrowLoad, GrowStore, SpreadIndex, SpreadLoad, SpreadStore, GrowLeaf}
+use Rattle.art_stages.proofs.Common.{GrowKeys, GrowCount, Hang, Obsolete, Unlock, Over, Rest, Part, ◌>>=◌, ◌>>◌, give, start_again, store, swap}
+use Rattle.art_stages.proofs.Common.{Setting, locks, is_insert, is_scan, releases_early, lock_again, lock, wait, unlock, unlock_obsolete}
+use Rattle.art_stages.proofs.Common.{unlock_all, check, find_child, load_child, claim, row_of, pair, pair_in, copy_child, store_index}
+use Rattle.art_stages.proofs.Common.{spread_index, grow, next_kind, procedure, act, lock_turn, lock_again-body, wait_turn, wait-body, act-body}
+use Rattle.art_stages.proofs.Common.{row_at, rows_at, held, place_at, found_of, found_then, inform, taken, entered, part_of, ends, rest_in}
+use Rattle.art_stages.proofs.Common.{start_at, release_at, no_value, taken_at, found_at, entered_at, pair_after, put_keys_after, copies_at}
+use Rattle.art_stages.proofs.Common.{spreads_at, entries_at, fill_at, leaf_after, keys_at_after, after_with, stage_after}
 use Rattle.events.specs.declared.event.Reply.TheVariants as reply
-use Rattle.art_rows.specs.declared.table.Kind.{Kind}
-use Rattle.art_rows.specs.declared.table.Kind.TheVariants.{Four, Sixteen, FortyEight, Full}
-use Rattle.art_rows.specs.Table.{rows_of, base_of, keys_at, more_keys_at, child_at}
-use Rattle.art_rows.specs.Words.{is_locked, is_obsolete, locked_word, entries_of, keys16_word}
-use Rattle.art_rows.specs.Words.{more_keys16_word, child_of}
-use Rattle.art_stages.specs.declared.stage.Held.{Held}
-use Rattle.art_stages.specs.declared.stage.Keys.{Keys}
+use Rattle.art_rows.specs.Table.{keys_at, more_keys_at}
+use Rattle.art_rows.specs.Words.{keys16_word, more_keys16_word}
 use Rattle.art_stages.specs.declared.stage.Finding.TheVariants as seen
-use Rattle.art_stages.specs.declared.stage.Down.{Down}
-use Rattle.art_stages.specs.declared.stage.Hold.{Hold}
-use Rattle.art_stages.specs.declared.stage.Pair.{Pair}
-use Rattle.art_stages.specs.declared.stage.Taking.{Taking}
-use Rattle.art_stages.specs.declared.stage.Target.{Target}
-use Rattle.art_stages.specs.declared.stage.PairWord.{PairWord}
 use Rattle.art_stages.specs.declared.stage.PairWord.TheVariants as pair_word
-use Rattle.art_stages.specs.declared.stage.Growing.{Growing}
-use Rattle.art_stages.specs.declared.stage.Spread.{Spread}
-use Rattle.art_stages.specs.declared.stage.Outcome.TheVariants.{Refused}
-use Rattle.art_stages.specs.declared.stage.Stage.{Stage}
-use Rattle.art_stages.specs.declared.stage.Stage.TheVariants.{Lock, Exchange, Wait, Leave, Between, Info, Find, FindKeys, FindMore}
-use Rattle.art_stages.specs.declared.stage.Stage.TheVariants.{FindCount, Slot, Check}
-use Rattle.art_stages.specs.declared.stage.Stage.TheVariants.{CheckLast, LetGo, Take, Write, ClaimPair, StorePair, PutLoad, PutStore}
-use Rattle.art_stages.specs.declared.stage.Stage.TheVariants.{PutLeaf, PutKeys, PutMore}
-use Rattle.art_stages.specs.declared.stage.Stage.TheVariants.{PutCount, ClaimGrow, GrowInfo, GrowLoad, GrowStore, SpreadIndex, SpreadLoad}
-use Rattle.art_stages.specs.declared.stage.Stage.TheVariants.{SpreadStore}
-use Rattle.art_stages.specs.declared.stage.Stage.TheVariants.{GrowLeaf, GrowKeys, GrowCount, Hang, Obsolete, Unlock, Over}
-use Rattle.art_steps.specs.Steps.{Rest, Part, ◌>>=◌, ◌>>◌, give, start_again, answer, store, exchange as swap}
-use Rattle.art_steps.specs.Steps.{start_again}
-use Rattle.art_steps.specs.Rows.{Setting, locks, is_insert, is_scan, releases_early}
-use Rattle.art_steps.specs.Rows.{lock_again, lock, wait, unlock, unlock_obsolete, unlock_all, check, find_child}
-use Rattle.art_steps.specs.Rows.{load_child, claim, row_of}
-use Rattle.art_steps.specs.Updates.{pair, pair_in, copy_child, store_index}
-use Rattle.art_steps.specs.Updates.{spread_entry}
-use Rattle.art_steps.specs.Updates.{spread_index, fill, grow, next_kind}
+use Rattle.art_steps.specs.Steps.{answer}
+use Rattle.art_steps.specs.Updates.{spread_entry, fill}
 use Rattle.art_steps.specs.Coupled as coupled
 use Rattle.art_steps.specs.Optimistic as optimistic
-use Rattle.art_steps.specs.Act.{procedure, act}
-use Rattle.art_steps.proofs.GuardLemmas.{lock_turn, lock_again-body, wait_turn, wait-body}
-use Rattle.art_steps.proofs.GuardLemmas.{act-body}
-use Rattle.art_stages.specs.Stages.{row_at, rows_at, keys_after, rows_held, held, place_at, found_of}
-use Rattle.art_stages.specs.Stages.{target_base}
-use Rattle.art_stages.specs.Stages.{found_then, inform, pair_from, taken, entered}
-use Rattle.art_stages.specs.Stages.{grow_copies, grow_spreads, spread_rest, grow_keys, part_of, ends, rest_in}
-use Rattle.art_stages.specs.Automaton.{start_at, release_at, no_value, taken_at}
-use Rattle.art_stages.specs.Automaton.{found_at}
-use Rattle.art_stages.specs.Automaton.{entered_at, pair_after, put_keys_after, copies_at, spreads_at, entries_at}
-use Rattle.art_stages.specs.Automaton.{fill_at, leaf_after}
-use Rattle.art_stages.specs.Automaton.{keys_at_after, after_with, stage_after}
+use Rattle.art_stages.specs.Stages.{keys_after, rows_held, target_base, pair_from, grow_copies, grow_spreads, spread_rest, grow_keys}
 use Rattle.art_stages.proofs.TurnLemmas.{growing_of}
-use Rattle.art_stages.proofs.WayLemmas.{left, Begins, release_step, unlock_step, moves_step, taken_step, found_step, checked_step}
-use Rattle.art_stages.proofs.WayLemmas.{placed_step, find_step, entered_step, below_step}
+use Rattle.art_stages.proofs.WayLemmas.{left, Begins, release_step, unlock_step, moves_step, taken_step, found_step, checked_step, placed_step}
+use Rattle.art_stages.proofs.WayLemmas.{find_step, entered_step, below_step}
 
 -- Locks and waits
 

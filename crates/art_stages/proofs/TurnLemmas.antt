@@ -1,33 +1,14 @@
 -- What each stage does next.
-use Rattle.std.proofs.Common.{◌≡◌, ℕ, [], refl, Bool, true, false}
-use Rattle.std.specs.Prelude.{◌==◌, if◌then◌else◌, Option}
-use Rattle.art_rows.specs.declared.table.Kind.{Kind}
-use Rattle.art_rows.specs.declared.table.Kind.TheVariants.{Four, Sixteen, FortyEight, Full}
-use Rattle.art_stages.specs.declared.stage.Held.{Held}
-use Rattle.art_stages.specs.declared.stage.Keys.{Keys}
-use Rattle.art_stages.specs.declared.stage.Down.{Down}
-use Rattle.art_stages.specs.declared.stage.Hold.{Hold}
-use Rattle.art_stages.specs.declared.stage.Pair.{Pair}
-use Rattle.art_stages.specs.declared.stage.PairWord.{PairWord}
+use Rattle.art_stages.proofs.Common.{◌≡◌, ℕ, [], refl, Bool, true, false, ◌==◌, if◌then◌else◌, Option, Kind, Four, Sixteen, FortyEight, Full}
+use Rattle.art_stages.proofs.Common.{Held, Keys, Down, Hold, Pair, PairWord, Growing, Stage, Lock, Exchange, Wait, Leave, Between, Info, Find}
+use Rattle.art_stages.proofs.Common.{FindKeys, FindMore, FindCount, Slot, Check, CheckLast, LetGo, Take, Write, ClaimPair, StorePair, PutLoad}
+use Rattle.art_stages.proofs.Common.{PutStore, PutLeaf, PutKeys, PutMore, PutCount, ClaimGrow, GrowInfo, GrowLoad, GrowStore, SpreadIndex}
+use Rattle.art_stages.proofs.Common.{SpreadLoad, SpreadStore, GrowLeaf, GrowKeys, GrowCount, Hang, Obsolete, Unlock, Over, Rest, store, Part}
+use Rattle.art_stages.proofs.Common.{Setting, locks, is_insert, releases_early, lock_again, lock, wait, unlock, unlock_obsolete, unlock_all}
+use Rattle.art_stages.proofs.Common.{check, find_child, find_in, find, load_child, claim, pair, pair_in, copy_child, store_index, spread_index}
+use Rattle.art_stages.proofs.Common.{grow, act, held, part_of, ends, rest_in, between_turn, find_turn, pair_turn, put_keys_turn, grow_keys_turn}
+use Rattle.art_stages.proofs.Common.{grow_leaf_turn, grow_count_turn, turn_at}
 use Rattle.art_stages.specs.declared.stage.PairWord.TheVariants as pair_word
-use Rattle.art_stages.specs.declared.stage.Growing.{Growing}
-use Rattle.art_stages.specs.declared.stage.Stage.{Stage}
-use Rattle.art_stages.specs.declared.stage.Stage.TheVariants.{Lock, Exchange, Wait, Leave, Between, Info, Find, FindKeys, FindMore}
-use Rattle.art_stages.specs.declared.stage.Stage.TheVariants.{FindCount, Slot, Check}
-use Rattle.art_stages.specs.declared.stage.Stage.TheVariants.{CheckLast, LetGo, Take, Write, ClaimPair, StorePair, PutLoad, PutStore}
-use Rattle.art_stages.specs.declared.stage.Stage.TheVariants.{PutLeaf, PutKeys, PutMore}
-use Rattle.art_stages.specs.declared.stage.Stage.TheVariants.{PutCount, ClaimGrow, GrowInfo, GrowLoad, GrowStore, SpreadIndex, SpreadLoad}
-use Rattle.art_stages.specs.declared.stage.Stage.TheVariants.{SpreadStore}
-use Rattle.art_stages.specs.declared.stage.Stage.TheVariants.{GrowLeaf, GrowKeys, GrowCount, Hang, Obsolete, Unlock, Over}
-use Rattle.art_steps.specs.Steps.{Rest, store, Part}
-use Rattle.art_steps.specs.Rows.{Setting, locks, is_insert, releases_early, lock_again, lock, wait, unlock, unlock_obsolete, unlock_all}
-use Rattle.art_steps.specs.Rows.{check, find_child}
-use Rattle.art_steps.specs.Rows.{find_in, find, load_child, claim}
-use Rattle.art_steps.specs.Updates.{pair, pair_in, copy_child, store_index, spread_index, grow}
-use Rattle.art_steps.specs.Act.{act}
-use Rattle.art_stages.specs.Stages.{held, part_of, ends, rest_in}
-use Rattle.art_stages.specs.Automaton.{between_turn, find_turn, pair_turn, put_keys_turn, grow_keys_turn, grow_leaf_turn, grow_count_turn}
-use Rattle.art_stages.specs.Automaton.{turn_at}
 
 between_next : (l i e : Bool) (c : Setting) (d : Down) (kept : ℕ) (again : Rest)
     → part_of l i e c (Between d kept) again ends [] ≡ between_turn l d

@@ -1,61 +1,29 @@
 -- One step on the way to a row and its work: what is left behind a word is what is left at the next stage.
-use Rattle.std.proofs.Common.{◌≡◌, ℕ, zero, suc, ◌-◌, List, [], ◌∷◌, refl, ap, sym, ◌∙◌, Bool, true, false}
-use Rattle.std.proofs.lemmas.Bool.{false≢true}
-use Rattle.std.specs.Prelude.{if◌then◌else◌, ◌==◌, nat_le, slice_index, Option, Some, None}
-use Rattle.events.specs.declared.event.Reply.{Reply}
+use Rattle.art_stages.proofs.Common.{◌≡◌, ℕ, zero, suc, ◌-◌, List, [], ◌∷◌, refl, ap, sym, ◌∙◌, Bool, true, false, false≢true, if◌then◌else◌}
+use Rattle.art_stages.proofs.Common.{◌==◌, nat_le, slice_index, Option, Some, None, Reply, Kind, Four, Sixteen, FortyEight, Full, Empty}
+use Rattle.art_stages.proofs.Common.{ChildRow, Leaf, child_at, locked_word, entries_of, child_of, Held, Keys, Finding, Position, Down, Hold}
+use Rattle.art_stages.proofs.Common.{Work, Taking, Target, Root, Below, Taken, Outcome, Stage, Lock, Wait, Between, Info, Find, FindKeys}
+use Rattle.art_stages.proofs.Common.{FindCount, Slot, Check, CheckLast, Take, Write, ClaimGrow, Unlock, Over, Rest, Part, ◌>>=◌, ◌>>◌, give}
+use Rattle.art_stages.proofs.Common.{start_again, load, swap, each, Setting, is_insert, is_full, releases_early, leaves_out_check}
+use Rattle.art_stages.proofs.Common.{takes_unchecked, key_of, lock, unlock, unlock_all, check, check_of, find_child, find_in, find, row_of}
+use Rattle.art_stages.proofs.Common.{overwriting, pair_in, grow, keys_differ_at, row_at, rows_at, held, place_at, count_in, found_of, found_then}
+use Rattle.art_stages.proofs.Common.{inform, taken, entered, part_of, ends, start_at, release_at, no_value, moves_at, put_at, work_at, take_at}
+use Rattle.art_stages.proofs.Common.{taken_at, overwrite_at, seek_coupled, insert_coupled, let_go_at, place_coupled, overwrite_unlocked}
+use Rattle.art_stages.proofs.Common.{seek_unlocked, grow_unlocked, insert_unlocked, found_at, checked_at, among_at, keys_one, indexed_at}
+use Rattle.art_stages.proofs.Common.{find_at, arrived_at, entered_at, below_at}
 use Rattle.events.specs.declared.event.Reply.TheVariants as reply
-use Rattle.art_rows.specs.declared.table.Kind.{Kind}
-use Rattle.art_rows.specs.declared.table.Kind.TheVariants.{Four, Sixteen, FortyEight, Full}
-use Rattle.art_rows.specs.declared.table.Child.TheVariants.{Empty, Row as ChildRow, Leaf}
-use Rattle.art_rows.specs.Table.{info_at, child_at, count_at}
-use Rattle.art_rows.specs.Words.{locked_word, keys4_of, keys16_of, entries_of, count_of}
-use Rattle.art_rows.specs.Words.{child_of}
-use Rattle.art_rows.specs.Words.{child_word, key_bytes}
-use Rattle.art_stages.specs.declared.stage.Held.{Held}
-use Rattle.art_stages.specs.declared.stage.Keys.{Keys}
-use Rattle.art_stages.specs.declared.stage.Finding.{Finding}
+use Rattle.art_rows.specs.Table.{info_at, count_at}
+use Rattle.art_rows.specs.Words.{keys4_of, keys16_of, count_of, child_word, key_bytes}
 use Rattle.art_stages.specs.declared.stage.Finding.TheVariants as seen
-use Rattle.art_stages.specs.declared.stage.Position.{Position}
-use Rattle.art_stages.specs.declared.stage.Down.{Down}
-use Rattle.art_stages.specs.declared.stage.Hold.{Hold}
-use Rattle.art_stages.specs.declared.stage.Work.{Work}
 use Rattle.art_stages.specs.declared.stage.Work.TheVariants as work
-use Rattle.art_stages.specs.declared.stage.Taking.{Taking}
-use Rattle.art_stages.specs.declared.stage.Target.{Target}
-use Rattle.art_stages.specs.declared.stage.Target.TheVariants.{Root, Below, Taken}
-use Rattle.art_stages.specs.declared.stage.Outcome.{Outcome}
-use Rattle.art_stages.specs.declared.stage.Stage.{Stage}
-use Rattle.art_stages.specs.declared.stage.Stage.TheVariants.{Lock, Wait, Between, Info, Find, FindKeys}
-use Rattle.art_stages.specs.declared.stage.Stage.TheVariants.{FindCount, Slot, Check}
-use Rattle.art_stages.specs.declared.stage.Stage.TheVariants.{CheckLast, Take, Write}
-use Rattle.art_stages.specs.declared.stage.Stage.TheVariants.{ClaimGrow}
-use Rattle.art_stages.specs.declared.stage.Stage.TheVariants.{Unlock, Over}
-use Rattle.art_steps.specs.Steps.{Rest, Part, ◌>>=◌, ◌>>◌, give, start_again, load, exchange as swap, first_at, each}
-use Rattle.art_steps.specs.Steps.{start_again}
-use Rattle.art_steps.specs.Rows.{Setting, Lacks, is_insert, is_full, releases_early, leaves_out_check, takes_unchecked}
-use Rattle.art_steps.specs.Rows.{key_of, lock_point}
-use Rattle.art_steps.specs.Rows.{lock, unlock, unlock_all, check, check_of, take_row, find_child}
-use Rattle.art_steps.specs.Rows.{find_among, find_indexed}
-use Rattle.art_steps.specs.Rows.{find_in, find, row_of, path_differs_at}
-use Rattle.art_steps.specs.Updates.{overwriting, new_leaf, pair_in, make_room, put_in, put, store_child}
-use Rattle.art_steps.specs.Updates.{grow, insert_in, insert_beside, keys_differ_at}
+use Rattle.art_steps.specs.Steps.{first_at}
+use Rattle.art_steps.specs.Rows.{Lacks, lock_point, take_row, find_among, find_indexed, path_differs_at}
+use Rattle.art_steps.specs.Updates.{new_leaf, make_room, put_in, put, store_child, insert_in, insert_beside}
 use Rattle.art_steps.specs.Coupled as coupled
 use Rattle.art_steps.specs.Optimistic as optimistic
-use Rattle.art_steps.proofs.GuardLemmas.{seek_from-body, insert_from-body}
-use Rattle.art_steps.proofs.GuardLemmas.{seek_from_optimistic-body}
-use Rattle.art_steps.proofs.GuardLemmas.{insert_from_optimistic-body}
-use Rattle.art_stages.specs.Stages.{row_at, rows_at, held, place_at, root_place, keys_in, count_in, found_of}
-use Rattle.art_stages.specs.Stages.{descend}
-use Rattle.art_stages.specs.Stages.{found_then, checked_then, placed_then, below_then, inform, arrived, work_in, taken, entered}
-use Rattle.art_stages.specs.Stages.{put_moves}
-use Rattle.art_stages.specs.Stages.{end_with, part_of, ends}
-use Rattle.art_stages.specs.Automaton.{start_at, hold_alone, end_at, release_at, no_value, moves_at, put_at, work_at, take_at, taken_at}
-use Rattle.art_stages.specs.Automaton.{leaf_work, pair_work}
-use Rattle.art_stages.specs.Automaton.{beside_work, overwrite_at, seek_coupled, insert_coupled, let_go_at, has_room, place_coupled}
-use Rattle.art_stages.specs.Automaton.{overwrite_unlocked}
-use Rattle.art_stages.specs.Automaton.{seek_unlocked, take_alone, grow_unlocked, insert_unlocked, found_at, checked_at, among_at, keys_one}
-use Rattle.art_stages.specs.Automaton.{indexed_at, find_at}
-use Rattle.art_stages.specs.Automaton.{arrived_at, entered_at, below_at}
+use Rattle.art_steps.proofs.GuardLemmas.{seek_from-body, insert_from-body, seek_from_optimistic-body, insert_from_optimistic-body}
+use Rattle.art_stages.specs.Stages.{root_place, keys_in, descend, checked_then, placed_then, below_then, arrived, work_in, put_moves, end_with}
+use Rattle.art_stages.specs.Automaton.{hold_alone, end_at, leaf_work, pair_work, beside_work, has_room, take_alone}
 
 -- what is left at a stage, where the call starts again so
 abbrev pub left : Bool → Bool → Bool → Setting → Rest → Stage → Rest

@@ -1,2 +1,3 @@
+mod Common
 pub mod versions
 pub mod moments

@@ -12,8 +12,6 @@ pub mod AccessLemmas
 pub mod LowLemmas
 pub mod StepLemmas
 pub mod RunLemmas
-pub mod LockLemmas
-pub mod RestLemmas
 pub mod FreshLemmas
 pub mod ByteLemmas
 pub mod SettledLemmas

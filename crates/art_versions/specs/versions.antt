@@ -5,5 +5,4 @@ pub mod Effects
 pub mod Versions
 pub mod Steady
 pub mod Writers
-pub mod Locks
 pub mod Laws

@@ -6,10 +6,7 @@
 mod laws;
 
 pub use laws::moments::{
-    answered_gets_are_checked, answered_gets_have_moments, answered_scans_are_validated,
-    answered_scans_have_moments, gets_have_one_moment, scans_have_one_moment, words_were_got,
+    answered_gets_have_moments, answered_scans_have_moments, gets_have_one_moment,
+    scans_have_one_moment,
 };
-pub use laws::versions::{
-    fresh_rows_are_zero, locks_are_held, obsolete_rows_rest, only_holders_write, rows_are_sound,
-    rows_stand_still,
-};
+pub use laws::versions::{only_holders_write, rows_are_sound};

@@ -1,32 +1,20 @@
 -- No number is in two of the orders that are merged.
-use Rattle.std.proofs.Common.{◌≡◌, ℕ, ◌+◌, ◌<◌, ◌≤◌, ◌==◌, Bool, true, false, cond, List, [], ◌∷◌, length, get_or, filter, refl, sym, ap}
-use Rattle.std.proofs.Common.{◌∙◌, ⊎_elim, arith}
-use Rattle.std.specs.Prelude.{slice_get, All, AllPairs, Contains}
-use Rattle.std.specs.List.{AllZip, concat, sum_by}
-use Rattle.std.proofs.lemmas.Bool.{eq-eqb, ne_eqb, cases_order, false≢true, false_from_ne_true}
-use Rattle.std.proofs.lemmas.List.{append-nil}
-use Rattle.std.proofs.lemmas.List.Elements.{All-contains, Contains-get_or, filter-append}
-use Rattle.std.proofs.lemmas.List.Kept.{AllPairs-cons}
+use Rattle.merge_orders.proofs.Common.{◌≡◌, ℕ, ◌+◌, ◌<◌, ◌≤◌, ◌==◌, Bool, true, false, cond, List, [], ◌∷◌, length, get_or, filter, refl, sym}
+use Rattle.merge_orders.proofs.Common.{ap, ◌∙◌, ⊎_elim, arith, slice_get, All, AllPairs, Contains, AllZip, concat, eq-eqb, ne_eqb, cases_order}
+use Rattle.merge_orders.proofs.Common.{false≢true, false_from_ne_true, append-nil, All-contains, Contains-get_or, AllPairs-cons, same_Some}
+use Rattle.merge_orders.proofs.Common.{slice_get-get_or, Operation, has_number, Contents, SegmentView, IsSegment, AreSegments, IsOrderOf}
+use Rattle.merge_orders.proofs.Common.{point_in, point_of, IsMergedOrder, AllPairs-nil, AllPairs-head, AllPairs-tail, Contains-nil}
+use Rattle.merge_orders.proofs.Common.{Contains-cases, Contains-at, place_of-Contains, All-from_contains, slice_get-below, has_number-Contains}
+use Rattle.merge_orders.proofs.Common.{has_number-from_Contains, AllPairs-weaker, IsInside-segment, IsOrderByNumber-from_order, zip_right}
+use Rattle.std.specs.List.{sum_by}
+use Rattle.std.proofs.lemmas.List.Elements.{filter-append}
 use Rattle.std.proofs.lemmas.List.Sorted.{sum_by-IsPermutation}
 use Rattle.std.proofs.lemmas.List.Sums.{sum_by-cons, sum_by-append}
-use Rattle.std.proofs.lemmas.Option.{same_Some, slice_get-get_or}
-use Rattle.events.specs.declared.operation.Operation.{Operation}
-use Rattle.list_laws.specs.Lists.{has_number}
-use Rattle.map_object.specs.MapObject.{Contents}
 use Rattle.events.specs.Keys.{low_key, high_key}
-use Rattle.segments.specs.SegmentView.{SegmentView}
-use Rattle.segments.specs.Segments.{IsSegment, AreSegments}
-use Rattle.segments.specs.SegmentOrders.{IsOrderOf}
-use Rattle.merge_orders.specs.Merge.{point_in, point_of, IsMergedOrder}
-use Rattle.list_laws.proofs.Lists.{AllPairs-nil, AllPairs-head, AllPairs-tail, Contains-nil, Contains-cases, Contains-at, place_of-Contains}
-use Rattle.list_laws.proofs.Lists.{All-from_contains}
 use Rattle.list_laws.proofs.Lists.{filter_all, filter_none}
-use Rattle.list_laws.proofs.NumberLemmas.{slice_get-below, has_number-Contains, has_number-from_Contains}
-use Rattle.list_laws.proofs.FilterLemmas.{AllPairs-at, AllPairs-weaker}
-use Rattle.segments.proofs.SegmentLemmas.{known-IsSegment, IsInside-segment}
-use Rattle.segments.proofs.LocalityLemmas.{IsOrderByNumber-from_order}
+use Rattle.list_laws.proofs.FilterLemmas.{AllPairs-at}
+use Rattle.segments.proofs.SegmentLemmas.{known-IsSegment}
 use Rattle.merge_orders.proofs.PointLemmas.{point_of-is}
-use Rattle.list_laws.proofs.ZipLemmas.{zip_right}
 use Rattle.merge_orders.proofs.MergeLemmas.{Contains-from_concat}
 
 -- no number is in two of the lists

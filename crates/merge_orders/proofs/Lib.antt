@@ -1,3 +1,4 @@
+mod Common
 mod OnceLemmas
 pub mod PlacedLemmas
 mod SortedLemmas

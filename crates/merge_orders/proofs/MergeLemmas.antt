@@ -1,35 +1,26 @@
 -- Orders of the segments, merged by their points, are an order of all calls.
-use Rattle.std.proofs.Common.{◌≡◌, ℕ, ◌<◌, ◌≤◌, Bool, true, false, List, [], ◌∷◌, length, get_or, filter, Option, Some, None, refl, sym, ap}
-use Rattle.std.proofs.Common.{◌∙◌, subst, ⊎_elim}
-use Rattle.std.proofs.Common.{arith}
-use Rattle.std.specs.Prelude.{◌≢◌, slice_get, IsTrue, IsSomeAnd, MatchBool, All, AllPairs, Contains}
-use Rattle.std.specs.List.{AllZip, concat}
-use Rattle.std.proofs.lemmas.Bool.{false≢true, false_from_ne_true, or_left}
-use Rattle.std.proofs.lemmas.List.Elements.{All-contains, Contains-append_left, Contains-append_right, Contains-append_cases}
-use Rattle.std.proofs.lemmas.List.Elements.{Contains-get_or}
-use Rattle.std.proofs.lemmas.List.Sorted.{IsPermutation-sym, Contains-permutation}
-use Rattle.std.proofs.lemmas.Option.{same_Some, slice_get-get_or}
-use Rattle.events.specs.declared.operation.Operation.{Operation}
-use Rattle.list_laws.specs.Lists.{has_number}
-use Rattle.events.specs.Precedence.{is_completed, precedes, belongs}
-use Rattle.map_object.specs.MapObject.{Contents}
-use Rattle.orders.specs.Orders.{KeepsPrecedence, IsLegal, calls_at, IsCompletedAt, IsOrder}
+use Rattle.merge_orders.proofs.Common.{◌≡◌, ℕ, ◌<◌, ◌≤◌, Bool, true, false, List, [], ◌∷◌, length, get_or, filter, Option, Some, None, refl, sym}
+use Rattle.merge_orders.proofs.Common.{ap, ◌∙◌, subst, ⊎_elim, arith, ◌≢◌, slice_get, All, AllPairs, Contains, AllZip, concat, false≢true}
+use Rattle.merge_orders.proofs.Common.{false_from_ne_true, All-contains, Contains-get_or, IsPermutation-sym, Contains-permutation, same_Some}
+use Rattle.merge_orders.proofs.Common.{slice_get-get_or, Operation, has_number, precedes, Contents, KeepsPrecedence, calls_at, IsOrder}
+use Rattle.merge_orders.proofs.Common.{SegmentView, IsSegment, AreSegments, IsOrderOf, point_of, IsMergedOrder, Contains-nil, Contains-cases}
+use Rattle.merge_orders.proofs.Common.{Contains-first, Contains-later, Contains-at, place_of-Contains, All-from_contains, has_number-Contains}
+use Rattle.merge_orders.proofs.Common.{has_number-from_Contains, AreRelatedAs, AllPairs-weaker, IsInside-segment, IsOrderByNumber-from_order}
+use Rattle.merge_orders.proofs.Common.{zip_right}
+use Rattle.std.specs.Prelude.{IsTrue, IsSomeAnd, MatchBool}
+use Rattle.std.proofs.lemmas.Bool.{or_left}
+use Rattle.std.proofs.lemmas.List.Elements.{Contains-append_left, Contains-append_right, Contains-append_cases}
+use Rattle.events.specs.Precedence.{is_completed, belongs}
+use Rattle.orders.specs.Orders.{IsLegal, IsCompletedAt}
 use Rattle.events.specs.Keys.{may_change}
 use Rattle.segments.specs.Cuts.{BelongsAt}
-use Rattle.segments.specs.SegmentView.{SegmentView}
-use Rattle.segments.specs.Segments.{IsSegment, AreSegments}
-use Rattle.segments.specs.SegmentOrders.{IsOrderOf}
-use Rattle.merge_orders.specs.Merge.{point_of, IsMergedOrder}
-use Rattle.list_laws.proofs.Lists.{Contains-nil, Contains-cases, Contains-first, Contains-later, Contains-at, place_of-Contains}
-use Rattle.list_laws.proofs.Lists.{All-from_contains}
-use Rattle.list_laws.proofs.NumberLemmas.{has_number-Contains, has_number-from_Contains}
-use Rattle.list_laws.proofs.FilterLemmas.{AreRelatedAs, AllPairs-from_filter, AllPairs-filter_map, AllPairs-weaker}
+use Rattle.list_laws.proofs.FilterLemmas.{AllPairs-from_filter, AllPairs-filter_map}
 use Rattle.segments.proofs.RangeLemmas.{IsInside, IsOutside}
 use Rattle.segments.proofs.PartLemmas.{GoesByKeys, IsLegal-from_parts}
-use Rattle.segments.proofs.SegmentLemmas.{IsInside-segment, IsOutside-other}
-use Rattle.segments.proofs.LocalityLemmas.{start_of, IsOrderByNumber, IsOrderByNumber-from_order}
+use Rattle.segments.proofs.SegmentLemmas.{IsOutside-other}
+use Rattle.segments.proofs.LocalityLemmas.{start_of, IsOrderByNumber}
 use Rattle.merge_orders.proofs.PointLemmas.{IsOrderAt, point_of-is, point_of-precedes}
-use Rattle.list_laws.proofs.ZipLemmas.{zip_left, zip_right}
+use Rattle.list_laws.proofs.ZipLemmas.{zip_left}
 
 -- a number that is in one of some lists is in the lists together
 pub Contains-concat : (orders : List (List ℕ)) (order : List ℕ) (n : ℕ) → Contains orders order → Contains order n

@@ -1,13 +1,11 @@
 -- Orders of the segments name each call once at most.
-use Rattle.std.proofs.Common.{ℕ, List}
+use Rattle.merge_orders.proofs.Common.{ℕ, List, Contents, operations, NameCallsOnce}
 use Rattle.events.specs.declared.event.Event.{Event}
-use Rattle.map_object.specs.MapObject.{Contents}
 use Rattle.events.specs.Histories.{AreHistoryEvents}
-use Rattle.events.specs.Operations.{operations}
 use Rattle.merge_orders.proofs.DisjointLemmas.{AreDisjoint-from_segments}
 use Rattle.merge_orders.proofs.MergeLemmas.{known-orders, distinct-orders}
 use Rattle.segments.proofs.SegmentViewLemmas.{keys_in_order-operations}
-use Rattle.merge_orders.specs.OrdersOfSegments.{AreOrdersOfSegments, NameCallsOnce}
+use Rattle.merge_orders.specs.OrdersOfSegments.{AreOrdersOfSegments}
 
 -- orders of the segments of a history name its calls once
 pub NameCallsOnce-from_segments : (start : Contents) (events : List Event) (orders : List (List ℕ)) → AreHistoryEvents events

@@ -1,21 +1,15 @@
 -- The calls of orders with their points, one after another.
-use Rattle.std.proofs.Common.{◌≡◌, ℕ, ◌+◌, ◌<◌, List, [], ◌∷◌, ◌++◌, map, length, get_or, take, max, Some, refl, ap, ◌∙◌}
-use Rattle.std.specs.Prelude.{◌≢◌, slice_get, All, AllPairs}
-use Rattle.std.specs.List.{concat}
-use Rattle.std.proofs.lemmas.List.{take_more, map_more, map-append, append-nil, append_assoc}
+use Rattle.merge_orders.proofs.Common.{◌≡◌, ℕ, ◌+◌, ◌<◌, List, [], ◌∷◌, ◌++◌, map, length, get_or, take, Some, refl, ap, ◌∙◌, ◌≢◌, slice_get}
+use Rattle.merge_orders.proofs.Common.{All, AllPairs, concat, append-nil, All-head, All-tail, slice_get-get_or, Operation, greatest, calls_at}
+use Rattle.merge_orders.proofs.Common.{Contains-at, All-from_contains, CallAtPoint, at_point_in, at_point}
+use Rattle.std.proofs.Common.{max}
+use Rattle.std.proofs.lemmas.List.{take_more, map_more, map-append, append_assoc}
 use Rattle.std.proofs.lemmas.List.Folds.{concat-append}
-use Rattle.std.proofs.lemmas.List.Elements.{All-head, All-tail}
-use Rattle.std.proofs.lemmas.Option.{slice_get-get_or, slice_get_within, get_or_from_slice_get}
-use Rattle.events.specs.declared.operation.Operation.{Operation}
-use Rattle.list_laws.specs.Lists.{greatest}
-use Rattle.orders.specs.Orders.{calls_at}
-use Rattle.list_laws.proofs.Lists.{Contains-at, All-from_contains}
+use Rattle.std.proofs.lemmas.Option.{slice_get_within, get_or_from_slice_get}
 use Rattle.list_laws.proofs.NumberLemmas.{greatest-push}
 use Rattle.orders.proofs.OrderLemmas.{calls_at-more}
 use Rattle.merge_orders.proofs.PointLemmas.{point_in-at}
 use Rattle.merge_orders.proofs.DisjointLemmas.{AreDisjoint, point_of-in}
-use Rattle.merge_orders.specs.declared.points.CallAtPoint.{CallAtPoint}
-use Rattle.merge_orders.specs.Points.{at_point_in, at_point}
 
 -- the greatest place of an invocation among the first calls of an order
 abbrev pub latest : List Operation → List ℕ → ℕ → ℕ

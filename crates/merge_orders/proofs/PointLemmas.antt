@@ -1,25 +1,20 @@
 -- The points of calls in their orders.
-use Rattle.std.proofs.Common.{◌≡◌, ℕ, zero, suc, ◌+◌, ◌<◌, ◌≤◌, ◌==◌, Bool, true, false, cond, List, [], ◌∷◌, map, take, Option, Some, None}
-use Rattle.std.proofs.Common.{refl, sym, ap, ◌∙◌}
-use Rattle.std.proofs.Common.{subst, inl, inr, ⊎_elim, arith, add-one}
-use Rattle.std.specs.Prelude.{◌⊎◌, ◌≢◌, slice_get, All, AllPairs, Contains}
-use Rattle.std.proofs.lemmas.Bool.{eqb-true, eqb-false, eq-eqb, ne_eqb, ltb-true, ltb-false, false≢true}
-use Rattle.std.proofs.lemmas.List.Elements.{All-contains}
+use Rattle.merge_orders.proofs.Common.{◌≡◌, ℕ, ◌+◌, ◌<◌, ◌≤◌, ◌==◌, Bool, true, false, cond, List, [], ◌∷◌, map, take, Option, Some, None, refl}
+use Rattle.merge_orders.proofs.Common.{sym, ap, ◌∙◌, subst, ⊎_elim, arith, ◌≢◌, slice_get, All, AllPairs, Contains, eq-eqb, ne_eqb, false≢true}
+use Rattle.merge_orders.proofs.Common.{All-contains, AllPairs-cons, same_Some, Operation, greatest, has_number, precedes, calls_at}
+use Rattle.merge_orders.proofs.Common.{KeepsPrecedence, point_in, point_of, All-from_contains, AllPairs-nil, AllPairs-head, AllPairs-tail}
+use Rattle.merge_orders.proofs.Common.{Contains-first, Contains-later, Contains-nil, Contains-cases, Contains-at, has_number-Contains}
+use Rattle.merge_orders.proofs.Common.{has_number-from_Contains, AreRelatedAs, AllPairs-weaker}
+use Rattle.std.proofs.Common.{zero, suc, inl, inr, add-one}
+use Rattle.std.specs.Prelude.{◌⊎◌}
+use Rattle.std.proofs.lemmas.Bool.{eqb-true, eqb-false, ltb-true, ltb-false}
 use Rattle.std.specs.List.{cons_option}
-use Rattle.std.proofs.lemmas.List.Kept.{AllPairs-cons}
-use Rattle.std.proofs.lemmas.Option.{none-some, same_Some}
-use Rattle.events.specs.declared.operation.Operation.{Operation}
+use Rattle.std.proofs.lemmas.Option.{none-some}
 use Rattle.events.specs.declared.operation.Response.{Response}
-use Rattle.list_laws.specs.Lists.{greatest, has_number}
-use Rattle.events.specs.Precedence.{is_before, precedes}
-use Rattle.orders.specs.Orders.{calls_at, KeepsPrecedence}
-use Rattle.merge_orders.specs.Merge.{up_to, point_in, point_of}
-use Rattle.list_laws.proofs.Lists.{All-from_contains, AllPairs-nil, AllPairs-head, AllPairs-tail, Contains-first, Contains-later}
-use Rattle.list_laws.proofs.Lists.{Contains-nil, Contains-cases}
-use Rattle.list_laws.proofs.Lists.{Contains-at}
-use Rattle.list_laws.proofs.NumberLemmas.{greatest_bound, has_number-Contains, has_number-from_Contains, greatest_is}
-use Rattle.list_laws.proofs.FilterLemmas.{Contains-filter_map, Contains-from_filter_map, AreRelatedAs, AllPairs-from_filter_map}
-use Rattle.list_laws.proofs.FilterLemmas.{AllPairs-weaker}
+use Rattle.events.specs.Precedence.{is_before}
+use Rattle.merge_orders.specs.Merge.{up_to}
+use Rattle.list_laws.proofs.NumberLemmas.{greatest_bound, greatest_is}
+use Rattle.list_laws.proofs.FilterLemmas.{Contains-filter_map, Contains-from_filter_map, AllPairs-from_filter_map}
 
 -- what stands up to a number's place is in the list
 pub Contains-from_up_to : (n : ℕ) (order : List ℕ) (k : ℕ) → Contains (up_to n order) k → Contains order k

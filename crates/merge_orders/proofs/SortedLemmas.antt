@@ -1,21 +1,15 @@
 -- A stable sort of all calls by their points is the merged order.
-use Rattle.std.proofs.Common.{◌≡◌, ℕ, ◌≤◌, ◌==◌, Bool, true, false, cond, List, [], ◌∷◌, get_or, map, filter, not, ◌&&◌, refl, sym, ap}
-use Rattle.std.proofs.Common.{◌∙◌, subst}
-use Rattle.std.proofs.Common.{arith}
-use Rattle.std.specs.Prelude.{All, AllPairs, IsPermutation}
-use Rattle.std.specs.List.{concat}
+use Rattle.merge_orders.proofs.Common.{◌≡◌, ℕ, ◌≤◌, ◌==◌, Bool, true, false, cond, List, [], ◌∷◌, get_or, map, filter, refl, sym, ap, ◌∙◌, subst}
+use Rattle.merge_orders.proofs.Common.{arith, All, AllPairs, IsPermutation, concat, All-head, All-tail, Operation, point_of, IsMergedOrder}
+use Rattle.merge_orders.proofs.Common.{CallAtPoint, NameCallsOnce, at_point}
+use Rattle.std.proofs.Common.{not, ◌&&◌}
 use Rattle.std.specs.List.Sorted.{IsSortedByKey, IsStableByKey}
 use Rattle.std.specs.Ordering.{nat_cmp, is_lt}
-use Rattle.std.proofs.lemmas.List.Elements.{All-head, All-tail, All-map}
+use Rattle.std.proofs.lemmas.List.Elements.{All-map}
 use Rattle.std.proofs.lemmas.List.Sorted.{IsPermutation-map, All-permutation, IsNonDecreasingBy-from_sort}
-use Rattle.events.specs.declared.operation.Operation.{Operation}
-use Rattle.merge_orders.specs.Merge.{point_of, IsMergedOrder}
 use Rattle.list_laws.proofs.FilterLemmas.{AllPairs-map}
 use Rattle.list_laws.proofs.NumberLemmas.{tie_is_same}
 use Rattle.merge_orders.proofs.SortedMergeLemmas.{IsMergedOrder-from_sort}
-use Rattle.merge_orders.specs.declared.points.CallAtPoint.{CallAtPoint}
-use Rattle.merge_orders.specs.OrdersOfSegments.{NameCallsOnce}
-use Rattle.merge_orders.specs.Points.{at_point}
 
 -- a filter keeps of a mapped list what its test passes there
 filter-map : {X Y : Type 0} (p : Y → Bool) (f : X → Y) (xs : List X) → filter p (map f xs) ≡ map f (filter (λ x. p (f x)) xs)

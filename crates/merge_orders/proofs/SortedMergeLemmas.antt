@@ -1,15 +1,10 @@
 -- A stable sort of all orders by point is the merged order.
-use Rattle.std.proofs.Common.{◌≡◌, ℕ, ◌<◌, ◌≤◌, ◌==◌, List, [], ◌∷◌, filter, refl, sym, ap, ◌∙◌, subst, ⊎_elim, arith}
-use Rattle.std.specs.Prelude.{◌≢◌, All, AllPairs, Contains, IsPermutation}
-use Rattle.std.specs.List.{concat}
-use Rattle.std.proofs.lemmas.Bool.{eq-eqb, cases_order}
-use Rattle.std.proofs.lemmas.List.Elements.{All-contains}
+use Rattle.merge_orders.proofs.Common.{◌≡◌, ℕ, ◌<◌, ◌≤◌, ◌==◌, List, [], ◌∷◌, filter, refl, sym, ap, ◌∙◌, subst, ⊎_elim, arith, ◌≢◌, All}
+use Rattle.merge_orders.proofs.Common.{AllPairs, Contains, IsPermutation, concat, eq-eqb, cases_order, All-contains, Operation, has_number}
+use Rattle.merge_orders.proofs.Common.{point_in, point_of, IsMergedOrder, AllPairs-head, AllPairs-tail, Contains-first, Contains-cases}
+use Rattle.merge_orders.proofs.Common.{All-from_contains, filter_rest, Contains-from_filter, AllPairs-weaker}
 use Rattle.std.proofs.lemmas.List.Kept.{AllPairs-filter}
-use Rattle.events.specs.declared.operation.Operation.{Operation}
-use Rattle.list_laws.specs.Lists.{has_number}
-use Rattle.merge_orders.specs.Merge.{point_in, point_of, IsMergedOrder}
-use Rattle.list_laws.proofs.Lists.{AllPairs-head, AllPairs-tail, Contains-first, Contains-cases, All-from_contains}
-use Rattle.list_laws.proofs.FilterLemmas.{filter_comm, filter_yes, filter_rest, Contains-from_filter, AllPairs-weaker}
+use Rattle.list_laws.proofs.FilterLemmas.{filter_comm, filter_yes}
 use Rattle.merge_orders.proofs.PointLemmas.{point_in-rises}
 use Rattle.merge_orders.proofs.DisjointLemmas.{AreDisjoint, point_of-in, filter-concat}
 

@@ -1,17 +1,11 @@
 -- There is one merged order: no two orders share a point, and points and places decide the rest.
-use Rattle.std.proofs.Common.{◌≡◌, ℕ, ◌<◌, ◌≤◌, List, [], ◌∷◌, length, filter, Some, refl, sym, ap, ◌∙◌, subst, ⊎_elim, arith}
-use Rattle.std.specs.Prelude.{slice_get, All, AllPairs, Contains}
-use Rattle.std.specs.List.{concat}
+use Rattle.merge_orders.proofs.Common.{◌≡◌, ℕ, ◌<◌, ◌≤◌, List, [], ◌∷◌, length, filter, Some, refl, sym, ap, ◌∙◌, subst, ⊎_elim, arith}
+use Rattle.merge_orders.proofs.Common.{slice_get, All, AllPairs, Contains, concat, All-head, All-tail, All-contains, IsPermutation-sym}
+use Rattle.merge_orders.proofs.Common.{Contains-permutation, Operation, has_number, point_of, IsMergedOrder, AllPairs-head, AllPairs-tail}
+use Rattle.merge_orders.proofs.Common.{Contains-cases, Contains-first, All-from_contains, slice_get-below, has_number-from_Contains, filter_rest}
+use Rattle.merge_orders.proofs.Common.{Contains-from_filter}
 use Rattle.std.proofs.lemmas.Bool.{cases_eq}
-use Rattle.std.proofs.lemmas.List.Elements.{All-head, All-tail, All-contains}
-use Rattle.std.proofs.lemmas.List.Sorted.{IsPermutation-sym, Contains-permutation}
-use Rattle.events.specs.declared.operation.Operation.{Operation}
-use Rattle.list_laws.specs.Lists.{has_number}
 use Rattle.events.proofs.TimeLemmas.{same_number}
-use Rattle.merge_orders.specs.Merge.{point_of, IsMergedOrder}
-use Rattle.list_laws.proofs.Lists.{AllPairs-head, AllPairs-tail, Contains-cases, Contains-first, All-from_contains}
-use Rattle.list_laws.proofs.NumberLemmas.{slice_get-below, has_number-from_Contains}
-use Rattle.list_laws.proofs.FilterLemmas.{filter_rest, Contains-from_filter}
 use Rattle.merge_orders.proofs.PointLemmas.{point_in-is, point_of-is, Contains-from_up_to}
 use Rattle.merge_orders.proofs.MergeLemmas.{Contains-from_concat}
 use Rattle.merge_orders.proofs.DisjointLemmas.{AreDisjoint, AreDisjoint-from_merged, same_order}

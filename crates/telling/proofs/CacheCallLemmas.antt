@@ -1,18 +1,10 @@
 -- One call of a cache, at the lossy map and as it is recorded, at the map. From the lossy map to the map the map keeps at least the values
 -- of the lossy map. From the map to the lossy map the lossy map can lose keys so that it has exactly the values that are not fresh.
+use Rattle.telling.proofs.Common.{◌≡◌, ℕ, ◌<◌, ◌≤◌, ◌==◌, Bool, cond, Option, Some, None, is_some, inl, inr, refl, sym, ap, ◌∙◌, subst, ⊎_elim}
+use Rattle.telling.proofs.Common.{◌⊎◌, All, cases_Bool, eq-eqb, ne_eqb, eqb-true, eqb-false, Call, Get, Insert, Remove, Scan, Replace, Reply}
+use Rattle.telling.proofs.Common.{low_key, Contents, IsRising, value_at, within, after_reply, IsLegalReply, left, recorded_call, recorded_reply}
+use Rattle.telling.proofs.Common.{CallBelow, ReplyBelow}
 use Rattle.events.specs.declared.event.Reply.TheVariants as replies
-use Rattle.std.proofs.Common.{◌≡◌, ℕ, ◌<◌, ◌≤◌, ◌==◌, Bool, cond, Option, Some, None, is_some, inl, inr, refl, sym, ap, ◌∙◌}
-use Rattle.std.proofs.Common.{subst, ⊎_elim}
-use Rattle.std.specs.Prelude.{◌⊎◌, All}
-use Rattle.std.proofs.lemmas.Bool.{cases_Bool, eq-eqb, ne_eqb, eqb-true, eqb-false}
-use Rattle.events.specs.declared.event.Call.{Call}
-use Rattle.events.specs.declared.event.Call.TheVariants.{Get, Insert, Remove, Scan, Replace}
-use Rattle.events.specs.declared.event.Reply.{Reply}
-use Rattle.events.specs.Keys.{low_key}
-use Rattle.map_object.specs.MapObject.{Contents, IsRising, value_at, within, after_reply, IsLegalReply}
-use Rattle.telling.specs.Lossy.{left}
-use Rattle.telling.specs.CacheRecords.{recorded_call, recorded_reply}
-use Rattle.telling.specs.CacheValues.{CallBelow, ReplyBelow}
 use Rattle.telling.proofs.CacheValueLemmas.{next_reply, LegalAt, IsPoint, AtMost, goes, shown, comes, shown_below, left_fresh}
 use Rattle.telling.proofs.CacheMapLemmas.{value_at-own_reply, value_at-other_reply, value_at-scan_reply, left_rises, left_as, same_within}
 use Rattle.telling.proofs.CacheMapLemmas.{value_at-within, value_below}

@@ -1,24 +1,14 @@
 -- Recorded events of a cache: their places, and their calls by number.
-use Rattle.std.proofs.Common.{◌≡◌, ℕ, zero, suc, ◌+◌, ◌-◌, ◌<◌, ◌≤◌, ◌==◌, nat_lt, Bool, true, false, cond, List, [], ◌∷◌, ◌++◌, length}
-use Rattle.std.proofs.Common.{Option, Some, None, refl, sym, ap, ◌∙◌, subst, ⊎_elim, arith}
-use Rattle.std.specs.Prelude.{All, Contains, IfSome, slice_get, ⊤}
-use Rattle.std.proofs.lemmas.Bool.{false≢true, cases_lt, lt-ltb, le-ltb}
-use Rattle.std.proofs.lemmas.Option.{none-some, same_Some, slice_get_within}
+use Rattle.telling.proofs.Common.{◌≡◌, ℕ, zero, suc, ◌+◌, ◌-◌, ◌<◌, ◌≤◌, ◌==◌, nat_lt, Bool, true, false, cond, List, [], ◌∷◌, ◌++◌, length}
+use Rattle.telling.proofs.Common.{Option, Some, None, refl, sym, ap, ◌∙◌, subst, ⊎_elim, arith, All, Contains, slice_get, ⊤, false≢true}
+use Rattle.telling.proofs.Common.{cases_lt, lt-ltb, le-ltb, none-some, same_Some, slice_get_within, All-nil, All-cons, Call, Get, Remove, Event}
+use Rattle.telling.proofs.Common.{Invoke, Answer, Operation, Response, HistoryView, response_from, operation_of, operations_from, operations}
+use Rattle.telling.proofs.Common.{is_before, precedes, All-at, AreRecordedAs, MissesKey, IsHelperOf, IsRecordOf, recorded_event, last_after}
+use Rattle.telling.proofs.Common.{recording_of}
+use Rattle.std.specs.Prelude.{IfSome}
 use Rattle.std.proofs.lemmas.List.{length-append}
-use Rattle.std.proofs.lemmas.List.Elements.{All-nil, All-cons}
-use Rattle.events.specs.declared.event.Call.{Call}
-use Rattle.events.specs.declared.event.Call.TheVariants.{Get, Remove}
-use Rattle.events.specs.declared.event.Event.{Event}
-use Rattle.events.specs.declared.event.Event.TheVariants.{Invoke, Answer}
-use Rattle.events.specs.declared.operation.Operation.{Operation}
-use Rattle.events.specs.declared.operation.Response.{Response}
-use Rattle.events.specs.HistoryView.{HistoryView}
 use Rattle.events.specs.Events.{is_invocation}
-use Rattle.events.specs.Operations.{response_from, operation_of, operations_from, operations}
-use Rattle.events.specs.Precedence.{is_before, precedes}
-use Rattle.list_laws.proofs.Lists.{slice_get-append_left, place_of-Contains, All-at}
-use Rattle.telling.specs.CacheRecords.{AreRecordedAs, MissesKey, IsHelperOf, IsRecordOf}
-use Rattle.telling.specs.CacheRecordings.{recorded_event, last_after, recording_of}
+use Rattle.list_laws.proofs.Lists.{slice_get-append_left, place_of-Contains}
 use Rattle.telling.proofs.CacheRecordingLemmas.{Owns, HasTimes, SameResponse, IsBlock, AreBlocks, blocks_of, AreSmall, AreInTurn}
 
 -- ---- the places to which those of recorded events belong

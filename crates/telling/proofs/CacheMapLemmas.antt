@@ -1,20 +1,14 @@
 -- Calls of a cache at pairs: at the lossy map, and at the map that is called as it is recorded.
+use Rattle.telling.proofs.Common.{◌≡◌, ℕ, ◌<◌, ◌≤◌, ◌==◌, nat_lt, nat_le, ◌&&◌, Bool, true, false, cond, [], ◌∷◌, ◌++◌, filter, Option, Some}
+use Rattle.telling.proofs.Common.{None, is_some, inl, inr, refl, sym, ap, ◌∙◌, ⊎_elim, arith, All, ne_eqb, lt-ltb, le-ltb, cases_lt, eqb-true}
+use Rattle.telling.proofs.Common.{le-leb, leb-true, and_parts, and_from, none-some, same_Some, All-head, All-tail, AllPairs-filter, Call, Get}
+use Rattle.telling.proofs.Common.{Insert, Remove, Scan, Replace, Reply, low_key, Contents, IsRising, value_at, within, is_just, after}
+use Rattle.telling.proofs.Common.{after_reply, left}
 use Rattle.events.specs.declared.event.Reply.TheVariants as replies
-use Rattle.std.proofs.Common.{◌≡◌, ℕ, ◌<◌, ◌≤◌, ◌==◌, nat_lt, nat_le, ◌&&◌, Bool, true, false, cond, [], ◌∷◌, ◌++◌, filter}
-use Rattle.std.proofs.Common.{Option, Some, None, is_some, inl, inr, refl, sym, ap, ◌∙◌, ⊎_elim, arith, eq-eqb}
-use Rattle.std.specs.Prelude.{All}
-use Rattle.std.proofs.lemmas.Bool.{ne_eqb, lt-ltb, le-ltb, cases_lt, eqb-true, le-leb, leb-true, and_parts, and_from}
-use Rattle.std.proofs.lemmas.Option.{none-some, same_Some}
-use Rattle.std.proofs.lemmas.List.Elements.{All-head, All-tail}
-use Rattle.std.proofs.lemmas.List.Kept.{AllPairs-filter}
-use Rattle.events.specs.declared.event.Call.{Call}
-use Rattle.events.specs.declared.event.Call.TheVariants.{Get, Insert, Remove, Scan, Replace}
-use Rattle.events.specs.declared.event.Reply.{Reply}
-use Rattle.events.specs.Keys.{low_key}
-use Rattle.map_object.specs.MapObject.{Contents, IsRising, value_at, below, above, within, put, is_just, after, after_reply}
+use Rattle.std.proofs.Common.{eq-eqb}
+use Rattle.map_object.specs.MapObject.{below, above, put}
 use Rattle.map_object.proofs.MapLemmas.{IsRising-insert, IsRising-remove}
 use Rattle.map_object.proofs.ValueLemmas.{same_pairs}
-use Rattle.telling.specs.Lossy.{left}
 use Rattle.telling.proofs.CacheValueLemmas.{next, next_reply, IsPoint, AtMost}
 
 -- ---- values at keys

@@ -1,28 +1,18 @@
 -- Orders of a cache's calls: those of the lossy map are orders of the recorded calls, and back.
-use Rattle.std.proofs.Common.{◌≡◌, ℕ, ◌<◌, ◌==◌, nat_lt, Bool, true, false, cond, List, [], ◌∷◌, length, Option, Some, None, IsTrue}
-use Rattle.std.proofs.Common.{is_some, inl, inr, refl, sym, ap, ◌∙◌, subst, ⊎_elim, arith}
-use Rattle.std.specs.Prelude.{◌⊎◌, ◌≢◌, All, AllPairs, Contains, slice_get}
-use Rattle.std.specs.List.{range_with_len}
-use Rattle.std.proofs.lemmas.Bool.{false≢true, eqb-true}
-use Rattle.std.proofs.lemmas.Option.{none-some, same_Some, slice_get_within}
-use Rattle.std.proofs.lemmas.List.Elements.{All-nil, All-cons, All-head, All-tail, All-append, All-contains, All-weaker}
-use Rattle.std.proofs.lemmas.List.Elements.{Contains-append_left, Contains-append_right}
-use Rattle.std.proofs.lemmas.List.Kept.{AllPairs-cons, AllPairs-filter, AllPairs-from_increasing}
-use Rattle.events.specs.declared.operation.Operation.{Operation}
-use Rattle.events.specs.declared.operation.Response.{Response}
-use Rattle.events.specs.Operations.{operations}
-use Rattle.events.specs.Precedence.{is_completed, precedes, NonePrecedesItself}
+use Rattle.telling.proofs.Common.{◌≡◌, ℕ, ◌<◌, ◌==◌, nat_lt, Bool, true, false, cond, List, [], ◌∷◌, length, Option, Some, None, IsTrue, is_some}
+use Rattle.telling.proofs.Common.{inl, inr, refl, sym, ap, ◌∙◌, subst, ⊎_elim, arith, ◌⊎◌, ◌≢◌, All, AllPairs, Contains, slice_get}
+use Rattle.telling.proofs.Common.{range_with_len, false≢true, eqb-true, none-some, same_Some, slice_get_within, All-nil, All-cons, All-head}
+use Rattle.telling.proofs.Common.{All-tail, All-contains, All-weaker, AllPairs-cons, AllPairs-filter, Operation, Response, operations}
+use Rattle.telling.proofs.Common.{is_completed, precedes, Contents, IsRising, value_at, IsOrder, IsCompletedAt, AllPairs-nil, AllPairs-head}
+use Rattle.telling.proofs.Common.{AllPairs-tail, Contains-nil, Contains-first, Contains-later, Contains-cases, All-from_contains, All-at}
+use Rattle.telling.proofs.Common.{slice_get-below, some_at, IsStrictlyIncreasing-range, AreRelatedAs, AllPairs-filter_map}
+use Rattle.telling.proofs.Common.{AllPairs-from_filter_map, AllPairs-weaker, IsLossyOrder, AreRecordedAs, IsRecordOf, NoneFoundWhereOther}
+use Rattle.std.proofs.lemmas.List.Elements.{All-append, Contains-append_left, Contains-append_right}
+use Rattle.std.proofs.lemmas.List.Kept.{AllPairs-from_increasing}
+use Rattle.events.specs.Precedence.{NonePrecedesItself}
 use Rattle.events.proofs.TimeLemmas.{NonePrecedesItself-operations}
-use Rattle.map_object.specs.MapObject.{Contents, IsRising, value_at}
-use Rattle.orders.specs.Orders.{IsOrder, IsCompletedAt}
-use Rattle.list_laws.proofs.Lists.{AllPairs-nil, AllPairs-head, AllPairs-tail, AllPairs-append, Contains-nil, Contains-first, Contains-later, Contains-cases}
-use Rattle.list_laws.proofs.Lists.{All-from_contains, All-at}
-use Rattle.list_laws.proofs.NumberLemmas.{slice_get-below, some_at}
-use Rattle.list_laws.proofs.RisingLemmas.{IsStrictlyIncreasing-range}
-use Rattle.list_laws.proofs.FilterLemmas.{AreRelatedAs, AllPairs-filter_map, AllPairs-from_filter_map, AllPairs-weaker}
-use Rattle.telling.specs.Lossy.{IsLossyOrder}
-use Rattle.telling.specs.CacheRecords.{AreRecordedAs, IsRecordOf}
-use Rattle.telling.specs.CacheValues.{AreAllKeys, AreBelow, NoneFoundWhereOther}
+use Rattle.list_laws.proofs.Lists.{AllPairs-append}
+use Rattle.telling.specs.CacheValues.{AreAllKeys, AreBelow}
 use Rattle.telling.specs.CacheLaws.{EvictedKeysAreNoLostWrites, LostWritesAreRefuted, RecordedCachesAreLossyMaps}
 use Rattle.telling.proofs.CacheValueLemmas.{AtMost, shown}
 use Rattle.telling.proofs.CacheMapLemmas.{value_below}

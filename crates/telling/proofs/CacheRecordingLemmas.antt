@@ -1,25 +1,15 @@
 -- What is recorded of a history of a cache, call by call.
+use Rattle.telling.proofs.Common.{◌≡◌, ℕ, suc, ◌+◌, ◌<◌, ◌==◌, ◌&&◌, nat_le, not, Bool, true, false, cond, List, [], ◌∷◌, ◌++◌, length, Option}
+use Rattle.telling.proofs.Common.{Some, None, IsTrue, is_some, refl, sym, ap, ◌∙◌, subst, ⊎_elim, arith, ◌≢◌, All, Contains, ⊤, false≢true}
+use Rattle.telling.proofs.Common.{cases_Bool, eqb-true, eqb-false, ne_eqb, eq-eqb, and_parts, and_from, le-leb, leb-true, none-some, same_Some}
+use Rattle.telling.proofs.Common.{All-nil, All-cons, All-head, All-tail, All-weaker, Call, Get, Insert, Remove, Scan, Replace, Reply, Event}
+use Rattle.telling.proofs.Common.{Invoke, Answer, Operation, Response, process_of, events_of, takes_turns, response_from, operation_of}
+use Rattle.telling.proofs.Common.{operations_from, value_at, Contains-nil, Contains-cases, Contains-first, Contains-later, Contains-filter}
+use Rattle.telling.proofs.Common.{Contains-from_filter, recorded_call, recorded_reply, AreRecordedAs, MissesKey, IsHelperOf, recorded_invocation}
+use Rattle.telling.proofs.Common.{recorded_answer, is_missed, missed_keys, helper, answer_to_come, recorded_event, last_after, recorded_events}
 use Rattle.events.specs.declared.event.Reply.TheVariants as replies
-use Rattle.std.proofs.Common.{◌≡◌, ℕ, suc, ◌+◌, ◌<◌, ◌==◌, ◌&&◌, nat_le, not, Bool, true, false, cond, List, [], ◌∷◌, ◌++◌}
-use Rattle.std.proofs.Common.{length, map, Option, Some, None, IsTrue, is_some, refl, sym, ap, ◌∙◌, subst, ⊎_elim, arith}
-use Rattle.std.specs.Prelude.{◌≢◌, All, Contains, ⊤}
-use Rattle.std.proofs.lemmas.Bool.{false≢true, cases_Bool, eqb-true, eqb-false, ne_eqb, eq-eqb, and_parts, and_from, le-leb, leb-true}
-use Rattle.std.proofs.lemmas.Option.{none-some, same_Some}
+use Rattle.std.proofs.Common.{map}
 use Rattle.std.proofs.lemmas.List.{length-map}
-use Rattle.std.proofs.lemmas.List.Elements.{All-nil, All-cons, All-head, All-tail, All-weaker}
-use Rattle.events.specs.declared.event.Call.{Call}
-use Rattle.events.specs.declared.event.Call.TheVariants.{Get, Insert, Remove, Scan, Replace}
-use Rattle.events.specs.declared.event.Reply.{Reply}
-use Rattle.events.specs.declared.event.Event.{Event}
-use Rattle.events.specs.declared.event.Event.TheVariants.{Invoke, Answer}
-use Rattle.events.specs.declared.operation.Operation.{Operation}
-use Rattle.events.specs.declared.operation.Response.{Response}
-use Rattle.events.specs.Events.{process_of, events_of, takes_turns}
-use Rattle.events.specs.Operations.{response_from, operation_of, operations_from}
-use Rattle.map_object.specs.MapObject.{value_at}
-use Rattle.list_laws.proofs.Lists.{Contains-nil, Contains-cases, Contains-first, Contains-later, Contains-filter, Contains-from_filter}
-use Rattle.telling.specs.CacheRecords.{recorded_call, recorded_reply, AreRecordedAs, MissesKey, IsHelperOf}
-use Rattle.telling.specs.CacheRecordings.{recorded_invocation, recorded_answer, is_missed, missed_keys, helper, answer_to_come, recorded_event, last_after, recorded_events}
 
 -- ---- events that are not the answer to a process: they can be skipped when its answer is looked for
 

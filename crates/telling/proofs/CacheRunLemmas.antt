@@ -1,27 +1,18 @@
 -- Calls of a cache in turn: if they are legal at the lossy map, the recorded ones are legal at the map, and the other way round.
+use Rattle.telling.proofs.Common.{◌≡◌, ℕ, ◌<◌, ◌≤◌, ◌==◌, ◌&&◌, Bool, true, false, cond, List, [], ◌∷◌, ◌++◌, length, filter, Option, Some, None}
+use Rattle.telling.proofs.Common.{inl, inr, refl, sym, ap, ◌∙◌, subst, ⊎_elim, arith, ◌⊎◌, ◌≢◌, All, Contains, slice_get, range_with_len}
+use Rattle.telling.proofs.Common.{cases_lt, and_parts, and_from, eq-eqb, eqb-true, none-some, same_Some, slice_get_within, length-range_with_len}
+use Rattle.telling.proofs.Common.{get_or-range_with_len, All-head, All-tail, Call, Get, Insert, Remove, Scan, Replace, Reply, Operation}
+use Rattle.telling.proofs.Common.{Response, low_key, Contents, IsRising, value_at, within, after, after_reply, IsLegalReply, after_call}
+use Rattle.telling.proofs.Common.{IsLegalCall, IsLegal, calls_at, Contains-nil, Contains-cases, Contains-filter, Contains-from_filter}
+use Rattle.telling.proofs.Common.{Contains-range, All-from_contains, All-at, slice_get-below, left, IsLossyLegal, recorded_call, recorded_reply}
+use Rattle.telling.proofs.Common.{AreRecordedAs, MissesKey, IsHelperOf, IsRecordOf, PutsWithin, CallBelow, ReplyBelow, ResponseBelow}
+use Rattle.telling.proofs.Common.{NoneFoundWhereOther}
 use Rattle.events.specs.declared.event.Reply.TheVariants as replies
-use Rattle.std.proofs.Common.{◌≡◌, ℕ, ◌<◌, ◌≤◌, ◌==◌, ◌&&◌, Bool, true, false, cond, List, [], ◌∷◌, ◌++◌, length, filter, Option, Some, None}
-use Rattle.std.proofs.Common.{inl, inr, refl, sym, ap, ◌∙◌, subst, ⊎_elim, arith}
-use Rattle.std.specs.Prelude.{◌⊎◌, ◌≢◌, All, Contains, slice_get}
-use Rattle.std.specs.List.{range_with_len}
-use Rattle.std.proofs.lemmas.Bool.{cases_lt, and_parts, and_from, eq-eqb, eqb-true}
-use Rattle.std.proofs.lemmas.Option.{none-some, same_Some, slice_get_within}
-use Rattle.std.proofs.lemmas.List.FromFn.{length-range_with_len, get_or-range_with_len}
-use Rattle.std.proofs.lemmas.List.Elements.{All-head, All-tail}
-use Rattle.events.specs.declared.event.Call.{Call}
-use Rattle.events.specs.declared.event.Call.TheVariants.{Get, Insert, Remove, Scan, Replace}
-use Rattle.events.specs.declared.event.Reply.{Reply}
-use Rattle.events.specs.declared.operation.Operation.{Operation}
-use Rattle.events.specs.declared.operation.Response.{Response}
-use Rattle.events.specs.Keys.{low_key}
-use Rattle.map_object.specs.MapObject.{Contents, IsRising, value_at, within, after, after_reply, IsLegalReply}
-use Rattle.orders.specs.Orders.{after_call, after_calls, IsLegalCall, IsLegal, calls_at}
+use Rattle.orders.specs.Orders.{after_calls}
 use Rattle.orders.proofs.OrderLemmas.{calls_at-append, IsLegal-append}
-use Rattle.list_laws.proofs.Lists.{Contains-nil, Contains-cases, Contains-at, Contains-filter, Contains-from_filter, Contains-range, All-from_contains, All-at}
-use Rattle.list_laws.proofs.NumberLemmas.{slice_get-below}
-use Rattle.telling.specs.Lossy.{left, IsLossyLegal}
-use Rattle.telling.specs.CacheRecords.{recorded_call, recorded_reply, AreRecordedAs, IsAnswered, MissesKey, IsHelperOf, IsRecordOf}
-use Rattle.telling.specs.CacheValues.{PutsWithin, CallBelow, ReplyBelow, ResponseBelow, NoneFoundWhereOther}
+use Rattle.list_laws.proofs.Lists.{Contains-at}
+use Rattle.telling.specs.CacheRecords.{IsAnswered}
 use Rattle.telling.proofs.CacheValueLemmas.{AtMost, shown, shown_below}
 use Rattle.telling.proofs.CacheMapLemmas.{left_rises, left_most, reply_rises, value_at-within, value_at-own, value_at-other}
 use Rattle.telling.proofs.CacheCallLemmas.{IsWithin, AtMost-trans, by_key, go, Shows, come, keeps_fresh}

@@ -1,25 +1,19 @@
 -- What is recorded of a history of a cache is well formed.
-use Rattle.std.proofs.Common.{◌≡◌, ℕ, ◌-◌, ◌<◌, ◌==◌, ◌&&◌, nat_lt, nat_le, not, Bool, true, false, cond, List, [], ◌∷◌, ◌++◌}
-use Rattle.std.proofs.Common.{Option, Some, None, IsTrue, refl, sym, ap, ◌∙◌, subst, ⊎_elim, arith}
-use Rattle.std.specs.Prelude.{◌≢◌, All, AllPairs, ◌/◌, ◌%◌}
+use Rattle.telling.proofs.Common.{◌≡◌, ℕ, ◌-◌, ◌<◌, ◌==◌, ◌&&◌, nat_lt, nat_le, not, Bool, true, false, cond, List, [], ◌∷◌, ◌++◌, Option, Some}
+use Rattle.telling.proofs.Common.{None, IsTrue, refl, sym, ap, ◌∙◌, subst, ⊎_elim, arith, ◌≢◌, All, AllPairs, false≢true, cases_Bool, cases_lt}
+use Rattle.telling.proofs.Common.{eqb-true, eqb-false, ne_eqb, eq-eqb, and_parts, All-nil, All-cons, All-head, All-tail, All-contains}
+use Rattle.telling.proofs.Common.{AllPairs-filter, AllPairs-nil, AllPairs-head, AllPairs-tail, Call, Get, Reply, Event, Invoke, Answer}
+use Rattle.telling.proofs.Common.{process_of, events_of, takes_turns, HistoryView, recorded_reply, missed_keys, is_missed, helper}
+use Rattle.telling.proofs.Common.{answer_to_come, recorded_invocation, recorded_answer, last_after, recorded_events, recording_of}
+use Rattle.std.specs.Prelude.{◌/◌, ◌%◌}
 use Rattle.std.specs.List.{list_all}
-use Rattle.std.proofs.lemmas.Bool.{false≢true, cases_Bool, cases_lt, eqb-true, eqb-false, ne_eqb, eq-eqb, and_parts, ltb-true}
-use Rattle.std.proofs.lemmas.List.Elements.{All-nil, All-cons, All-head, All-tail, All-contains, filter-append}
-use Rattle.std.proofs.lemmas.List.Kept.{AllPairs-filter}
+use Rattle.std.proofs.lemmas.Bool.{ltb-true}
+use Rattle.std.proofs.lemmas.List.Elements.{filter-append}
 use Rattle.list_laws.specs.Lists.{has_number}
-use Rattle.list_laws.proofs.Lists.{AllPairs-nil, AllPairs-head, AllPairs-tail}
 use Rattle.list_laws.proofs.NumberLemmas.{has_number-Contains}
-use Rattle.events.specs.declared.event.Call.{Call}
-use Rattle.events.specs.declared.event.Call.TheVariants.{Get}
-use Rattle.events.specs.declared.event.Reply.{Reply}
-use Rattle.events.specs.declared.event.Event.{Event}
-use Rattle.events.specs.declared.event.Event.TheVariants.{Invoke, Answer}
-use Rattle.events.specs.Events.{process_of, events_of, takes_turns, IsWellFormed}
-use Rattle.events.specs.HistoryView.{HistoryView}
+use Rattle.events.specs.Events.{IsWellFormed}
 use Rattle.events.specs.Limits.{pair_limit}
 use Rattle.events.specs.Histories.{is_small, pair_count}
-use Rattle.telling.specs.CacheRecords.{recorded_reply}
-use Rattle.telling.specs.CacheRecordings.{missed_keys, is_missed, helper, answer_to_come, recorded_invocation, recorded_answer, last_after, recorded_events, recording_of}
 use Rattle.telling.specs.CacheLaws.{HistoriesOfCachesHaveRecordings}
 use Rattle.telling.proofs.CacheRecordingLemmas.{call_of, keys_of, invokes, answers, invocation_is, helper_above, helper_differs, AreSmall}
 use Rattle.telling.proofs.CacheListLemmas.{recording_is}

@@ -1,16 +1,10 @@
 -- What a call of a cache leaves of the value at its key: at the lossy map, and as it is recorded at the map.
+use Rattle.telling.proofs.Common.{◌≡◌, ℕ, ◌<◌, ◌≤◌, ◌==◌, nat_lt, Bool, true, false, cond, Option, Some, None, IsTrue, inl, inr, refl, sym, ap}
+use Rattle.telling.proofs.Common.{◌∙◌, ⊎_elim, arith, ◌⊎◌, ⊤, ne_eqb, lt-ltb, le-ltb, cases_Bool, cases_lt, false≢true, none-some, same_Some}
+use Rattle.telling.proofs.Common.{Call, Get, Insert, Remove, Scan, Replace, Reply, is_just, is_none_or_other, value_reply, TellsOf}
+use Rattle.telling.proofs.Common.{recorded_call, recorded_reply, CallBelow, ReplyBelow}
 use Rattle.events.specs.declared.event.Reply.TheVariants as replies
-use Rattle.std.proofs.Common.{◌≡◌, ℕ, ◌<◌, ◌≤◌, ◌==◌, nat_lt, Bool, true, false, cond, Option, Some, None, IsTrue, inl, inr, refl, sym, ap, ◌∙◌}
-use Rattle.std.proofs.Common.{⊎_elim, arith}
-use Rattle.std.specs.Prelude.{◌⊎◌, not, ⊤}
-use Rattle.std.proofs.lemmas.Bool.{ne_eqb, lt-ltb, le-ltb, cases_Bool, cases_lt, false≢true}
-use Rattle.std.proofs.lemmas.Option.{none-some, same_Some}
-use Rattle.events.specs.declared.event.Call.{Call}
-use Rattle.events.specs.declared.event.Call.TheVariants.{Get, Insert, Remove, Scan, Replace}
-use Rattle.events.specs.declared.event.Reply.{Reply}
-use Rattle.map_object.specs.MapObject.{is_just, is_none_or_other, value_reply, TellsOf}
-use Rattle.telling.specs.CacheRecords.{recorded_call, recorded_reply}
-use Rattle.telling.specs.CacheValues.{CallBelow, ReplyBelow}
+use Rattle.std.specs.Prelude.{not}
 
 -- the value after a call
 abbrev pub next : Call → Option ℕ → Option ℕ

@@ -1,26 +1,14 @@
 -- A replace answered `other`, then a get answered `found`: the recording is linearizable, the history is not over the lossy map.
+use Rattle.telling.proofs.Common.{◌≡◌, ℕ, zero, suc, ◌+◌, ◌<◌, ◌==◌, Bool, true, false, cond, List, [], ◌∷◌, inr, refl, sym, subst, ⊎_elim}
+use Rattle.telling.proofs.Common.{arith, ◌≢◌, All, AllPairs, Contains, slice_get, range_with_len, cases_Bool, false≢true, All-nil, All-cons}
+use Rattle.telling.proofs.Common.{All-contains, AllPairs-cons, length-range_with_len, get_or-range_with_len, Get, Replace, Operation, operations}
+use Rattle.telling.proofs.Common.{precedes, after, IsLegalReply, calls_at, IsOrder, IsCompletedAt, AllPairs-nil, Contains-first, Contains-later}
+use Rattle.telling.proofs.Common.{Contains-range, AreRelatedAs, AllPairs-from_filter_map, IsStrictlyIncreasing-range, left, IsLossyLegal}
+use Rattle.telling.proofs.Common.{IsLossyOrder, PutsWithin, CallBelow, ResponseBelow}
 use Rattle.events.specs.declared.event.Reply.TheVariants as replies
-use Rattle.std.proofs.Common.{◌≡◌, ℕ, zero, suc, ◌+◌, ◌<◌, ◌==◌, Bool, true, false, cond, List, [], ◌∷◌}
-use Rattle.std.proofs.Common.{inr, refl, sym, subst, ⊎_elim, arith}
-use Rattle.std.specs.Prelude.{◌≢◌, All, AllPairs, Contains, slice_get}
-use Rattle.std.specs.List.{range_with_len}
-use Rattle.std.proofs.lemmas.Bool.{cases_Bool, false≢true}
-use Rattle.std.proofs.lemmas.List.Elements.{All-nil, All-cons, All-contains}
-use Rattle.std.proofs.lemmas.List.Kept.{AllPairs-cons}
-use Rattle.std.proofs.lemmas.List.FromFn.{length-range_with_len, get_or-range_with_len}
-use Rattle.events.specs.declared.event.Call.TheVariants.{Get, Replace}
-use Rattle.events.specs.declared.operation.Operation.{Operation}
 use Rattle.events.specs.Histories.{IsHistory}
-use Rattle.events.specs.Operations.{operations}
-use Rattle.events.specs.Precedence.{precedes}
-use Rattle.map_object.specs.MapObject.{after, IsLegalReply}
-use Rattle.orders.specs.Orders.{calls_at, IsOrder, IsCompletedAt}
 use Rattle.orders.proofs.OrderLemmas.{IsCompletedAt-below}
-use Rattle.list_laws.proofs.Lists.{AllPairs-nil, Contains-first, Contains-later, Contains-range}
-use Rattle.list_laws.proofs.FilterLemmas.{AreRelatedAs, AllPairs-from_filter_map}
-use Rattle.list_laws.proofs.RisingLemmas.{rising_unique, IsStrictlyIncreasing-range}
-use Rattle.telling.specs.Lossy.{left, IsLossyLegal, IsLossyOrder}
-use Rattle.telling.specs.CacheValues.{PutsWithin, CallBelow, ResponseBelow}
+use Rattle.list_laws.proofs.RisingLemmas.{rising_unique}
 use Rattle.telling.specs.FoundAfterOther.{found_after_other, recorded_found_after_other, FoundAfterOtherIsMissed}
 use Rattle.telling.proofs.CacheTurnLemmas.{have_recordings}
 

@@ -1,3 +1,4 @@
+mod Common
 mod CacheCallLemmas
 mod CacheListLemmas
 mod CacheMapLemmas

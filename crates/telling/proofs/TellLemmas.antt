@@ -1,9 +1,8 @@
 -- What answers that tell less tell, by the value at the key.
-use Rattle.std.proofs.Common.{◌≡◌, ◌↔◌, ℕ, not, Option, Some, None, IsTrue, is_some, inr, refl, ⊎_elim}
-use Rattle.events.specs.declared.event.Call.{Call}
-use Rattle.events.specs.declared.event.Call.TheVariants.{Get, Insert, Remove, Scan, Replace}
-use Rattle.map_object.specs.MapObject.{Contents, value_at, is_just, value_reply, reply_to, is_value, is_none_or_other, misses}
-use Rattle.map_object.proofs.TellLemmas.{after_reply-answer}
+use Rattle.telling.proofs.Common.{◌≡◌, ℕ, not, Option, Some, None, IsTrue, is_some, inr, refl, ⊎_elim, Call, Get, Insert, Remove, Scan, Replace}
+use Rattle.telling.proofs.Common.{Contents, value_at, is_just, value_reply, reply_to, is_none_or_other, after_reply-answer}
+use Rattle.std.proofs.Common.{◌↔◌}
+use Rattle.map_object.specs.MapObject.{is_value, misses}
 use Rattle.telling.specs.Finds.{FindsValue, MissesValue}
 use Rattle.telling.specs.Laws.{AnswersDoCalls, AnswersThatTellLess}
 

@@ -1,24 +1,18 @@
 -- Whole answers in the place of answers that tell of them: the orders are the same.
+use Rattle.telling.proofs.Common.{◌≡◌, ℕ, suc, zero, ◌+◌, ◌<◌, ◌==◌, true, false, Bool, cond, List, [], ◌∷◌, length, Option, Some, None, inl}
+use Rattle.telling.proofs.Common.{inr, refl, sym, ap, ◌∙◌, subst, ⊎_elim, arith, IsTrue, is_some, ◌≢◌, slice_get, All, AllPairs, Contains}
+use Rattle.telling.proofs.Common.{ne_eqb, eqb-true, eqb-false, All-head, All-tail, All-contains, none-some, same_Some, Call, Reply, Operation}
+use Rattle.telling.proofs.Common.{Response, is_completed, is_before, precedes, Contents, reply_to, TellsOf, after_reply-answer, after_call}
+use Rattle.telling.proofs.Common.{IsLegalCall, IsLegal, calls_at, IsCompletedAt, IsOrder, AllPairs-head, AllPairs-tail, Contains-nil}
+use Rattle.telling.proofs.Common.{Contains-first, Contains-later, Contains-cases, slice_get-below, some_at, AreRelatedAs, AllPairs-filter_map}
+use Rattle.telling.proofs.Common.{AllPairs-from_filter_map, AllPairs-weaker}
 use Rattle.events.specs.declared.event.Reply.TheVariants as replies
-use Rattle.std.proofs.Common.{◌≡◌, ℕ, suc, zero, ◌+◌, ◌<◌, ◌==◌, true, false, Bool, cond, List, [], ◌∷◌, length, Option, Some, None}
-use Rattle.std.proofs.Common.{inl, inr, refl, sym, ap, ◌∙◌, subst, ⊎_elim, arith, IsTrue, is_some, eq-eqb}
-use Rattle.std.specs.Prelude.{◌≢◌, slice_get, All, AllPairs, Contains}
+use Rattle.std.proofs.Common.{eq-eqb}
 use Rattle.std.specs.List.{AllZip}
-use Rattle.std.proofs.lemmas.Bool.{ne_eqb, eqb-true, eqb-false}
-use Rattle.std.proofs.lemmas.List.Elements.{All-head, All-tail, All-contains, length_all_zip}
-use Rattle.std.proofs.lemmas.Option.{none-some, same_Some}
-use Rattle.events.specs.declared.event.Call.{Call}
-use Rattle.events.specs.declared.event.Reply.{Reply}
-use Rattle.events.specs.declared.operation.Operation.{Operation}
-use Rattle.events.specs.declared.operation.Response.{Response}
-use Rattle.events.specs.Precedence.{is_completed, is_before, precedes}
-use Rattle.map_object.specs.MapObject.{Contents, reply_to, TellsOf}
-use Rattle.map_object.proofs.TellLemmas.{reply_to_answers, reply_to_told, tells_all, tells_answers, whole_from_tells, after_reply-answer}
-use Rattle.orders.specs.Orders.{after_call, IsLegalCall, IsLegal, calls_at, KeepsPrecedence, IsCompletedAt, IsOrder}
-use Rattle.list_laws.proofs.Lists.{AllPairs-head, AllPairs-tail, Contains-nil, Contains-first, Contains-later, Contains-cases}
-use Rattle.list_laws.proofs.NumberLemmas.{slice_get-below, some_at}
+use Rattle.std.proofs.lemmas.List.Elements.{length_all_zip}
+use Rattle.map_object.proofs.TellLemmas.{reply_to_answers, reply_to_told, tells_all, tells_answers, whole_from_tells}
+use Rattle.orders.specs.Orders.{KeepsPrecedence}
 use Rattle.list_laws.proofs.ZipLemmas.{zip_left, zip_right}
-use Rattle.list_laws.proofs.FilterLemmas.{AreRelatedAs, AllPairs-filter_map, AllPairs-from_filter_map, AllPairs-weaker}
 use Rattle.telling.specs.Tellings.{IsToldAs, IsToldCall, AreToldCalls}
 use Rattle.telling.specs.Laws.{OrdersAreThoseOfToldCalls}
 

@@ -1,27 +1,20 @@
 -- A run whose calls have their effects within them has points.
-use Rattle.std.proofs.Common.{◌≡◌, ℕ, ◌+◌, ◌<◌, ◌≤◌, Bool, true, false, List, length, Option, Some, None, refl, sym, ap, ◌∙◌, subst, inl}
-use Rattle.std.proofs.Common.{inr, ⊎_elim, arith}
-use Rattle.std.specs.Prelude.{◌≢◌, ◌⊎◌, slice_get, IsTrue, IsSome, IfSome, is_some}
-use Rattle.std.proofs.lemmas.Bool.{false≢true}
-use Rattle.std.proofs.lemmas.Option.{same_Some, slice_get_within}
-use Rattle.list_laws.proofs.NumberLemmas.{slice_get-below, some_at}
-use Rattle.events.specs.declared.operation.Operation.{Operation}
-use Rattle.events.specs.declared.operation.Response.{Response}
-use Rattle.events.specs.Operations.{operations}
-use Rattle.events.specs.Precedence.{is_completed}
-use Rattle.map_object.specs.MapObject.{Contents}
-use Rattle.orders.specs.Orders.{after_calls, calls_at, IsCompletedAt, IsOrder}
-use Rattle.orders.specs.Leads.{DoesCall}
-use Rattle.art_schedules.specs.points.Points.{HasPoint, AllKeep, OneLeads, TakeEffect, HasPoints}
+use Rattle.art_schedules.proofs.Common.{◌≡◌, ℕ, ◌+◌, ◌<◌, ◌≤◌, Bool, true, false, List, length, refl, sym, ap, ◌∙◌, subst, inl, inr, ⊎_elim}
+use Rattle.art_schedules.proofs.Common.{arith, slice_get, IsTrue, IsSome, IfSome, is_some, false≢true, same_Some, slice_get_within}
+use Rattle.art_schedules.proofs.Common.{slice_get-below, Operation, Response, operations, is_completed, Contents, after_calls, calls_at, IsOrder}
+use Rattle.art_schedules.proofs.Common.{DoesCall, HasPoint, AllKeep, OneLeads, TakeEffect, HasPoints, Plan, State, begun, history_of, opened_on}
+use Rattle.art_schedules.proofs.Common.{IsIn, RunCall, IsWithin, EndsWith, IsRunCall, last_step, HasCalls, IsStepOf, ChangesNothing, ChangesOnce}
+use Rattle.art_schedules.proofs.Common.{Pends, IsInCallAt, HaveEffects, HasOwnEffect, EffectsGiveOrders}
+use Rattle.std.proofs.Common.{Option, Some, None}
+use Rattle.std.specs.Prelude.{◌≢◌, ◌⊎◌}
+use Rattle.list_laws.proofs.NumberLemmas.{some_at}
+use Rattle.orders.specs.Orders.{IsCompletedAt}
 use Rattle.art_schedules.specs.points.Windows.{AreWithinWindows}
 use Rattle.art_schedules.proofs.points.ChoiceLemmas.{chosen}
 use Rattle.art_schedules.proofs.points.PointLemmas.{calls_by_point}
 use Rattle.art_schedules.proofs.points.WindowLemmas.{precedence_from_windows}
-use Rattle.art_core.specs.Core.{Plan, State, begun, history_of, opened_on}
-use Rattle.art_schedules.specs.calls.RunCalls.{IsIn, RunCall, IsWithin, EndsWith, IsRunCall, last_step, HasCalls}
-use Rattle.art_schedules.specs.calls.Effects.{IsStepOf, ChangesNothing, ChangesOnce, Changes, Finds, Pends, IsInCallAt, HaveEffects}
-use Rattle.art_schedules.specs.calls.Effects.{HasOwnEffect}
-use Rattle.art_schedules.specs.calls.Laws.{EffectsGiveOrders, EffectsLeavePairs}
+use Rattle.art_schedules.specs.calls.Effects.{Changes, Finds}
+use Rattle.art_schedules.specs.calls.Laws.{EffectsLeavePairs}
 use Rattle.art_schedules.proofs.calls.RunCallLemmas.{run-has-calls}
 
 module _ (plan : Plan) (start : Contents) (first : State) (schedule : List ℕ) (s : State) (h : HasCalls plan first schedule s)

@@ -1,17 +1,9 @@
 -- The calls of a list of events, by the places of their invocations and responses.
-use Rattle.std.proofs.Common.{◌≡◌, ℕ, zero, suc, ◌+◌, ◌<◌, ◌≤◌, ◌==◌, Bool, true, false, cond, List, [], ◌∷◌, Option, Some, None, refl, sym}
-use Rattle.std.proofs.Common.{◌∙◌, subst, arith}
-use Rattle.std.proofs.Common.{eqb-true, eq-eqb}
-use Rattle.std.specs.Prelude.{slice_get}
-use Rattle.std.proofs.lemmas.Bool.{false≢true}
-use Rattle.std.proofs.lemmas.Option.{none-some, same_Some}
-use Rattle.events.specs.declared.event.Call.{Call}
-use Rattle.events.specs.declared.event.Event.{Event}
-use Rattle.events.specs.declared.event.Event.TheVariants.{Invoke, Answer}
-use Rattle.events.specs.declared.event.Reply.{Reply}
-use Rattle.events.specs.declared.operation.Operation.{Operation}
-use Rattle.events.specs.declared.operation.Response.{Response}
-use Rattle.events.specs.Operations.{response_from, operation_of, operations_from, operations}
+use Rattle.art_schedules.proofs.Common.{◌≡◌, ℕ, zero, suc, ◌+◌, ◌<◌, ◌≤◌, Bool, true, false, cond, List, [], ◌∷◌, refl, sym, ◌∙◌, subst, arith}
+use Rattle.art_schedules.proofs.Common.{eqb-true, eq-eqb, slice_get, false≢true, none-some, same_Some, Call, Event, Invoke, Answer, Reply}
+use Rattle.art_schedules.proofs.Common.{Operation, Response, operations}
+use Rattle.std.proofs.Common.{◌==◌, Option, Some, None}
+use Rattle.events.specs.Operations.{response_from, operation_of, operations_from}
 
 -- at place k of events that begin at place i stands this one
 abbrev HasAt : ℕ → List Event → ℕ → Event → Type 0

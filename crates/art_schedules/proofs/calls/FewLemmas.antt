@@ -1,28 +1,18 @@
 -- The map of a run has no more pairs than it started with and calls were begun.
-use Rattle.std.proofs.Common.{◌≡◌, ℕ, zero, suc, ◌+◌, ◌<◌, ◌≤◌, Bool, true, false, List, [], ◌∷◌, length, map, sum}
-use Rattle.std.proofs.Common.{refl, ap, sym, subst, ◌∙◌, arith}
-use Rattle.std.specs.Prelude.{◌≢◌, All, AllPairs, Option, Some, None}
-use Rattle.std.proofs.lemmas.Bool.{false≢true}
-use Rattle.std.proofs.lemmas.List.Elements.{All-cons, All-nil, All-weaker}
-use Rattle.std.proofs.lemmas.List.Kept.{AllPairs-cons}
-use Rattle.list_laws.proofs.Lists.{AllPairs-nil, length-distinct_below}
-use Rattle.list_laws.proofs.NumberLemmas.{slice_get-below}
-use Rattle.events.specs.declared.event.Call.{Call}
-use Rattle.events.specs.declared.operation.Operation.{Operation}
-use Rattle.events.specs.declared.operation.Response.{Response}
-use Rattle.events.specs.Operations.{operations}
+use Rattle.art_schedules.proofs.Common.{◌≡◌, ℕ, zero, suc, ◌+◌, ◌<◌, ◌≤◌, Bool, true, false, List, [], ◌∷◌, length, refl, ap, sym, subst, ◌∙◌}
+use Rattle.art_schedules.proofs.Common.{arith, All, AllPairs, Option, Some, None, false≢true, All-cons, All-nil, AllPairs-cons, AllPairs-nil}
+use Rattle.art_schedules.proofs.Common.{slice_get-below, Call, Operation, Response, operations, Contents, legal_from_DoesCall, Plan, State}
+use Rattle.art_schedules.proofs.Common.{history_of, opened_on, At, IsRun, opened-logged, start-length, start-clock, IsIn, IsRunCall, HasCalls}
+use Rattle.art_schedules.proofs.Common.{IsStepOf, ChangesOnce, Pends, HaveEffects, HasOwnEffect}
+use Rattle.std.proofs.Common.{map, sum}
+use Rattle.std.specs.Prelude.{◌≢◌}
+use Rattle.std.proofs.lemmas.List.Elements.{All-weaker}
+use Rattle.list_laws.proofs.Lists.{length-distinct_below}
 use Rattle.events.proofs.OperationLemmas.{length-operations_from}
-use Rattle.map_object.specs.MapObject.{Contents}
 use Rattle.orders.specs.Orders.{after_call}
-use Rattle.orders.proofs.LegalLemmas.{legal_from_DoesCall}
-use Rattle.art_core.specs.Core.{Plan, State, history_of, opened_on}
-use Rattle.art_core.specs.Runs.{At}
-use Rattle.art_core.specs.Plans.{IsRun}
-use Rattle.art_core.proofs.HistoryLemmas.{calls-within}
-use Rattle.art_core.proofs.HistoryLemmas.{opened-logged, start-length, start-clock, logged-on}
+use Rattle.art_core.proofs.HistoryLemmas.{calls-within, logged-on}
 use Rattle.art_serial.proofs.maps.LengthLemmas.{after-few, after_reply-few}
-use Rattle.art_schedules.specs.calls.RunCalls.{IsIn, IsRunCall, HasCalls}
-use Rattle.art_schedules.specs.calls.Effects.{IsStepOf, ChangesOnce, Changes, Finds, Pends, HaveEffects, HasOwnEffect}
+use Rattle.art_schedules.specs.calls.Effects.{Changes, Finds}
 use Rattle.art_schedules.specs.calls.FewPairs.{ChangesIn, GrowByCalls, PairsStayFew, EffectsKeepFewPairs}
 use Rattle.art_schedules.proofs.calls.RunCallLemmas.{run-has-calls}
 

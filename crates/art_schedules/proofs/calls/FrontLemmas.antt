@@ -1,9 +1,6 @@
 -- Moments of a run, as the ends of runs.
-use Rattle.std.proofs.Common.{◌≡◌, ℕ, zero, suc, List, [], ◌∷◌, take, refl, sym, ap, ◌∙◌, subst, arith}
-use Rattle.std.specs.Prelude.{min}
-use Rattle.art_core.specs.Core.{opened_on}
-use Rattle.art_core.specs.Runs.{Gives}
-use Rattle.art_schedules.specs.calls.Laws.{MomentsEndRuns, FrontsHaveMoments}
+use Rattle.art_schedules.proofs.Common.{◌≡◌, ℕ, zero, suc, List, [], ◌∷◌, take, refl, sym, ap, ◌∙◌, subst, arith, min, opened_on, Gives}
+use Rattle.art_schedules.proofs.Common.{MomentsEndRuns, FrontsHaveMoments}
 use Rattle.art_schedules.proofs.calls.TraceLemmas.{few-before}
 
 take-nil : (t : ℕ) → ◌≡◌ {A = List ℕ} (take t []) []

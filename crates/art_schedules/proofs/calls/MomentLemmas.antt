@@ -1,26 +1,14 @@
 -- How a process goes on from moment to moment.
-use Rattle.std.proofs.Common.{◌≡◌, ℕ, zero, suc, ◌+◌, ◌*◌, ◌<◌, ◌≤◌, cond, List, [], ◌∷◌, length, take, Option, Some, None, refl, sym, ap}
-use Rattle.std.proofs.Common.{ap₂, ◌∙◌, subst, inl, inr, ⊎_elim, arith}
-use Rattle.std.specs.Prelude.{◌⊎◌, slice_get, slice_index, is_some}
-use Rattle.std.proofs.lemmas.List.{length-append}
-use Rattle.std.proofs.lemmas.Bool.{cases_lt}
-use Rattle.std.proofs.lemmas.Option.{same_Some, none-some, slice_get_within}
-use Rattle.list_laws.proofs.NumberLemmas.{slice_get-below}
-use Rattle.events.specs.declared.event.Call.{Call}
-use Rattle.events.specs.declared.event.Event.{Event}
-use Rattle.events.specs.declared.event.Event.TheVariants.{Invoke, Answer}
-use Rattle.events.specs.declared.event.Reply.{Reply}
-use Rattle.events.specs.Events.{process_of}
-use Rattle.art_steps.specs.Steps.{Turn, Asks, Answers}
-use Rattle.art_steps.specs.Act.{act}
-use Rattle.art_core.specs.declared.process.Process.{Process}
-use Rattle.art_core.specs.Core.{Plan, State, Move, Invokes, Makes, Responds, begun, step, move_of, move_from, next_call, next_move}
-use Rattle.art_core.specs.Core.{known_reply, opened_on}
-use Rattle.art_core.specs.Core.{invocation, after_move, word_of_move}
-use Rattle.art_core.specs.Runs.{run_on, At}
-use Rattle.art_core.proofs.HistoryLemmas.{all-idle, nowhere, is-moved, changed-at, step-lengths}
-use Rattle.art_core.proofs.RunLemmas.{begun-more}
-use Rattle.art_schedules.specs.calls.RunCalls.{IsIn}
+use Rattle.art_schedules.proofs.Common.{◌≡◌, ℕ, zero, suc, ◌+◌, ◌*◌, ◌<◌, ◌≤◌, cond, List, [], ◌∷◌, length, take, refl, sym, ap, ap₂, ◌∙◌, subst}
+use Rattle.art_schedules.proofs.Common.{inl, inr, ⊎_elim, arith, slice_get, slice_index, is_some, length-append, cases_lt, same_Some, none-some}
+use Rattle.art_schedules.proofs.Common.{slice_get_within, slice_get-below, Call, Event, Invoke, Answer, Reply, process_of, Turn, Asks, Answers}
+use Rattle.art_schedules.proofs.Common.{act, Process, Plan, State, Move, Invokes, Responds, begun, step, move_of, move_from, next_call}
+use Rattle.art_schedules.proofs.Common.{next_move, known_reply, opened_on, invocation, after_move, word_of_move, run_on, At, nowhere, is-moved}
+use Rattle.art_schedules.proofs.Common.{changed-at, begun-more, IsIn}
+use Rattle.std.proofs.Common.{Option, Some, None}
+use Rattle.std.specs.Prelude.{◌⊎◌}
+use Rattle.art_core.specs.Core.{Makes}
+use Rattle.art_core.proofs.HistoryLemmas.{all-idle, step-lengths}
 
 -- Step t leads to a state.
 pub record StepAt (plan : Plan) (first : State) (schedule : List ℕ) (t : ℕ) (next : State) : Type 0 where

@@ -1,35 +1,19 @@
 -- The calls of a run's history are those that its processes begin.
-use Rattle.std.proofs.Common.{◌≡◌, ℕ, suc, ◌+◌, ◌<◌, ◌≤◌, true, List, length, Option, Some, None, refl, sym, ap, ap₂, ◌∙◌, subst, ⊎_elim}
-use Rattle.std.proofs.Common.{arith}
-use Rattle.std.specs.Prelude.{option_map, slice_get, IfSome}
-use Rattle.std.proofs.lemmas.Bool.{cases_lt, cases_order, ltb-true}
-use Rattle.std.proofs.lemmas.Option.{same_Some, none-some, slice_get-map, slice_get_within}
-use Rattle.std.proofs.Math.Seq.{take-length}
-use Rattle.list_laws.proofs.Lists.{All-at, AllPairs-at, place_of-Contains}
-use Rattle.list_laws.proofs.NumberLemmas.{slice_get-below}
-use Rattle.events.specs.declared.event.Call.{Call}
-use Rattle.events.specs.declared.event.Event.{Event}
-use Rattle.events.specs.declared.event.Event.TheVariants.{Invoke, Answer}
-use Rattle.events.specs.declared.event.Reply.{Reply}
-use Rattle.events.specs.declared.operation.Operation.{Operation}
-use Rattle.events.specs.declared.operation.Response.{Response}
-use Rattle.events.specs.Events.{process_of}
-use Rattle.events.specs.Operations.{operations}
-use Rattle.events.specs.Precedence.{is_before}
+use Rattle.art_schedules.proofs.Common.{◌≡◌, ℕ, suc, ◌+◌, ◌<◌, ◌≤◌, true, List, length, refl, sym, ap, ap₂, ◌∙◌, subst, ⊎_elim, arith, slice_get}
+use Rattle.art_schedules.proofs.Common.{IfSome, cases_lt, cases_order, ltb-true, same_Some, none-some, slice_get-map, slice_get_within}
+use Rattle.art_schedules.proofs.Common.{take-length, All-at, place_of-Contains, slice_get-below, Call, Event, Invoke, Answer, Reply, Operation}
+use Rattle.art_schedules.proofs.Common.{Response, process_of, operations, is_before, Process, Plan, State, Invokes, Responds, begun, history_of}
+use Rattle.art_schedules.proofs.Common.{known_reply, after_move, opened_on, step, At, Gives, logged, start-clock, start-length, IsIn, EndsAt}
+use Rattle.art_schedules.proofs.Common.{RunCall, IsWithin, EndsWith, IsRunCall, last_step, HasCalls, RunsHaveCalls}
+use Rattle.std.proofs.Common.{Option, Some, None}
+use Rattle.std.specs.Prelude.{option_map}
+use Rattle.list_laws.proofs.Lists.{AllPairs-at}
 use Rattle.events.proofs.TimeLemmas.{inv_rises}
 use Rattle.art_schedules.specs.points.Windows.{WindowsKeepPrecedence}
 use Rattle.art_schedules.proofs.points.ChoiceLemmas.{chosen}
-use Rattle.art_core.specs.declared.process.Process.{Process}
-use Rattle.art_core.specs.Core.{Plan, State, Invokes, Responds, begun, history_of, known_reply, after_move, opened_on, step}
-use Rattle.art_core.specs.Runs.{At, Gives}
-use Rattle.art_core.proofs.HistoryLemmas.{logged, start-clock, start-length}
-use Rattle.art_schedules.specs.calls.RunCalls.{IsIn, EndsAt, RunCall, IsWithin, EndsWith, IsRunCall, last_step, HasCalls}
-use Rattle.art_schedules.specs.calls.Laws.{RunsHaveCalls}
 use Rattle.art_schedules.proofs.calls.EventPlaceLemmas.{IsNextAnswer, IsCallAt, call_at, invocation_at, at_place, from_place}
 use Rattle.art_schedules.proofs.calls.MomentLemmas.{LogsAt, begun-before, earlier-moment, goes-on, in-call, invokes-next, moment-before}
-use Rattle.art_schedules.proofs.calls.MomentLemmas.{moved-now}
-use Rattle.art_schedules.proofs.calls.MomentLemmas.{responds-next}
-use Rattle.art_schedules.proofs.calls.MomentLemmas.{same-process, stage-after, stage-idle, stage-open, stage-rises}
+use Rattle.art_schedules.proofs.calls.MomentLemmas.{moved-now, responds-next, same-process, stage-after, stage-idle, stage-open, stage-rises}
 use Rattle.art_schedules.proofs.calls.TraceLemmas.{Dated, Traced, traced}
 
 -- what a mapped item comes from

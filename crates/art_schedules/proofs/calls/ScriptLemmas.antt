@@ -1,12 +1,7 @@
 -- Each call of a plan's scripts is one of a tree.
-use Rattle.std.proofs.Common.{◌≡◌, ℕ, true, List, length, refl}
-use Rattle.std.specs.Prelude.{slice_get, IsTrue, All, Option, Some, None}
-use Rattle.std.proofs.lemmas.Option.{none-some}
-use Rattle.list_laws.proofs.Lists.{All-at}
-use Rattle.events.specs.declared.event.Call.{Call}
-use Rattle.art_steps.specs.TreeCalls.{is_tree_call}
-use Rattle.art_core.specs.declared.process.Process.{Process}
-use Rattle.art_core.specs.Core.{Plan, begun, next_call, next_in}
+use Rattle.art_schedules.proofs.Common.{◌≡◌, ℕ, true, List, length, refl, slice_get, IsTrue, All, Option, Some, None, none-some, All-at, Call}
+use Rattle.art_schedules.proofs.Common.{is_tree_call, Process, Plan, begun, next_call}
+use Rattle.art_core.specs.Core.{next_in}
 
 abbrev pub AreTreeCalls : List (List Call) → Type 0
 AreTreeCalls scripts = All (λ script. All (λ call. IsTrue (is_tree_call call)) script) scripts

@@ -1,28 +1,20 @@
 -- The events of a run, each with the step that logs it.
-use Rattle.std.proofs.Common.{◌≡◌, ℕ, zero, suc, ◌+◌, ◌^◌, ◌<◌, ◌≤◌, List, [], ◌∷◌, ◌++◌, length, map, take, drop, Some, refl, sym, ap, ap₂}
-use Rattle.std.proofs.Common.{◌∙◌, subst}
-use Rattle.std.proofs.Common.{⊎_elim, arith}
-use Rattle.std.specs.Prelude.{option_map, slice_get, slice_index, slice_set, flat_map, All, AllPairs, Contains}
-use Rattle.std.proofs.lemmas.Bool.{cases_lt}
-use Rattle.std.proofs.lemmas.List.{map-set, map-append, take-append-drop}
-use Rattle.std.proofs.lemmas.List.Elements.{All-nil, All-cons, All-append, All-contains, Contains-append_left, Contains-append_right}
-use Rattle.std.proofs.lemmas.List.Kept.{AllPairs-cons}
-use Rattle.std.proofs.lemmas.Option.{same_Some, slice_get-map, slice_get_within}
-use Rattle.list_laws.proofs.Lists.{AllPairs-nil, AllPairs-append, Contains-first, All-from_contains}
-use Rattle.events.specs.declared.event.Event.{Event}
-use Rattle.events.specs.declared.event.Event.TheVariants.{Invoke, Answer}
-use Rattle.events.specs.Events.{process_of}
+use Rattle.art_schedules.proofs.Common.{◌≡◌, ℕ, zero, suc, ◌+◌, ◌^◌, ◌<◌, ◌≤◌, List, [], ◌∷◌, ◌++◌, length, take, drop, refl, sym, ap, ap₂, ◌∙◌}
+use Rattle.art_schedules.proofs.Common.{subst, ⊎_elim, arith, slice_get, slice_index, slice_set, All, AllPairs, Contains, cases_lt}
+use Rattle.art_schedules.proofs.Common.{take-append-drop, All-nil, All-cons, All-append, All-contains, Contains-append_left}
+use Rattle.art_schedules.proofs.Common.{Contains-append_right, AllPairs-cons, same_Some, slice_get-map, slice_get_within, AllPairs-nil}
+use Rattle.art_schedules.proofs.Common.{AllPairs-append, Contains-first, All-from_contains, Event, Invoke, Answer, process_of, table_words}
+use Rattle.art_schedules.proofs.Common.{Access, Process, Plan, State, Move, Invokes, Responds, after_move, moved, next_move, opened_on, step}
+use Rattle.art_schedules.proofs.Common.{word_of_move, run_on, At, Gives, is-moved, logged, opened-logged, steps-rise, run-on-append}
+use Rattle.std.proofs.Common.{map, Some}
+use Rattle.std.specs.Prelude.{option_map, flat_map}
+use Rattle.std.proofs.lemmas.List.{map-set, map-append}
 use Rattle.logs.specs.Logs.{events_by_stamp, history_of_logs}
 use Rattle.logs.proofs.GrowthLemmas.{AreBelow, history-push}
-use Rattle.art_rows.specs.Table.{table_words}
-use Rattle.art_steps.specs.declared.access.Access.{Access}
-use Rattle.art_core.specs.declared.process.Process.{Process}
-use Rattle.art_core.specs.Core.{Plan, State, Move, Invokes, Makes, Responds, after_move, moved, next_move, opened_on, step, word_of_move}
+use Rattle.art_core.specs.Core.{Makes}
 use Rattle.art_core.specs.Plans.{IsPlan}
-use Rattle.art_core.specs.Runs.{run_on, At, Gives, HasFewSteps}
-use Rattle.art_core.proofs.HistoryLemmas.{IsLogged, all_steps, is-moved, logged, map-same, no-logs, one-move, one-step, opened-logged}
-use Rattle.art_core.proofs.HistoryLemmas.{steps-rise}
-use Rattle.art_core.proofs.RunLemmas.{run-on-append}
+use Rattle.art_core.specs.Runs.{HasFewSteps}
+use Rattle.art_core.proofs.HistoryLemmas.{IsLogged, all_steps, map-same, no-logs, one-move, one-step}
 use Rattle.art_schedules.proofs.calls.MomentLemmas.{LogsAt, StepAt, logging, moment-before}
 
 -- an event with the step that logged it

@@ -1,50 +1,23 @@
 -- Calm beside the first state, and what a step makes of it.
-use Rattle.std.proofs.Common.{◌≡◌, ◌≢◌, ℕ, ◌+◌, ◌%◌, ◌^◌, ◌<◌, ◌≤◌, true, false, List, [], ◌∷◌, length, refl, ap, sym, subst, ◌∙◌, inl, inr}
-use Rattle.std.proofs.Common.{arith, ne_eqb}
-use Rattle.std.specs.Prelude.{◌⊎◌, slice_index, All, Some}
-use Rattle.std.proofs.lemmas.Bool.{cases_eq, cases_lt, cases_Bool}
-use Rattle.std.proofs.lemmas.List.{get_or_past}
+use Rattle.art_schedules.proofs.Common.{◌≡◌, ◌≢◌, ℕ, ◌+◌, ◌%◌, ◌^◌, ◌<◌, ◌≤◌, true, false, List, [], ◌∷◌, length, refl, ap, sym, subst, ◌∙◌, inl}
+use Rattle.art_schedules.proofs.Common.{inr, arith, ne_eqb, slice_index, All, Some, cases_eq, cases_lt, cases_Bool, get_or_past, Call, Shape}
+use Rattle.art_schedules.proofs.Common.{Kind, row_words, table_words, claims_of, base_of, kind_at, is_locked, is_obsolete, released_word}
+use Rattle.art_schedules.proofs.Common.{some-words, claims-few, kind_at-base_of, row_begins, rows_apart, small_at, taken-locked}
+use Rattle.art_schedules.proofs.Common.{obsolete_obsolete, obsolete_released, IsOutside, IsClaimed, AreZeroPastClaims, Variant, Optimistic}
+use Rattle.art_schedules.proofs.Common.{Store, locks, Held, setting, Process, State, OfRows, IsKept, IsGoodAt, IsAmong, IsWith, IsOpen, stage_of}
+use Rattle.art_schedules.proofs.Common.{held_by, filled_by, IsSettled, IsSound, IsSteady, SameWords, held-is-kept, settled-row, true-false}
+use Rattle.art_schedules.proofs.Common.{version-free, AllIdle, is_busy, calm_after, IsCalm, AsksFor, HoldsThen, RowChange, RowsStay, RowWritten}
+use Rattle.art_schedules.proofs.Common.{RowFilled, RowTaken, RowReleased, CalmChange, CalmStays, CalmFilled, CalmReleased, CalmStep}
+use Rattle.std.specs.Prelude.{◌⊎◌}
 use Rattle.std.proofs.lemmas.List.Elements.{All-from_get_or}
-use Rattle.events.specs.declared.event.Call.{Call}
-use Rattle.art_rows.specs.declared.table.Shape.{Shape}
-use Rattle.art_rows.specs.declared.table.Kind.{Kind}
-use Rattle.art_rows.specs.Table.{row_words, table_words, claims_of, base_of, kind_at}
-use Rattle.art_rows.specs.Words.{is_locked, is_obsolete, released_word}
-use Rattle.art_rows.proofs.KindLemmas.{some-words, claims-few}
-use Rattle.art_serial.proofs.words.TableLemmas.{kind_at-base_of, row_begins, rows_apart}
-use Rattle.art_serial.proofs.trees.Descents.{small_at}
-use Rattle.art_serial.proofs.words.VersionLemmas.{even-free, taken-locked, obsolete_obsolete, obsolete_released}
-use Rattle.art_serial.specs.writes.Writes.{IsOutside}
-use Rattle.art_serial.specs.trees.Trees.{IsClaimed, AreZeroPastClaims}
-use Rattle.art_steps.specs.declared.variant.Variant.{Variant}
-use Rattle.art_steps.specs.declared.variant.Variant.TheVariants.{Optimistic}
-use Rattle.art_steps.specs.declared.access.Access.TheVariants.{Store}
-use Rattle.art_steps.specs.Rows.{locks}
-use Rattle.art_stages.specs.declared.stage.Held.{Held}
-use Rattle.art_stages.specs.Stages.{setting}
-use Rattle.art_core.specs.declared.process.Process.{Process}
-use Rattle.art_core.specs.Core.{State}
+use Rattle.art_serial.proofs.words.VersionLemmas.{even-free}
 use Rattle.art_core.specs.Meaning.{AllUnlocked}
-use Rattle.art_versions.specs.versions.Holding.{OfRows, IsKept, IsVersion}
-use Rattle.art_versions.specs.versions.Effects.{IsGoodAt, IsAmong, IsWith}
-use Rattle.art_versions.specs.versions.Versions.{IsOpen, stage_of, held_by, filled_by, IsSettled, IsSound}
-use Rattle.art_versions.specs.versions.Steady.{IsSteady, SameWords}
-use Rattle.art_versions.proofs.versions.KnownLemmas.{held-is-kept}
+use Rattle.art_versions.specs.versions.Holding.{IsVersion}
 use Rattle.art_versions.proofs.versions.ChangeLemmas.{good-more}
-use Rattle.art_versions.proofs.versions.MoveLemmas.{settled-row, true-false}
-use Rattle.art_versions.proofs.versions.WordFacts.{version-free}
-use Rattle.art_versions.proofs.versions.RunLemmas.{AllIdle}
-use Rattle.art_schedules.specs.calm.Calm.{is_busy, calm_after, IsCalm}
-use Rattle.art_schedules.specs.calm.Changes.{AsksFor, HoldsThen, RowChange, RowsStay, RowWritten, RowFilled, RowTaken, RowReleased}
-use Rattle.art_schedules.specs.calm.Changes.{CalmChange, CalmStays, CalmFilled, CalmReleased, CalmStep}
-use Rattle.art_schedules.proofs.calm.AfterLemmas.{after-long, after-past, after-low, after-free, after-busy, after-either, IsOfRow}
-use Rattle.art_schedules.proofs.calm.AfterLemmas.{row-of-word}
+use Rattle.art_schedules.proofs.calm.AfterLemmas.{after-long, after-past, after-low, after-free, after-busy, after-either, IsOfRow, row-of-word}
 use Rattle.art_schedules.proofs.calm.ReachedLemmas.{reached-good}
-use Rattle.art_schedules.proofs.calm.VersionLemmas.{locked-busy, obsolete-busy, free-parts, free-busy, not-behind, held-locked}
-use Rattle.art_schedules.proofs.calm.VersionLemmas.{held-version, VersionChange}
-use Rattle.art_schedules.proofs.calm.VersionLemmas.{Stays}
-use Rattle.art_schedules.proofs.calm.VersionLemmas.{IsTaken, IsReleased}
-use Rattle.art_schedules.proofs.calm.VersionLemmas.{version-change, released-free, obsolete-free}
+use Rattle.art_schedules.proofs.calm.VersionLemmas.{locked-busy, obsolete-busy, free-parts, free-busy, not-behind, held-locked, held-version}
+use Rattle.art_schedules.proofs.calm.VersionLemmas.{VersionChange, Stays, IsTaken, IsReleased, version-change, released-free, obsolete-free}
 use Rattle.art_schedules.proofs.calm.VersionLemmas.{obsolete-stays, BusySettled}
 
 -- a version that is kept in the optimistic tree is not obsolete

@@ -1,46 +1,18 @@
 -- What each step of a full tree changes in the words of rows.
-use Rattle.std.proofs.Common.{◌≡◌, ◌≢◌, ℕ, ◌+◌, ◌^◌, ◌<◌, ◌≤◌, Bool, true, false, List, [], length, refl, ap, sym, subst, ◌∙◌, inl, inr}
-use Rattle.std.proofs.Common.{arith}
-use Rattle.std.proofs.Common.{eq-eqb, ne_eqb}
-use Rattle.std.specs.Prelude.{◌==◌, slice_get, slice_index, slice_set, Option, Some, None, if◌then◌else◌}
-use Rattle.std.proofs.lemmas.Bool.{cases_eq}
-use Rattle.std.proofs.lemmas.Option.{same_Some, none-some}
-use Rattle.events.specs.declared.event.Call.{Call}
-use Rattle.art_rows.specs.declared.table.Shape.{Shape}
-use Rattle.art_rows.specs.Table.{claims_of}
-use Rattle.art_rows.specs.Words.{locked_word}
-use Rattle.art_rows.proofs.KindLemmas.{claims-few}
-use Rattle.art_steps.specs.declared.variant.Variant.{Variant}
-use Rattle.art_steps.specs.declared.access.Access.{Access}
-use Rattle.art_steps.specs.declared.access.Access.TheVariants.{Load, Store, Exchange, Add}
-use Rattle.art_steps.specs.declared.access.Point.{Point}
-use Rattle.art_steps.specs.Steps.{Turn, Asks, Answers}
-use Rattle.art_steps.specs.Rows.{Setting, locks}
-use Rattle.art_steps.specs.Act.{act}
-use Rattle.art_steps.specs.Fits.{word_of}
+use Rattle.art_schedules.proofs.Common.{◌≡◌, ◌≢◌, ℕ, ◌+◌, ◌^◌, ◌<◌, ◌≤◌, Bool, true, false, List, [], length, refl, ap, sym, subst, ◌∙◌, inl}
+use Rattle.art_schedules.proofs.Common.{inr, arith, eq-eqb, ne_eqb, ◌==◌, slice_get, slice_index, slice_set, Option, Some, None, if◌then◌else◌}
+use Rattle.art_schedules.proofs.Common.{cases_eq, same_Some, none-some, Call, Shape, claims_of, locked_word, claims-few, Variant, Access, Load}
+use Rattle.art_schedules.proofs.Common.{Store, Add, Point, Turn, Asks, Answers, Setting, locks, act, word_of, asks-same, asks-answers, Held}
+use Rattle.art_schedules.proofs.Common.{CallAt, call_turn, call_after, call_begun, setting, Process, told, Plan, State, Move, Invokes, Responds}
+use Rattle.art_schedules.proofs.Common.{after_move, moved, move_of, invocation, next_call, move_from, word_of_move, new_word, step, is-moved}
+use Rattle.art_schedules.proofs.Common.{stored-at, set-here, OfRows, Named, IsKept, holds, Reads, Writes, Ends, Releases, Takes, Claims}
+use Rattle.art_schedules.proofs.Common.{Answered, IsAmong, AccessDoes, stage_of, IsSettled, IsSound, IsFull, version-free, held-is-kept}
+use Rattle.art_schedules.proofs.Common.{index-other, settled-row, after-more, does, next-turn, AsksFor, HoldsThen, RowChange, RowsStay}
+use Rattle.art_schedules.proofs.Common.{RowWritten, RowFilled, RowTaken, RowReleased}
+use Rattle.art_steps.specs.declared.access.Access.TheVariants.{Exchange}
 use Rattle.art_steps.proofs.AccessLemmas.{act-stays}
-use Rattle.art_steps.proofs.TurnLemmas.{asks-same, asks-answers}
-use Rattle.art_stages.specs.declared.stage.Held.{Held}
-use Rattle.art_stages.specs.Calls.{CallAt, call_turn, call_after, call_begun}
-use Rattle.art_stages.specs.Stages.{setting}
-use Rattle.art_core.specs.declared.process.Process.{Process}
-use Rattle.art_core.specs.Accesses.{told}
-use Rattle.art_core.specs.Core.{Plan, State, Move, Invokes, Makes, Responds, after_move, moved, move_of, invocation, next_call, move_from}
-use Rattle.art_core.specs.Core.{word_of_move}
-use Rattle.art_core.specs.Core.{new_word, step}
-use Rattle.art_core.proofs.HistoryLemmas.{is-moved}
-use Rattle.art_serial.proofs.writes.StoreLemmas.{stored-at}
-use Rattle.art_serial.proofs.serial.OrderlyLemmas.{set-here}
-use Rattle.art_versions.specs.versions.Holding.{OfRows, Named, IsKept, holds}
-use Rattle.art_versions.specs.versions.Effects.{Has, Reads, Writes, Fills, Ends, Releases, Takes, Claims, Answered, IsAmong, AccessDoes}
-use Rattle.art_versions.specs.versions.Versions.{stage_of, IsSettled, IsSound}
-use Rattle.art_versions.specs.versions.Laws.{IsFull}
-use Rattle.art_versions.proofs.versions.WordFacts.{version-free}
-use Rattle.art_versions.proofs.versions.KnownLemmas.{held-is-kept}
-use Rattle.art_versions.proofs.versions.ChangeLemmas.{index-other}
-use Rattle.art_versions.proofs.versions.MoveLemmas.{settled-row}
-use Rattle.art_versions.proofs.versions.StepLemmas.{after-more, does, next-turn}
-use Rattle.art_schedules.specs.calm.Changes.{AsksFor, HoldsThen, RowChange, RowsStay, RowWritten, RowFilled, RowTaken, RowReleased}
+use Rattle.art_core.specs.Core.{Makes}
+use Rattle.art_versions.specs.versions.Effects.{Has, Fills}
 
 -- a word that is written as it was
 same-words : (words : List ℕ) (word x : ℕ) → word < length words

@@ -1,22 +1,10 @@
 -- What holds before the first step and is kept by each step of a run holds behind it.
-use Rattle.std.proofs.Common.{◌≡◌, ℕ, ◌+◌, ◌^◌, ◌<◌, List, [], ◌∷◌, ◌++◌, length, refl, ap, sym, subst, ◌∙◌, arith}
-use Rattle.std.specs.Prelude.{Option, Some, None}
-use Rattle.std.proofs.lemmas.List.{append_assoc, append-nil}
-use Rattle.std.proofs.lemmas.Option.{same_Some}
-use Rattle.map_object.specs.MapObject.{Contents}
-use Rattle.art_steps.specs.declared.variant.Variant.{Variant}
-use Rattle.art_core.specs.Core.{Plan, State, opened_on, step}
-use Rattle.art_core.specs.Runs.{Gives, run_on}
-use Rattle.art_core.specs.Plans.{IsRun}
-use Rattle.art_core.proofs.RunLemmas.{run-on-append}
-use Rattle.art_core.proofs.HistoryLemmas.{nowhere, steps-rise}
-use Rattle.art_core.proofs.StartLemmas.{run-steps}
-use Rattle.art_versions.specs.versions.Versions.{IsSound}
-use Rattle.art_versions.specs.versions.Steady.{IsSteady}
-use Rattle.art_versions.specs.versions.Laws.{IsFull}
-use Rattle.art_versions.proofs.versions.RunLemmas.{start-sound, run-sound, later-part}
-use Rattle.art_versions.proofs.versions.StepLemmas.{one-step}
-use Rattle.art_schedules.specs.calm.Changes.{RowChange}
+use Rattle.art_schedules.proofs.Common.{◌≡◌, ℕ, ◌+◌, ◌^◌, ◌<◌, List, [], ◌∷◌, ◌++◌, length, refl, ap, sym, subst, ◌∙◌, arith, Option, Some, None}
+use Rattle.art_schedules.proofs.Common.{append-nil, same_Some, Contents, Variant, Plan, State, opened_on, step, Gives, run_on, IsRun}
+use Rattle.art_schedules.proofs.Common.{run-on-append, nowhere, steps-rise, run-steps, IsSound, IsSteady, IsFull, start-sound, one-step}
+use Rattle.art_schedules.proofs.Common.{RowChange}
+use Rattle.std.proofs.lemmas.List.{append_assoc}
+use Rattle.art_versions.proofs.versions.RunLemmas.{run-sound, later-part}
 use Rattle.art_schedules.proofs.calm.ChangeLemmas.{row-change}
 
 -- a part of a run from its beginning is a run

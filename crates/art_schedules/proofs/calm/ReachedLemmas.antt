@@ -1,15 +1,7 @@
 -- The rows that are reached where child words name settled rows alone.
-use Rattle.std.proofs.Common.{◌≡◌, ℕ, ◌-◌, ◌<◌, List, refl, subst, arith}
-use Rattle.std.specs.Prelude.{slice_index, Option, Some, None}
-use Rattle.art_rows.specs.declared.table.Shape.{Shape}
-use Rattle.art_rows.specs.declared.table.Kind.{Kind}
-use Rattle.art_rows.specs.declared.table.Kind.TheVariants.{Four, Sixteen, FortyEight, Full}
-use Rattle.art_rows.specs.declared.table.Child.TheVariants.{Empty, Row}
-use Rattle.art_rows.specs.Table.{root_base, kind_at}
-use Rattle.art_core.specs.Meaning.{slot_of, child_in, child_on, Reached, root, below}
-use Rattle.art_serial.proofs.alone.SlotLemmas.{IsChildWord, slot-is}
-use Rattle.art_versions.specs.versions.Holding.{OfRows, Each, IsSlot, IsNamed, child_rows}
-use Rattle.art_versions.specs.versions.Effects.{IsGoodAt}
+use Rattle.art_schedules.proofs.Common.{◌≡◌, ℕ, ◌-◌, ◌<◌, List, refl, subst, arith, slice_index, Option, Some, None, Shape, Kind, Four, Sixteen}
+use Rattle.art_schedules.proofs.Common.{FortyEight, Full, Empty, Row, root_base, kind_at, slot_of, child_in, child_on, Reached, root, below}
+use Rattle.art_schedules.proofs.Common.{IsChildWord, slot-is, OfRows, Each, IsSlot, IsNamed, child_rows, IsGoodAt}
 
 empty-row : {base : ℕ} {kind : Kind} → Empty ≡ Row base kind → ⊥
 empty-row e = cc

@@ -1,17 +1,8 @@
 -- Calm along a run.
-use Rattle.std.proofs.Common.{◌≡◌, ℕ, ◌+◌, List, [], ◌∷◌, ◌++◌, refl, ap, sym, subst, ◌∙◌}
-use Rattle.std.proofs.lemmas.Option.{same_Some}
-use Rattle.std.specs.Prelude.{Option, Some, None}
-use Rattle.map_object.specs.MapObject.{Contents}
-use Rattle.art_core.specs.Core.{Plan, State, opened_on, step}
-use Rattle.art_core.specs.Runs.{Gives, run_on}
-use Rattle.art_core.specs.Plans.{IsRun}
-use Rattle.art_core.proofs.HistoryLemmas.{nowhere}
-use Rattle.art_versions.specs.versions.Laws.{IsFull}
-use Rattle.art_versions.proofs.versions.FreshLemmas.{fresh-at}
-use Rattle.art_versions.proofs.versions.RunLemmas.{idle-idle, start-sound}
-use Rattle.art_schedules.specs.calm.Calm.{calm_after, calm_behind, calm_on, calm_of, IsCalm}
-use Rattle.art_schedules.specs.calm.Changes.{CalmStep}
+use Rattle.art_schedules.proofs.Common.{◌≡◌, ℕ, ◌+◌, List, [], ◌∷◌, ◌++◌, refl, ap, sym, subst, ◌∙◌, same_Some, Option, Some, None, Contents}
+use Rattle.art_schedules.proofs.Common.{Plan, State, opened_on, step, Gives, run_on, IsRun, nowhere, IsFull, fresh-at, idle-idle, start-sound}
+use Rattle.art_schedules.proofs.Common.{calm_after, calm_of, IsCalm, CalmStep}
+use Rattle.art_schedules.specs.calm.Calm.{calm_behind, calm_on}
 use Rattle.art_schedules.specs.calm.Laws.{CalmGoes}
 use Rattle.art_schedules.proofs.calm.SmallRunLemmas.{small-words}
 use Rattle.art_schedules.proofs.calm.SettledLemmas.{settled-at}

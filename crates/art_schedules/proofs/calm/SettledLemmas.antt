@@ -1,27 +1,13 @@
 -- In every state of a full tree a busy row is settled.
-use Rattle.std.proofs.Common.{◌≡◌, ◌≢◌, ℕ, ◌+◌, ◌^◌, ◌<◌, ◌≤◌, List, [], ◌∷◌, length, refl, ap, sym, subst, ◌∙◌, arith}
-use Rattle.std.specs.Prelude.{slice_index, slice_set, Option, Some, None}
-use Rattle.std.proofs.lemmas.Option.{same_Some}
-use Rattle.map_object.specs.MapObject.{Contents}
-use Rattle.art_rows.specs.declared.table.Shape.{Shape}
-use Rattle.art_rows.specs.declared.table.Kind.TheVariants.{Full}
-use Rattle.art_rows.specs.Table.{opening, claims_of, root_base}
-use Rattle.art_rows.proofs.KindLemmas.{some-words, claims-some}
-use Rattle.art_serial.proofs.words.TableLemmas.{row_begins, rows_apart}
-use Rattle.art_steps.specs.declared.variant.Variant.{Variant}
-use Rattle.art_core.specs.Core.{Plan, State, opened, opened_on, step}
-use Rattle.art_core.specs.Runs.{run_on}
-use Rattle.art_core.specs.Starts.{StartsOn, start_plan}
-use Rattle.art_core.specs.Plans.{IsRun}
-use Rattle.art_core.proofs.HistoryLemmas.{nowhere}
-use Rattle.art_core.proofs.StartLemmas.{run-steps}
-use Rattle.art_versions.specs.versions.Versions.{IsSound}
-use Rattle.art_versions.specs.versions.Laws.{IsFull}
-use Rattle.art_versions.proofs.versions.ChangeLemmas.{index-other}
-use Rattle.art_versions.proofs.versions.MoveLemmas.{true-false, differ-from}
-use Rattle.art_versions.proofs.versions.StepLemmas.{one-step}
-use Rattle.art_versions.proofs.versions.RunLemmas.{AllIdle, start-sound, idle-idle, opening-sound, root-row, zeros}
-use Rattle.art_schedules.specs.calm.Calm.{is_busy}
+use Rattle.art_schedules.proofs.Common.{◌≡◌, ◌≢◌, ℕ, ◌+◌, ◌^◌, ◌<◌, ◌≤◌, List, [], ◌∷◌, length, refl, ap, sym, subst, ◌∙◌, arith, slice_index}
+use Rattle.art_schedules.proofs.Common.{slice_set, Option, Some, None, same_Some, Contents, Shape, Full, opening, claims_of, root_base}
+use Rattle.art_schedules.proofs.Common.{some-words, row_begins, rows_apart, Variant, Plan, State, opened, opened_on, step, run_on, start_plan}
+use Rattle.art_schedules.proofs.Common.{IsRun, nowhere, run-steps, IsSound, IsFull, index-other, true-false, one-step, AllIdle, start-sound}
+use Rattle.art_schedules.proofs.Common.{idle-idle, is_busy}
+use Rattle.art_rows.proofs.KindLemmas.{claims-some}
+use Rattle.art_core.specs.Starts.{StartsOn}
+use Rattle.art_versions.proofs.versions.MoveLemmas.{differ-from}
+use Rattle.art_versions.proofs.versions.RunLemmas.{opening-sound, root-row, zeros}
 use Rattle.art_schedules.proofs.calm.ChangeLemmas.{row-change}
 use Rattle.art_schedules.proofs.calm.VersionLemmas.{BusySettled, busy-settled-step}
 

@@ -1,40 +1,19 @@
 -- The words of every run are below 2^64.
-use Rattle.std.proofs.Common.{◌≡◌, ℕ, ◌^◌, ◌<◌, Bool, true, false, List, [], ◌∷◌, refl, ap, sym, subst, ◌∙◌, inl, inr, arith}
-use Rattle.std.specs.Prelude.{◌==◌, IsTrue, slice_get, slice_index, slice_set, replicate, All, Option, Some, None, if◌then◌else◌}
-use Rattle.std.proofs.lemmas.Option.{same_Some, none-some}
-use Rattle.std.proofs.lemmas.List.Elements.{All-nil, All-cons, All-set, All-replicate}
-use Rattle.events.specs.declared.event.Call.{Call}
-use Rattle.events.specs.declared.event.Call.TheVariants.{Get, Insert, Remove, Scan, Replace}
-use Rattle.map_object.specs.MapObject.{Contents}
-use Rattle.art_rows.specs.declared.table.Shape.{Shape}
-use Rattle.art_rows.specs.declared.table.Kind.{Kind}
-use Rattle.art_rows.specs.declared.table.Kind.TheVariants.{Four, Sixteen, FortyEight, Full}
-use Rattle.art_rows.specs.Table.{IsWithinLimits, opening, table_words, info_at, root_base, rows_of, base_of}
-use Rattle.art_rows.specs.Words.{child_word, leaf_word, row_word}
-use Rattle.art_steps.specs.declared.access.Access.{Access}
-use Rattle.art_steps.specs.declared.access.Access.TheVariants.{Load, Store, Exchange, Add}
-use Rattle.art_steps.specs.declared.access.Point.{Point}
-use Rattle.art_steps.specs.Steps.{Turn, Asks, Answers}
-use Rattle.art_steps.specs.TreeCalls.{is_tree_call}
-use Rattle.art_steps.specs.Updates.{overwriting, new_leaf}
-use Rattle.art_steps.specs.Act.{act}
-use Rattle.art_steps.specs.Fits.{word_of}
-use Rattle.art_stages.specs.Calls.{call_turn, call_begun}
-use Rattle.art_stages.specs.Stages.{setting}
-use Rattle.art_core.specs.declared.process.Process.{Process}
-use Rattle.art_core.specs.Accesses.{told, changed}
-use Rattle.art_core.specs.Core.{Plan, State, Move, Invokes, Makes, Responds, next_call, invocation, after_move, word_of_move, new_word}
-use Rattle.art_core.specs.Core.{moved, move_of}
-use Rattle.art_core.specs.Core.{move_from, opened, opened_on, step}
-use Rattle.art_core.specs.Runs.{run_on}
-use Rattle.art_core.specs.Starts.{start_plan, inserts}
-use Rattle.art_core.specs.Plans.{IsRun}
-use Rattle.art_core.proofs.HistoryLemmas.{nowhere, is-moved, changed-at}
-use Rattle.art_serial.proofs.trees.Descents.{small_at}
+use Rattle.art_schedules.proofs.Common.{◌≡◌, ℕ, ◌^◌, ◌<◌, Bool, true, false, List, [], ◌∷◌, refl, ap, sym, subst, ◌∙◌, inl, inr, arith, ◌==◌}
+use Rattle.art_schedules.proofs.Common.{IsTrue, slice_get, slice_index, slice_set, All, Option, Some, None, if◌then◌else◌, same_Some, none-some}
+use Rattle.art_schedules.proofs.Common.{All-nil, All-cons, All-set, Call, Get, Insert, Remove, Scan, Replace, Contents, Shape, Kind, Four}
+use Rattle.art_schedules.proofs.Common.{Sixteen, FortyEight, Full, opening, table_words, info_at, root_base, rows_of, base_of, child_word}
+use Rattle.art_schedules.proofs.Common.{leaf_word, row_word, Access, Load, Store, Add, Point, Turn, Asks, Answers, is_tree_call, overwriting}
+use Rattle.art_schedules.proofs.Common.{new_leaf, act, word_of, call_turn, call_begun, setting, Process, told, changed, Plan, State, Move}
+use Rattle.art_schedules.proofs.Common.{Invokes, Responds, next_call, invocation, after_move, word_of_move, new_word, moved, move_of, move_from}
+use Rattle.art_schedules.proofs.Common.{opened, opened_on, step, run_on, start_plan, inserts, IsRun, nowhere, is-moved, changed-at, small_at}
+use Rattle.art_schedules.proofs.Common.{IsOpen, stage_of, after-more, next-turn, idle-idle}
+use Rattle.std.specs.Prelude.{replicate}
+use Rattle.std.proofs.lemmas.List.Elements.{All-replicate}
+use Rattle.art_rows.specs.Table.{IsWithinLimits}
+use Rattle.art_steps.specs.declared.access.Access.TheVariants.{Exchange}
+use Rattle.art_core.specs.Core.{Makes}
 use Rattle.art_serial.specs.writes.Writes.{AreSmall}
-use Rattle.art_versions.specs.versions.Versions.{IsOpen, stage_of}
-use Rattle.art_versions.proofs.versions.StepLemmas.{after-more, next-turn}
-use Rattle.art_versions.proofs.versions.RunLemmas.{idle-idle}
 use Rattle.art_schedules.proofs.calm.SmallStageLemmas.{SmallAt, SmallTurn, IsFine, call-after-small, call-turn-small, begun-small}
 use Rattle.art_schedules.proofs.calls.ScriptLemmas.{AreTreeCalls, next-tree}
 

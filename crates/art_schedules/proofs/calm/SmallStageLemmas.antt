@@ -1,76 +1,35 @@
 -- What a call carries at its stage is below 2^64, and so is what it stores.
-use Rattle.std.proofs.Common.{◌≡◌, ℕ, zero, suc, ◌+◌, ◌*◌, ◌-◌, ◌%◌, ◌^◌, ◌<◌, ◌≤◌, Bool, true, false, [], ◌∷◌, ◌++◌, refl, ap, sym, subst}
-use Rattle.std.proofs.Common.{arith}
-use Rattle.std.specs.Prelude.{◌==◌, nat_lt, nat_le, map, set, slice_index, Option, Some, None, if◌then◌else◌}
-use Rattle.std.proofs.lemmas.Bool.{ltb-true}
-use Rattle.std.proofs.lemmas.List.{length-append}
-use Rattle.events.specs.declared.event.Call.{Call}
-use Rattle.events.specs.declared.event.Call.TheVariants.{Get, Insert, Remove, Scan, Replace}
-use Rattle.art_rows.specs.declared.table.Kind.{Kind}
-use Rattle.art_rows.specs.declared.table.Kind.TheVariants.{Four, Sixteen, FortyEight, Full}
-use Rattle.art_rows.specs.declared.table.Child.{Child}
-use Rattle.art_rows.specs.declared.table.Child.TheVariants.{Empty, Row as ChildRow, Leaf}
-use Rattle.art_rows.specs.Table.{rows_of, base_of, child_at, keys_at, more_keys_at}
-use Rattle.art_rows.specs.Words.{is_locked, is_obsolete, locked_word, released_word, obsolete_word, key_bytes, entries_of, place_of}
-use Rattle.art_rows.specs.Words.{child_of, child_word, row_word, keys4_word, keys16_word, more_keys16_word, entries_word, with_key}
-use Rattle.art_rows.proofs.ByteLemmas.{key_byte-small}
+use Rattle.art_schedules.proofs.Common.{◌≡◌, ℕ, zero, suc, ◌+◌, ◌*◌, ◌-◌, ◌%◌, ◌^◌, ◌<◌, ◌≤◌, Bool, true, false, [], ◌∷◌, ◌++◌, refl, ap, sym}
+use Rattle.art_schedules.proofs.Common.{subst, arith, ◌==◌, nat_lt, nat_le, map, set, slice_index, Option, Some, None, if◌then◌else◌, ltb-true}
+use Rattle.art_schedules.proofs.Common.{length-append, Call, Get, Insert, Remove, Scan, Replace, Kind, Four, Sixteen, FortyEight, Full, Child}
+use Rattle.art_schedules.proofs.Common.{Empty, ChildRow, Leaf, rows_of, base_of, child_at, keys_at, more_keys_at, is_locked, is_obsolete}
+use Rattle.art_schedules.proofs.Common.{locked_word, released_word, obsolete_word, key_bytes, entries_of, place_of, child_of, child_word}
+use Rattle.art_schedules.proofs.Common.{row_word, keys4_word, keys16_word, more_keys16_word, entries_word, with_key, key_byte-small}
+use Rattle.art_schedules.proofs.Common.{differs-before, path_byte, Store, Swap, Turn, Asks, numbers, Setting, is_insert, is_full, locks, key_of}
+use Rattle.art_schedules.proofs.Common.{path_differs_at, overwriting, new_leaf, next_kind, new_entry, keys_differ_at, Held, KeyWords, Finding}
+use Rattle.art_schedules.proofs.Common.{Has, Lacks, Position, Down, Hold, Pair, Work, Taking, Target, Root, Below, Taken, PairWord, Growing}
+use Rattle.art_schedules.proofs.Common.{Spread, Outcome, Refused, Stage, Lock, Exchange, Wait, Leave, Between, Info, Find, FindKeys, FindMore}
+use Rattle.art_schedules.proofs.Common.{FindCount, Slot, Check, CheckLast, LetGo, Take, Write, ClaimPair, StorePair, PutLoad, PutStore, PutLeaf}
+use Rattle.art_schedules.proofs.Common.{PutKeys, PutMore, PutCount, ClaimGrow, GrowInfo, GrowLoad, GrowStore, SpreadIndex, SpreadLoad}
+use Rattle.art_schedules.proofs.Common.{SpreadStore, GrowLeaf, GrowKeys, GrowCount, Hang, Obsolete, Unlock, Over, ScanStep, row_at, held}
+use Rattle.art_schedules.proofs.Common.{keys_among, keys_in, count_in, byte_in, keys_after, place_in, old_child, new_child, start_at, hold_alone}
+use Rattle.art_schedules.proofs.Common.{end_at, release_at, no_value, moves_at, put_at, work_at, taken_at, pair_work, overwrite_at, seek_coupled}
+use Rattle.art_schedules.proofs.Common.{insert_coupled, let_go_at, place_coupled, overwrite_unlocked, seek_unlocked, take_alone, beside_work}
+use Rattle.art_schedules.proofs.Common.{grow_unlocked, insert_unlocked, found_at, checked_at, among_at, keys_one, indexed_at, find_at}
+use Rattle.art_schedules.proofs.Common.{arrived_at, leaf_work, entered_at, below_at, pair_after, put_keys_after, copies_at, spreads_at}
+use Rattle.art_schedules.proofs.Common.{entries_at, fill_at, leaf_after, keys_at_after, after_with, turn_at, between_turn, find_turn, pair_turn}
+use Rattle.art_schedules.proofs.Common.{put_keys_turn, grow_keys_turn, grow_leaf_turn, grow_count_turn, store_of, Walk, at, scan_turn, keys_turn}
+use Rattle.art_schedules.proofs.Common.{CallAt, OnKey, OnScan, call_turn, call_after, begun_as, count-most}
 use Rattle.art_serial.proofs.words.WordLemmas.{again_below}
-use Rattle.art_serial.proofs.inserts.SmallLemmas.{differs-before}
-use Rattle.art_serial.proofs.trees.InfoWords.{path_byte}
-use Rattle.art_steps.specs.declared.access.Access.TheVariants.{Store, Exchange as Swap}
-use Rattle.art_steps.specs.Steps.{Turn, Asks, numbers}
-use Rattle.art_steps.specs.Rows.{Setting, is_insert, is_full, locks, releases_early, leaves_out_check, takes_unchecked, key_of}
-use Rattle.art_steps.specs.Rows.{path_differs_at}
-use Rattle.art_steps.specs.Updates.{overwriting, new_leaf, lesser, greater, next_kind, new_entry, keys_differ_at, Under}
-use Rattle.art_stages.specs.declared.stage.Held.{Held}
-use Rattle.art_stages.specs.declared.stage.Keys.{Keys as KeyWords}
-use Rattle.art_stages.specs.declared.stage.Finding.{Finding}
-use Rattle.art_stages.specs.declared.stage.Finding.TheVariants.{Has, Lacks}
-use Rattle.art_stages.specs.declared.stage.Position.{Position}
-use Rattle.art_stages.specs.declared.stage.Down.{Down}
-use Rattle.art_stages.specs.declared.stage.Hold.{Hold}
-use Rattle.art_stages.specs.declared.stage.Pair.{Pair}
-use Rattle.art_stages.specs.declared.stage.Work.{Work}
+use Rattle.art_steps.specs.Rows.{releases_early, leaves_out_check, takes_unchecked}
+use Rattle.art_steps.specs.Updates.{lesser, greater, Under}
 use Rattle.art_stages.specs.declared.stage.Work.TheVariants as work
-use Rattle.art_stages.specs.declared.stage.Taking.{Taking}
-use Rattle.art_stages.specs.declared.stage.Target.{Target}
-use Rattle.art_stages.specs.declared.stage.Target.TheVariants.{Root, Below, Taken}
-use Rattle.art_stages.specs.declared.stage.PairWord.{PairWord}
 use Rattle.art_stages.specs.declared.stage.PairWord.TheVariants as pair_word
-use Rattle.art_stages.specs.declared.stage.Growing.{Growing}
-use Rattle.art_stages.specs.declared.stage.Spread.{Spread}
-use Rattle.art_stages.specs.declared.stage.Outcome.{Outcome}
-use Rattle.art_stages.specs.declared.stage.Outcome.TheVariants.{Refused}
-use Rattle.art_stages.specs.declared.stage.Stage.{Stage}
-use Rattle.art_stages.specs.declared.stage.Stage.TheVariants.{Lock, Exchange, Wait, Leave, Between, Info, Find, FindKeys, FindMore}
-use Rattle.art_stages.specs.declared.stage.Stage.TheVariants.{FindCount, Slot, Check}
-use Rattle.art_stages.specs.declared.stage.Stage.TheVariants.{CheckLast, LetGo, Take, Write, ClaimPair, StorePair, PutLoad, PutStore}
-use Rattle.art_stages.specs.declared.stage.Stage.TheVariants.{PutLeaf, PutKeys, PutMore}
-use Rattle.art_stages.specs.declared.stage.Stage.TheVariants.{PutCount, ClaimGrow, GrowInfo, GrowLoad, GrowStore, SpreadIndex, SpreadLoad}
-use Rattle.art_stages.specs.declared.stage.Stage.TheVariants.{SpreadStore}
-use Rattle.art_stages.specs.declared.stage.Stage.TheVariants.{GrowLeaf, GrowKeys, GrowCount, Hang, Obsolete, Unlock, Over}
-use Rattle.art_stages.specs.declared.stage.ScanStep.{ScanStep}
 use Rattle.art_stages.specs.declared.stage.ScanStep.TheVariants as scan
-use Rattle.art_stages.specs.Stages.{row_at, held, keys_among, keys_in, count_in, byte_in, keys_before, keys_after, place_in, old_child}
-use Rattle.art_stages.specs.Stages.{new_child}
-use Rattle.art_stages.specs.Automaton.{start_at, hold_alone, end_at, release_at, no_value, moves_at, put_at, work_at, take_at, taken_at}
-use Rattle.art_stages.specs.Automaton.{pair_work, down_from}
-use Rattle.art_stages.specs.Automaton.{overwrite_at, seek_coupled, insert_coupled, let_go_at, place_coupled, overwrite_unlocked}
-use Rattle.art_stages.specs.Automaton.{seek_unlocked, take_alone}
-use Rattle.art_stages.specs.Automaton.{beside_work}
-use Rattle.art_stages.specs.Automaton.{grow_unlocked, insert_unlocked, found_at, checked_at, among_at, words_at, keys_one, indexed_at}
-use Rattle.art_stages.specs.Automaton.{find_at, arrived_at}
-use Rattle.art_stages.specs.Automaton.{leaf_work}
-use Rattle.art_stages.specs.Automaton.{entered_at, below_at, pair_after, put_keys_after, copies_at, spreads_at, entries_at, fill_at}
-use Rattle.art_stages.specs.Automaton.{leaf_after, keys_at_after}
-use Rattle.art_stages.specs.Automaton.{after_with, turn_at, between_turn, find_turn, pair_turn, put_keys_turn, grow_keys_turn}
-use Rattle.art_stages.specs.Automaton.{grow_leaf_turn}
-use Rattle.art_stages.specs.Automaton.{grow_count_turn, store_of}
-use Rattle.art_stages.specs.Scans.{Walk, at, scan_turn, keys_turn, release_turn}
-use Rattle.art_stages.specs.Calls.{CallAt, OnKey, OnScan, call_turn, call_after, begun_as}
-use Rattle.art_versions.proofs.versions.WordFacts.{count-most}
-use Rattle.art_schedules.proofs.calm.SmallWordLemmas.{grown-info, pair-info, differ-level, two-keys, keys4-with, keys-few}
-use Rattle.art_schedules.proofs.calm.SmallWordLemmas.{keys16-with}
+use Rattle.art_stages.specs.Stages.{keys_before}
+use Rattle.art_stages.specs.Automaton.{take_at, down_from, words_at}
+use Rattle.art_stages.specs.Scans.{release_turn}
+use Rattle.art_schedules.proofs.calm.SmallWordLemmas.{grown-info, pair-info, differ-level, two-keys, keys4-with, keys-few, keys16-with}
 use Rattle.art_schedules.proofs.calm.SmallWordLemmas.{entries-with, entries-new}
 
 -- What is carried.

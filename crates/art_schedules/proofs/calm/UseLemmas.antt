@@ -1,32 +1,9 @@
 -- What becomes of calm in a step, by what the open call does in it.
-use Rattle.std.proofs.Common.{◌≡◌, ◌≢◌, ℕ, ◌≤◌, List, [], ◌∷◌, ap, sym, subst, ◌∙◌, arith}
-use Rattle.std.specs.Prelude.{slice_index, Option, Some}
-use Rattle.std.proofs.lemmas.Option.{same_Some}
-use Rattle.events.specs.declared.event.Call.{Call}
-use Rattle.art_rows.specs.declared.table.Shape.{Shape}
-use Rattle.art_rows.specs.declared.table.Kind.{Kind}
-use Rattle.art_rows.specs.Table.{kind_at}
-use Rattle.art_rows.specs.Words.{released_word}
-use Rattle.art_serial.proofs.words.TableLemmas.{rows_apart}
-use Rattle.art_serial.specs.writes.Writes.{IsOutside}
-use Rattle.art_steps.specs.declared.variant.Variant.{Variant}
-use Rattle.art_steps.specs.declared.access.Access.{Access}
-use Rattle.art_steps.specs.declared.access.Access.TheVariants.{Store}
-use Rattle.art_steps.specs.declared.access.Point.{Point}
-use Rattle.art_steps.specs.Steps.{Turn, Asks}
-use Rattle.art_steps.specs.Rows.{locks}
-use Rattle.art_steps.proofs.TurnLemmas.{asks-same}
-use Rattle.art_stages.specs.declared.stage.Held.{Held}
-use Rattle.art_stages.specs.Calls.{call_turn}
-use Rattle.art_stages.specs.Stages.{setting}
-use Rattle.art_core.specs.declared.process.Process.{Process}
-use Rattle.art_core.specs.Core.{State}
-use Rattle.art_versions.specs.versions.Holding.{IsKept}
-use Rattle.art_versions.specs.versions.Effects.{IsAmong, IsBehindVersion}
-use Rattle.art_versions.specs.versions.Versions.{IsOpen, stage_of, held_by, filled_by, IsSettled, IsSound}
-use Rattle.art_versions.proofs.versions.KnownLemmas.{held-is-kept}
-use Rattle.art_versions.proofs.versions.MoveLemmas.{settled-row}
-use Rattle.art_schedules.specs.calm.Changes.{AsksFor, CalmChange, CalmStays, CalmFilled, CalmReleased, CalmStep}
+use Rattle.art_schedules.proofs.Common.{◌≡◌, ◌≢◌, ℕ, ◌≤◌, List, [], ◌∷◌, ap, sym, subst, ◌∙◌, arith, slice_index, Option, Some, same_Some, Call}
+use Rattle.art_schedules.proofs.Common.{Shape, Kind, kind_at, released_word, rows_apart, IsOutside, Variant, Access, Store, Point, Turn, Asks}
+use Rattle.art_schedules.proofs.Common.{locks, asks-same, Held, call_turn, setting, Process, State, IsKept, IsAmong, IsBehindVersion, IsOpen}
+use Rattle.art_schedules.proofs.Common.{stage_of, held_by, filled_by, IsSettled, IsSound, held-is-kept, settled-row, AsksFor, CalmChange}
+use Rattle.art_schedules.proofs.Common.{CalmStays, CalmFilled, CalmReleased, CalmStep}
 use Rattle.art_schedules.proofs.calm.VersionLemmas.{not-behind}
 use Rattle.art_schedules.proofs.calm.CalmLemmas.{claimed-row}
 

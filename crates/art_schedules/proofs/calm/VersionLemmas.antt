@@ -1,31 +1,12 @@
 -- Versions in a step: what becomes of busy rows.
-use Rattle.std.proofs.Common.{◌≡◌, ◌≢◌, ℕ, ◌+◌, ◌/◌, ◌%◌, true, false, ap, sym, subst, ◌∙◌, inl, inr, arith}
-use Rattle.std.proofs.Common.{ne_eqb}
-use Rattle.std.specs.Prelude.{◌⊎◌, ◌==◌, slice_index, Some}
-use Rattle.std.proofs.lemmas.Bool.{cases_eq, or_from, or_left, or_right, or_parts}
-use Rattle.std.proofs.lemmas.Option.{same_Some}
-use Rattle.art_rows.specs.declared.table.Shape.{Shape}
-use Rattle.art_rows.specs.declared.table.Kind.{Kind}
-use Rattle.art_rows.specs.Table.{kind_at}
-use Rattle.art_rows.specs.Words.{is_locked, is_obsolete, released_word, obsolete_word}
-use Rattle.art_rows.proofs.KindLemmas.{some-words}
-use Rattle.art_serial.proofs.words.TableLemmas.{row_begins, rows_apart}
-use Rattle.art_serial.proofs.words.VersionLemmas.{taken-locked, obsolete_obsolete, obsolete_released}
-use Rattle.art_steps.specs.declared.variant.Variant.{Variant}
-use Rattle.art_steps.specs.Rows.{locks}
-use Rattle.art_stages.specs.declared.stage.Held.{Held}
-use Rattle.art_stages.specs.Stages.{setting}
-use Rattle.art_core.specs.Core.{State}
-use Rattle.art_versions.specs.versions.Holding.{IsKept}
-use Rattle.art_versions.specs.versions.Effects.{IsBehindVersion}
-use Rattle.art_versions.specs.versions.Versions.{IsHeld, stage_of, held_by, IsSettled, IsSound}
-use Rattle.art_versions.specs.versions.Steady.{IsSteady}
-use Rattle.art_versions.proofs.versions.KnownLemmas.{held-is-kept}
-use Rattle.art_versions.proofs.versions.MoveLemmas.{settled-row}
-use Rattle.art_versions.proofs.versions.WordFacts.{version-free}
-use Rattle.art_versions.proofs.versions.WithLemmas.{with-here}
-use Rattle.art_schedules.specs.calm.Calm.{is_busy}
-use Rattle.art_schedules.specs.calm.Changes.{RowChange, RowsStay, RowWritten, RowFilled, RowTaken, RowReleased}
+use Rattle.art_schedules.proofs.Common.{◌≡◌, ◌≢◌, ℕ, ◌+◌, ◌/◌, ◌%◌, true, false, ap, sym, subst, ◌∙◌, inl, inr, arith, ne_eqb, ◌==◌, slice_index}
+use Rattle.art_schedules.proofs.Common.{Some, cases_eq, or_from, or_left, or_right, same_Some, Shape, Kind, kind_at, is_locked, is_obsolete}
+use Rattle.art_schedules.proofs.Common.{released_word, obsolete_word, some-words, row_begins, rows_apart, taken-locked, obsolete_obsolete}
+use Rattle.art_schedules.proofs.Common.{obsolete_released, Variant, locks, Held, setting, State, IsKept, IsBehindVersion, IsHeld, stage_of}
+use Rattle.art_schedules.proofs.Common.{held_by, IsSettled, IsSound, IsSteady, held-is-kept, settled-row, version-free, with-here, is_busy}
+use Rattle.art_schedules.proofs.Common.{RowChange, RowsStay, RowWritten, RowFilled, RowTaken, RowReleased}
+use Rattle.std.specs.Prelude.{◌⊎◌}
+use Rattle.std.proofs.lemmas.Bool.{or_parts}
 
 pub locked-busy : (v : ℕ) → is_locked v ≡ true → is_busy v ≡ true
 locked-busy v e = or_left (is_locked v) (is_obsolete v) e

@@ -1,37 +1,20 @@
 -- What comes of each effect of a change of one row.
-use Rattle.std.proofs.Common.{◌≡◌, ◌⊎◌, inl, inr, ℕ, ◌<◌, ◌++◌, List, slice_index, false, refl, sym, ◌∙◌, subst, subst₂, arith, ⊎_elim}
-use Rattle.std.specs.Prelude.{◌↔◌, None}
-use Rattle.std.proofs.lemmas.Bool.{cases_eq}
-use Rattle.map_object.specs.MapObject.{Contents, put, below, above}
-use Rattle.art_rows.specs.declared.table.Shape.{Shape}
-use Rattle.art_rows.specs.declared.table.Kind.{Kind}
-use Rattle.art_rows.specs.declared.table.Kind.TheVariants.{Four}
-use Rattle.art_rows.specs.declared.table.Child.{Child}
-use Rattle.art_rows.specs.declared.table.Child.TheVariants.{Empty, Row, Leaf}
-use Rattle.art_rows.specs.Table.{info_at}
-use Rattle.art_rows.specs.Words.{key_bytes, is_obsolete}
-use Rattle.art_rows.proofs.KindLemmas.{two-words}
-use Rattle.art_rows.proofs.ByteLemmas.{key_byte-small}
-use Rattle.art_core.specs.Meaning.{Reached, Means, child_on}
+use Rattle.art_schedules.proofs.Common.{◌≡◌, ◌⊎◌, inl, inr, ℕ, ◌<◌, ◌++◌, List, false, refl, sym, ◌∙◌, subst, arith, ⊎_elim, ◌↔◌, None, cases_eq}
+use Rattle.art_schedules.proofs.Common.{Contents, put, Shape, Kind, Four, Child, Empty, Row, Leaf, info_at, key_bytes, is_obsolete, two-words}
+use Rattle.art_schedules.proofs.Common.{key_byte-small, Reached, Means, child_on, IsAtRest, SameRow, HasRows, Parts, SameTreesAreOne, IsClaimed}
+use Rattle.art_schedules.proofs.Common.{kind_at-sits, row-keys, form-same, sits, child-same, path_byte-small, way_byte, OneRow, Keeps, Fills}
+use Rattle.art_schedules.proofs.Common.{PutsLeaf, RemovesLeaf, HangsPair, HangsGrown, Effect, HasEffect, IsGone, HasFewClaims, Follows}
+use Rattle.art_schedules.proofs.Common.{KeepsTree, EffectsFollow, IsGoneBy, ComesInBy}
+use Rattle.std.proofs.Common.{slice_index, subst₂}
+use Rattle.map_object.specs.MapObject.{below, above}
 use Rattle.art_core.specs.Forms.{IsTree}
-use Rattle.art_serial.specs.trees.Trees.{IsAtRest, SameRow, SameTree, HasRows, IsPair, Parts, HasRowMore, IsGrown, HasRowInPlace}
-use Rattle.art_serial.specs.trees.Trees.{SameTreesAreOne, LeavesArePut, LeavesAreRemoved, PairsAreHung, GrownRowsAreHung, IsClaimed}
-use Rattle.art_serial.proofs.alone.PlaceLemmas.{kind_at-sits}
-use Rattle.art_serial.proofs.alone.SlotLemmas.{row-keys, form-same}
-use Rattle.art_serial.proofs.alone.LikeLemmas.{sits}
-use Rattle.art_serial.proofs.inserts.OutcomeLemmas.{child-same}
-use Rattle.art_serial.proofs.inserts.SmallLemmas.{path_byte-small}
-use Rattle.art_serial.proofs.trees.Changes.{way_byte}
-use Rattle.art_schedules.specs.changes.Rows.{OneRow, IsFilled}
-use Rattle.art_schedules.specs.changes.Effects.{Keeps, Fills, PutsLeaf, RemovesLeaf, HangsPair, HangsGrown, IsPutOn, IsRemovedFrom}
-use Rattle.art_schedules.specs.changes.Effects.{IsPairHung, IsGrownHung}
-use Rattle.art_schedules.specs.changes.Effects.{Effect, HasEffect, IsGone}
-use Rattle.art_schedules.specs.changes.Follows.{HasFewClaims, Follows, KeepsTree}
-use Rattle.art_schedules.specs.changes.Laws.{EffectsFollow}
+use Rattle.art_serial.specs.trees.Trees.{SameTree, IsPair, HasRowMore, IsGrown, HasRowInPlace, LeavesArePut, LeavesAreRemoved, PairsAreHung}
+use Rattle.art_serial.specs.trees.Trees.{GrownRowsAreHung}
+use Rattle.art_schedules.specs.changes.Rows.{IsFilled}
+use Rattle.art_schedules.specs.changes.Effects.{IsPutOn, IsRemovedFrom, IsPairHung, IsGrownHung}
 use Rattle.art_schedules.proofs.changes.FollowLemmas.{follows-by, kept-trees-follow}
-use Rattle.art_schedules.proofs.changes.RowLemmas.{claimed-sits, same-kind, other-row, reached-sits, unlocked, live, still-claimed, fresh}
-use Rattle.art_schedules.proofs.changes.RowLemmas.{infos, changes}
-use Rattle.art_schedules.specs.changes.Courses.{IsGoneBy, ComesInBy}
+use Rattle.art_schedules.proofs.changes.RowLemmas.{claimed-sits, same-kind, other-row, reached-sits, unlocked, live, still-claimed, fresh, infos}
+use Rattle.art_schedules.proofs.changes.RowLemmas.{changes}
 
 -- the byte at which a child's keys part from the key is a byte
 pub parted-small : (words : List ℕ) (key d a : ℕ) (child : Child) → Parts words key d a child → a < 256

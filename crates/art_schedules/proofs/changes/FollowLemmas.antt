@@ -1,20 +1,11 @@
 -- Where the infos of rows stay, so do the ways that lead to them; and trees whose rows say the same.
-use Rattle.std.proofs.Common.{◌≡◌, ◌⊎◌, inl, inr, ℕ, ◌+◌, ◌≤◌, List, slice_index, refl, sym, ap, ◌∙◌, arith}
-use Rattle.std.specs.Prelude.{◌↔◌, None}
-use Rattle.map_object.specs.MapObject.{Contents}
-use Rattle.art_rows.specs.declared.table.Shape.{Shape}
-use Rattle.art_rows.specs.declared.table.Kind.{Kind}
-use Rattle.art_rows.specs.Table.{base_of, info_at}
-use Rattle.art_rows.specs.Words.{info_of, is_locked, is_obsolete}
-use Rattle.art_rows.proofs.KindLemmas.{two-words}
-use Rattle.art_core.specs.Meaning.{Reached, Means}
-use Rattle.art_serial.specs.trees.Trees.{IsAtRest, LeadsTo, HasRows, SameTreesAreOne, IsClaimed}
-use Rattle.art_serial.proofs.alone.PlaceLemmas.{Sits, sits-inside, kind_at-sits}
-use Rattle.art_serial.proofs.alone.LikeLemmas.{sits}
+use Rattle.art_schedules.proofs.Common.{◌≡◌, ◌⊎◌, inl, inr, ℕ, ◌+◌, ◌≤◌, List, refl, sym, ap, ◌∙◌, arith, ◌↔◌, None, Contents, Shape, Kind}
+use Rattle.art_schedules.proofs.Common.{base_of, info_at, info_of, is_locked, is_obsolete, two-words, Reached, Means, IsAtRest, LeadsTo, HasRows}
+use Rattle.art_schedules.proofs.Common.{SameTreesAreOne, IsClaimed, Sits, sits-inside, kind_at-sits, sits, Follows, KeptTreesFollow, IsGoneBy}
+use Rattle.art_schedules.proofs.Common.{ComesInBy}
+use Rattle.std.proofs.Common.{slice_index}
 use Rattle.art_serial.proofs.trees.Changes.{way_later}
-use Rattle.art_schedules.specs.changes.Follows.{Follows}
-use Rattle.art_schedules.specs.changes.Laws.{KeptTreesFollow, LowWordsKeep}
-use Rattle.art_schedules.specs.changes.Courses.{IsGoneBy, ComesInBy}
+use Rattle.art_schedules.specs.changes.Laws.{LowWordsKeep}
 
 -- a tree at rest of these rows, with their infos, follows
 pub follows-by : (s : Shape) (n : ℕ) (calm later : List ℕ) (pairs : Contents) (gone : ℕ → Type 0) (fresh : ℕ → Kind → Type 0)

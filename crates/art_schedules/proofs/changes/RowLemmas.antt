@@ -1,22 +1,12 @@
 -- What stays where one row has changed: the other rows, their versions and infos, and rows that were not claimed.
-use Rattle.std.proofs.Common.{◌≡◌, ◌≢◌, ◌⊎◌, inl, inr, ℕ, ◌+◌, ◌-◌, ◌<◌, ◌≤◌, List, slice_index, Some, false, refl, sym, ap, ◌∙◌, subst}
-use Rattle.std.proofs.Common.{arith, ⊎_elim}
-use Rattle.std.proofs.lemmas.Bool.{cases_eq}
-use Rattle.art_rows.specs.declared.table.Shape.{Shape}
-use Rattle.art_rows.specs.declared.table.Kind.{Kind}
-use Rattle.art_rows.specs.declared.table.Child.{Child}
-use Rattle.art_rows.specs.Table.{row_words, claims_of, base_of, info_at, kind_at}
-use Rattle.art_rows.specs.Words.{is_locked, is_obsolete, child_of}
-use Rattle.art_rows.proofs.KindLemmas.{two-words}
-use Rattle.art_core.specs.Meaning.{Reached}
-use Rattle.art_serial.specs.trees.Trees.{IsAtRest, SameRow, ChangesAt, IsClaimed, AreZeroPastClaims}
-use Rattle.art_serial.specs.trees.Children.{ChildrenAreRead}
+use Rattle.art_schedules.proofs.Common.{◌≡◌, ◌≢◌, ◌⊎◌, inl, inr, ℕ, ◌+◌, ◌-◌, ◌<◌, ◌≤◌, List, false, refl, sym, ap, ◌∙◌, subst, arith, ⊎_elim}
+use Rattle.art_schedules.proofs.Common.{cases_eq, Shape, Kind, Child, row_words, claims_of, base_of, info_at, kind_at, is_locked, is_obsolete}
+use Rattle.art_schedules.proofs.Common.{child_of, two-words, Reached, IsAtRest, SameRow, IsClaimed, AreZeroPastClaims, ChildrenAreRead, Sits}
+use Rattle.art_schedules.proofs.Common.{sits-part, sits-inside, sits-kind_at, kind_at-sits, sits, split, OneRow, HasNewChild}
+use Rattle.std.proofs.Common.{slice_index, Some}
+use Rattle.art_serial.specs.trees.Trees.{ChangesAt}
 use Rattle.art_versions.specs.versions.Steady as steady
-use Rattle.art_serial.proofs.alone.PlaceLemmas.{Sits, sits-part, sits-inside, sits-kind_at, kind_at-sits}
-use Rattle.art_serial.proofs.alone.LikeLemmas.{sits}
-use Rattle.art_serial.proofs.inserts.OutcomeLemmas.{split}
 use Rattle.art_serial.proofs.inserts.HungLemmas.{word-changes}
-use Rattle.art_schedules.specs.changes.Rows.{OneRow, HasNewChild}
 use Rattle.art_schedules.specs.changes.Laws.{RowsAreByWords, SlotsAreChildren, SlotsAreWritten}
 
 -- a claimed row sits in the table

@@ -1,15 +1,9 @@
 -- How the work of a call comes to be an effect.
-use Rattle.art_rows.specs.declared.table.Kind.TheVariants.{Four}
-use Rattle.art_rows.specs.declared.table.Child.TheVariants.{Empty, Row, Leaf}
-use Rattle.art_core.specs.Meaning.{child_on}
-use Rattle.art_serial.specs.trees.Children.{ChildrenAreRead}
-use Rattle.art_serial.proofs.alone.PlaceLemmas.{sits-kind_at}
-use Rattle.art_serial.proofs.trees.Changes.{way_byte}
-use Rattle.art_schedules.specs.changes.Worked.{StoredLeavesArePut, StoredZerosRemove, WrittenLeavesArePut, WrittenPairsAreHung}
-use Rattle.art_schedules.specs.changes.Worked.{WrittenRowsAreHung}
+use Rattle.art_schedules.proofs.Common.{Four, Empty, Row, Leaf, child_on, ChildrenAreRead, sits-kind_at, way_byte}
+use Rattle.art_schedules.specs.changes.Worked.{StoredLeavesArePut, StoredZerosRemove, WrittenPairsAreHung, WrittenRowsAreHung}
 use Rattle.art_schedules.proofs.changes.RowLemmas.{claimed-sits, slots-are-written}
 use Rattle.art_schedules.proofs.changes.EffectLemmas.{parted-small}
-use Rattle.art_schedules.proofs.changes.WrittenLemmas.{children-are-of-rows, puts-are-children, pairs-are-fresh, copies-are-fresh}
+use Rattle.art_schedules.proofs.changes.WrittenLemmas.{pairs-are-fresh, copies-are-fresh}
 
 pub stored-leaves-are-put : ChildrenAreRead → StoredLeavesArePut
 stored-leaves-are-put read s n calm later base kind x slot key value rest one leads free low few has =
@@ -28,15 +22,6 @@ stored-zeros-remove read s n calm later base kind x slot key rest one leads free
   row = slots-are-written read s n calm later base kind x slot Empty rest leads.reached one (way_byte s calm key base kind x leads)
       has.at has.others tt
       has.here;
-}
-
-pub written-leaves-are-put : WrittenLeavesArePut
-written-leaves-are-put s calm later words written base kind x key value leads free has before after = record {
-  leads = leads;
-  free = free;
-  row = children-are-of-rows s words written calm later base kind x (Leaf key value)
-      (puts-are-children s words written base kind x (Leaf key value) has)
-      before after (way_byte s calm key base kind x leads);
 }
 
 pub written-pairs-are-hung : ChildrenAreRead → WrittenPairsAreHung

@@ -1,20 +1,11 @@
 -- What a call writes in rows that it holds or fills, as a change of a calm table.
-use Rattle.std.proofs.Common.{◌≡◌, ◌⊎◌, inl, inr, ℕ, ◌+◌, ◌<◌, ◌≤◌, slice_index, slice_set, refl, sym, ap, ◌∙◌, subst, arith}
+use Rattle.art_schedules.proofs.Common.{◌≡◌, ◌⊎◌, inl, inr, ℕ, ◌+◌, ◌<◌, ◌≤◌, refl, sym, ap, ◌∙◌, subst, arith, Four, row_words, key_bytes}
+use Rattle.art_schedules.proofs.Common.{two-words, first-some, key_byte-small, Reached, IsOutside, Sits, sits-part, sits-inside, slot-is}
+use Rattle.art_schedules.proofs.Common.{row-keys, form-same, IsChildWord, sits, split, child-same}
+use Rattle.std.proofs.Common.{slice_index, slice_set}
 use Rattle.std.proofs.lemmas.List.{get_or-set_same, get_or-set_other}
-use Rattle.art_rows.specs.declared.table.Kind.TheVariants.{Four}
-use Rattle.art_rows.specs.Table.{row_words}
-use Rattle.art_rows.specs.Words.{key_bytes}
-use Rattle.art_rows.proofs.KindLemmas.{claims-few, two-words, first-some}
-use Rattle.art_rows.proofs.ByteLemmas.{key_byte-small}
-use Rattle.art_core.specs.Meaning.{Reached}
-use Rattle.art_serial.specs.writes.Writes.{IsOutside}
-use Rattle.art_serial.proofs.alone.PlaceLemmas.{Sits, sits-part, sits-inside}
-use Rattle.art_serial.proofs.alone.SlotLemmas.{slot-is, row-keys, form-same, IsChildWord}
-use Rattle.art_serial.proofs.alone.LikeLemmas.{sits}
-use Rattle.art_serial.proofs.inserts.OutcomeLemmas.{split, child-same}
 use Rattle.art_schedules.specs.changes.Written.{StoresAreSlots, HungRowsAreSlots, ChildrenAreOfRows, PutsAreChildren, PairsAreFresh}
 use Rattle.art_schedules.specs.changes.Written.{CopiesAreFresh}
-use Rattle.art_schedules.specs.changes.Written.{WrittenPairsAreRows, WrittenRowsAreCopies}
 use Rattle.art_schedules.proofs.changes.RowLemmas.{claimed-sits}
 
 -- ---- a child in a row that is held
@@ -99,19 +90,3 @@ copies-are-fresh s words written calm key value full kind y fresh larger copy be
   rest = λ z small ne. child-same s written calm fresh larger z small after
       ∙ (copy.others z small ne ∙ sym (child-same s words calm full kind z small before));
 }
-
-pub written-pairs-are-rows : WrittenPairsAreRows
-written-pairs-are-rows s words written fresh slot level path a b has = (
-  record {
-    form = has.form;
-    info = has.info;
-    first = has.first;
-    second = has.second;
-    others = λ y small na nb. has.others y na nb;
-  },
-  record { same = λ word late ne out. has.same word (λ is. omega (arith, late, is, claims-few Four)) ne out; hangs = has.hangs },
-)
-
-pub written-rows-are-copies : WrittenRowsAreCopies
-written-rows-are-copies s words written full kind fresh larger word_of_info y child has =
-    record { form = has.form; info = has.info; others = has.others; put = has.put }

@@ -1,34 +1,14 @@
 -- Rows that are held stay in the calm tree, and were not obsolete when they were taken.
-use Rattle.std.proofs.Common.{◌≡◌, ℕ, List, [], ◌∷◌, ◌++◌, inl, inr, ap, sym, subst, ◌∙◌, true, false}
-use Rattle.std.specs.Prelude.{slice_index, Option, Some}
-use Rattle.std.proofs.lemmas.Bool.{cases_eq, false≢true}
-use Rattle.std.proofs.lemmas.Option.{same_Some}
-use Rattle.events.specs.declared.event.Call.{Call}
-use Rattle.map_object.specs.MapObject.{Contents}
-use Rattle.art_rows.specs.declared.table.Kind.{Kind}
-use Rattle.art_rows.specs.Table.{kind_at}
-use Rattle.art_rows.specs.Words.{is_obsolete}
-use Rattle.art_steps.specs.declared.variant.Variant.TheVariants.{Coupled}
-use Rattle.art_stages.specs.declared.stage.Held.{Held}
-use Rattle.art_stages.specs.Stages.{setting}
-use Rattle.art_core.specs.declared.process.Process.{Process}
-use Rattle.art_core.specs.Core.{Plan, State}
-use Rattle.art_core.specs.Meaning.{Reached}
-use Rattle.art_versions.specs.versions.Effects.{IsAmong}
-use Rattle.art_versions.specs.versions.Versions.{IsHeld, IsOpen, IsSettled, stage_of, held_by}
-use Rattle.art_versions.proofs.versions.KnownLemmas.{held-is-kept}
-use Rattle.art_versions.proofs.versions.MoveLemmas.{settled-row}
-use Rattle.art_schedules.specs.calm.Calm.{calm_of}
-use Rattle.art_schedules.specs.changes.Effects.{Effect}
-use Rattle.art_schedules.specs.changes.Courses.{IsGoneBy, ComesInBy, pairs_by}
-use Rattle.art_schedules.specs.changes.Follows.{Follows}
-use Rattle.art_schedules.specs.coupled.Moments.{TakesLive, IsCoupledStep}
-use Rattle.art_schedules.specs.coupled.Good.{GoodOf, TakesReached, GoodRowsStay, OthersLeaveGood}
+use Rattle.art_schedules.proofs.Common.{◌≡◌, ℕ, List, [], ◌∷◌, ◌++◌, inl, inr, ap, sym, subst, ◌∙◌, true, false, slice_index, Option, Some}
+use Rattle.art_schedules.proofs.Common.{cases_eq, false≢true, same_Some, Call, Contents, Kind, kind_at, is_obsolete, Coupled, Held, setting}
+use Rattle.art_schedules.proofs.Common.{Process, Plan, State, Reached, IsAmong, IsHeld, IsOpen, IsSettled, stage_of, held_by, held-is-kept}
+use Rattle.art_schedules.proofs.Common.{settled-row, calm_of, Effect, IsGoneBy, ComesInBy, pairs_by, Follows, TakesLive, IsCoupledStep}
+use Rattle.art_schedules.proofs.Common.{TakesReached, GoodRowsStay, OthersLeaveGood, IsInTree}
+use Rattle.art_schedules.specs.coupled.Good.{GoodOf}
 use Rattle.art_schedules.proofs.coupled.MadeLemmas.{Facts, facts, others-open}
 use Rattle.art_schedules.proofs.coupled.RowLemmas.{held-live}
 use Rattle.art_schedules.proofs.coupled.MoveLemmas.{reached-kind}
 use Rattle.art_schedules.proofs.coupled.LeaveLemmas.{HeldFrom, HeldBefore, TakenNow, held-from}
-use Rattle.art_schedules.specs.work.Ways.{IsInTree}
 
 module _ (plan : Plan) (start : Contents) (words schedule : List ℕ) (p : ℕ) (s t : State) (claims : ℕ) (m : Contents)
     (h : IsCoupledStep plan start words schedule p s t claims m) where

@@ -1,64 +1,28 @@
 -- Rows that are obsolete: nobody takes one, and those of the calm tree are about to leave it.
-use Rattle.std.proofs.Common.{◌≡◌, ◌⊎◌, inl, inr, ℕ, ◌+◌, ◌<◌, ◌≤◌, List, [], ◌∷◌, ◌++◌, refl, ap, sym, subst, ◌∙◌, Bool, true, false}
-use Rattle.std.proofs.Common.{arith}
-use Rattle.std.specs.Prelude.{slice_index, Option, Some}
-use Rattle.std.proofs.lemmas.Bool.{cases_eq, false≢true}
-use Rattle.std.proofs.lemmas.Option.{same_Some}
-use Rattle.events.specs.declared.event.Call.{Call}
-use Rattle.events.specs.declared.event.Reply.{Reply}
-use Rattle.map_object.specs.MapObject.{Contents}
-use Rattle.art_rows.specs.declared.table.Shape.{Shape}
-use Rattle.art_rows.specs.declared.table.Kind.{Kind}
-use Rattle.art_rows.specs.declared.table.Child.TheVariants.{Row as ChildRow}
-use Rattle.art_rows.specs.Table.{kind_at}
-use Rattle.art_rows.specs.Words.{is_locked, is_obsolete, locked_word, released_word, obsolete_word}
-use Rattle.art_serial.proofs.words.TableLemmas.{row_begins}
-use Rattle.art_steps.specs.declared.variant.Variant.TheVariants.{Coupled}
-use Rattle.art_steps.specs.declared.access.Access.TheVariants.{Store, Exchange as Swap}
-use Rattle.art_steps.specs.declared.access.Point.{Point}
+use Rattle.art_schedules.proofs.Common.{◌≡◌, ◌⊎◌, inl, inr, ℕ, ◌+◌, ◌<◌, ◌≤◌, List, [], ◌∷◌, ◌++◌, refl, ap, sym, subst, ◌∙◌, Bool, true, false}
+use Rattle.art_schedules.proofs.Common.{arith, slice_index, Option, Some, cases_eq, false≢true, same_Some, Call, Reply, Contents, Shape, Kind}
+use Rattle.art_schedules.proofs.Common.{kind_at, is_locked, is_obsolete, locked_word, released_word, obsolete_word, row_begins, Coupled, Store}
+use Rattle.art_schedules.proofs.Common.{Swap, Point, Asks, store-word, load-store, add-store, exchange-store, load-exchange, store-exchange}
+use Rattle.art_schedules.proofs.Common.{answers-asks, stores-same, Held, Hold, Stage, Lock, Exchange, Between, LetGo, Obsolete, Unlock, ScanStep}
+use Rattle.art_schedules.proofs.Common.{setting, turn_at, hold_alone, no_value, release_at, at, scan_turn, CallAt, OnKey, OnScan, call_turn}
+use Rattle.art_schedules.proofs.Common.{call_after, Process, Plan, State, step, Reached, child_on, child-same, taken-locked, obsolete_released}
+use Rattle.art_schedules.proofs.Common.{Knows, holds, all_of, lock_of, locks_of, rows_of_hold, IsAmong, IsOpen, IsHeld, IsSettled, stage_of}
+use Rattle.art_schedules.proofs.Common.{held_by, IsAtStage, held-is-kept, settled-row, version-free, calm_of, AsksFor, RowChange, RowsStay}
+use Rattle.art_schedules.proofs.Common.{RowWritten, RowFilled, RowTaken, RowReleased, Effect, IsGoneBy, ComesInBy, TreeGoesOn, TouchesOwn}
+use Rattle.art_schedules.proofs.Common.{LoadsHeld, StoresOwn, ClaimsRow, ReleasesHeld, Replies, is_lock, may_release, RowsOf, IsLeaving}
+use Rattle.art_schedules.proofs.Common.{ObsoleteLeave, HeldAreLive, TakesLive, MakesLeave, LeavesBy, IsCoupledStep, WaysTakeLive}
+use Rattle.art_schedules.proofs.Common.{ObsoleteRowsLeave, RestsHaveNone, ChildRow}
 use Rattle.art_steps.specs.declared.access.Point.TheVariants as point
-use Rattle.art_steps.specs.Steps.{Asks}
-use Rattle.art_steps.proofs.TurnLemmas.{store-word, load-store, add-store, exchange-store, add-exchange, load-exchange, store-exchange}
-use Rattle.art_steps.proofs.TurnLemmas.{answers-asks}
-use Rattle.art_steps.proofs.TurnLemmas.{stores-same}
-use Rattle.art_stages.specs.declared.stage.Held.{Held}
-use Rattle.art_stages.specs.declared.stage.Hold.{Hold}
-use Rattle.art_stages.specs.declared.stage.Stage.{Stage}
-use Rattle.art_stages.specs.declared.stage.Stage.TheVariants.{Lock, Exchange, Between}
-use Rattle.art_stages.specs.declared.stage.Stage.TheVariants.{LetGo, Obsolete, Unlock}
-use Rattle.art_stages.specs.declared.stage.ScanStep.{ScanStep}
+use Rattle.art_steps.proofs.TurnLemmas.{add-exchange}
 use Rattle.art_stages.specs.declared.stage.ScanStep.TheVariants as scan
-use Rattle.art_stages.specs.Stages.{setting}
-use Rattle.art_stages.specs.Automaton.{turn_at, hold_alone, no_value, release_at}
-use Rattle.art_stages.specs.Scans.{at, scan_turn}
-use Rattle.art_stages.specs.Calls.{CallAt, OnKey, OnScan, call_turn, call_after}
-use Rattle.art_core.specs.declared.process.Process.{Process}
-use Rattle.art_core.specs.Core.{Plan, State, step}
-use Rattle.art_core.specs.Meaning.{Reached, child_on}
-use Rattle.art_serial.proofs.inserts.OutcomeLemmas.{child-same}
-use Rattle.art_serial.proofs.words.VersionLemmas.{taken-locked, obsolete_released}
-use Rattle.art_versions.specs.versions.Holding.{Knows, holds}
-use Rattle.art_versions.specs.versions.Locking.{all_of, lock_of, locks_of, rows_of_hold}
-use Rattle.art_versions.specs.versions.Effects.{IsAmong}
-use Rattle.art_versions.specs.versions.Versions.{IsOpen, IsHeld, IsSettled, stage_of, held_by, IsAtStage}
-use Rattle.art_versions.proofs.versions.KnownLemmas.{held-is-kept}
-use Rattle.art_versions.proofs.versions.MoveLemmas.{settled-row}
-use Rattle.art_versions.proofs.versions.WordFacts.{version-free}
-use Rattle.art_schedules.specs.calm.Calm.{calm_of}
-use Rattle.art_schedules.specs.calm.Changes.{AsksFor, RowChange, RowsStay, RowWritten, RowFilled, RowTaken, RowReleased}
 use Rattle.art_schedules.proofs.calm.VersionLemmas.{not-behind, locked-same, released-free, obsolete-free}
 use Rattle.art_schedules.proofs.calm.CalmLemmas.{claimed-row}
-use Rattle.art_schedules.specs.changes.Effects.{Effect}
-use Rattle.art_schedules.specs.changes.Courses.{IsGoneBy, ComesInBy, TreeGoesOn}
-use Rattle.art_schedules.specs.work.Own.{TouchesOwn, LoadsHeld, StoresOwn, ClaimsRow, ReleasesHeld, Replies, is_lock, may_release}
-use Rattle.art_schedules.specs.work.Works.{RowsOf}
 use Rattle.art_schedules.proofs.work.OwnLemmas.{rows-known}
 use Rattle.art_schedules.proofs.work.TouchLemmas.{work-own}
 use Rattle.art_schedules.proofs.work.LockedLemmas.{locked-own}
 use Rattle.art_schedules.proofs.work.WalkLemmas.{reads-held}
 use Rattle.art_schedules.specs.coupled.Knows.{KnowsWay}
-use Rattle.art_schedules.specs.coupled.Moments.{IsLeaving, ObsoleteLeave, HeldAreLive, TakesLive, MakesLeave, LeavesBy, IsCoupledStep}
-use Rattle.art_schedules.specs.coupled.Laws.{WaysTakeLive, WorkTakesLive, HeldRowsLive, ObsoleteRowsLeave, RestsHaveNone}
+use Rattle.art_schedules.specs.coupled.Laws.{WorkTakesLive}
 use Rattle.art_schedules.proofs.coupled.MadeLemmas.{Facts, facts, made, others-open}
 use Rattle.art_schedules.proofs.coupled.RowLemmas.{kept-row, held-calm, held-live, its-turn}
 use Rattle.art_schedules.proofs.coupled.MoveLemmas.{reached-kind, live-taken}
@@ -160,13 +124,6 @@ module _ (shape : Shape) (root : 1 ≤ shape.rows256) (s t : State) (p : ℕ) (f
               → is_locked value ≡ false
           free y value un (inl e) = ap is_locked e ∙ released-free y.kept (version-free true y.kept un)
           free y value un (inr e) = ap is_locked e ∙ obsolete-free y.kept (version-free true y.kept un)
-
-  pub held-rows-live : HeldAreLive shape s → TakesLive shape s p → HeldAreLive shape t
-  held-rows-live live takes r call q o x a = go (held-from r call q o x a)
-    where
-      go : HeldFrom shape s p x → is_obsolete x.kept ≡ false
-      go (HeldBefore h kept) = ap is_obsolete (sym kept) ∙ live h.holder h.call h.process h.is_open h.row h.among
-      go (TakenNow y asks was base kept) = ap is_obsolete (sym kept) ∙ takes y asks was
 
   -- A row becomes obsolete only as a call that has grown it says so.
   module _ (live : HeldAreLive shape s) where
@@ -421,10 +378,6 @@ work-takes-live plan start words schedule p s t claims m call stage h at w x ask
     none (ClaimsRow k mark e may) = add-exchange (sym e ∙ turn)
     none (ReleasesHeld row v mark e among may) = store-exchange (sym e ∙ turn)
     none (Replies r e) = answers-asks (sym e ∙ turn)
-
-pub held-live-then : HeldRowsLive
-held-live-then plan start words schedule p s t claims m h live takes =
-    held-rows-live plan.shape h.run.before.within.shape.root s t p words _ _ (f plan start words schedule p s t claims m h) live takes
 
 pub obsolete-rows-leave : ObsoleteRowsLeave
 obsolete-rows-leave plan start words schedule p s t claims m leaving next pairs effect h goes live by leave =

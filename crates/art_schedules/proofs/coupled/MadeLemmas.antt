@@ -1,32 +1,12 @@
 -- What a step of a run of the coupled tree is: what is known before and behind it, and what becomes of the processes.
-use Rattle.std.proofs.Common.{◌≡◌, ◌≢◌, ℕ, ◌+◌, ◌^◌, ◌<◌, List, [], ◌∷◌, ◌++◌, refl, ap, sym, subst, ◌∙◌, inl}
-use Rattle.std.specs.Prelude.{slice_get, slice_index, slice_set, Option, Some}
-use Rattle.std.proofs.lemmas.Option.{same_Some}
-use Rattle.events.specs.declared.event.Call.{Call}
-use Rattle.map_object.specs.MapObject.{Contents}
-use Rattle.art_rows.specs.declared.table.Shape.{Shape}
-use Rattle.art_steps.specs.declared.variant.Variant.TheVariants.{Coupled}
-use Rattle.art_steps.specs.declared.access.Access.{Access}
-use Rattle.art_steps.specs.declared.access.Point.{Point}
-use Rattle.art_steps.specs.Steps.{Asks}
-use Rattle.art_steps.specs.Act.{act}
-use Rattle.art_steps.specs.Fits.{word_of}
-use Rattle.art_stages.specs.Stages.{setting}
-use Rattle.art_stages.specs.Calls.{call_turn, call_after, call_begun}
-use Rattle.art_core.specs.declared.process.Process.{Process}
-use Rattle.art_core.specs.Accesses.{changed, told}
-use Rattle.art_core.specs.Core.{Plan, State, Makes, after_move, moved, move_of, move_from, next_move, step}
-use Rattle.art_core.proofs.HistoryLemmas.{is-moved}
-use Rattle.art_serial.proofs.serial.OrderlyLemmas.{set-here}
-use Rattle.art_versions.specs.versions.Versions.{IsOpen, IsSound, stage_of}
-use Rattle.art_versions.specs.versions.Steady.{IsSteady}
-use Rattle.art_versions.proofs.versions.ChangeLemmas.{set-other}
-use Rattle.art_versions.proofs.versions.StepLemmas.{after-more, next-turn}
-use Rattle.art_schedules.specs.calm.Calm.{calm_of, IsCalm}
-use Rattle.art_schedules.specs.calm.Changes.{CalmStep}
+use Rattle.art_schedules.proofs.Common.{◌≡◌, ◌≢◌, ℕ, ◌+◌, ◌^◌, ◌<◌, List, [], ◌∷◌, ◌++◌, refl, ap, sym, subst, ◌∙◌, inl, slice_get, slice_index}
+use Rattle.art_schedules.proofs.Common.{slice_set, Option, Some, same_Some, Call, Contents, Shape, Coupled, Access, Point, Asks, act, word_of}
+use Rattle.art_schedules.proofs.Common.{setting, call_turn, call_after, call_begun, Process, changed, told, Plan, State, after_move, moved}
+use Rattle.art_schedules.proofs.Common.{move_of, move_from, next_move, step, is-moved, set-here, IsOpen, IsSound, stage_of, IsSteady, set-other}
+use Rattle.art_schedules.proofs.Common.{after-more, next-turn, calm_of, IsCalm, CalmStep, IsCoupledStep}
+use Rattle.art_core.specs.Core.{Makes}
 use Rattle.art_schedules.proofs.calm.InductionLemmas.{step-of-run}
 use Rattle.art_schedules.proofs.calm.RunLemmas.{calm-at, step-at}
-use Rattle.art_schedules.specs.coupled.Moments.{IsCoupledStep}
 
 -- what is known of the two states, and of calm beside them
 pub record Facts (shape : Shape) (s t : State) (p : ℕ) (first calm after : List ℕ) : Type 0 where

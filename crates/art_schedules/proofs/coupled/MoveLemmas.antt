@@ -1,76 +1,30 @@
 -- A step of a call on its way, in a run.
-use Rattle.std.proofs.Common.{◌≡◌, inl, inr, ℕ, zero, suc, ◌+◌, ◌-◌, ◌^◌, ◌<◌, List, [], ◌∷◌, ◌++◌, refl, ap, sym, subst, ◌∙◌, Bool, true}
-use Rattle.std.proofs.Common.{false, All}
-use Rattle.std.proofs.Common.{arith}
-use Rattle.std.specs.Prelude.{length, slice_get, slice_index, slice_set, Option, Some, None}
-use Rattle.std.proofs.lemmas.Bool.{false≢true}
-use Rattle.std.proofs.lemmas.Option.{same_Some}
-use Rattle.events.specs.declared.event.Call.{Call}
-use Rattle.events.specs.declared.event.Call.TheVariants.{Get, Insert, Remove, Scan, Replace}
-use Rattle.events.specs.declared.event.Reply.{Reply}
-use Rattle.map_object.specs.MapObject.{Contents}
-use Rattle.art_rows.specs.declared.table.Shape.{Shape}
-use Rattle.art_rows.specs.declared.table.Kind.{Kind}
-use Rattle.art_rows.specs.declared.table.Kind.TheVariants.{Four, Sixteen, FortyEight, Full}
-use Rattle.art_rows.specs.declared.table.Child.TheVariants.{Row as ChildRow}
-use Rattle.art_rows.specs.Table.{table_words, kind_at, root_base, claims_of}
-use Rattle.art_rows.specs.Words.{is_locked, is_obsolete, locked_word, released_word}
-use Rattle.art_rows.proofs.KindLemmas.{some-words, claims-few}
-use Rattle.art_rows.proofs.ByteLemmas.{key_byte-small}
-use Rattle.art_steps.specs.declared.variant.Variant.TheVariants.{Coupled}
-use Rattle.art_steps.specs.declared.access.Access.{Access}
-use Rattle.art_steps.specs.declared.access.Access.TheVariants.{Load, Store, Exchange as Swap}
-use Rattle.art_steps.specs.declared.access.Point.{Point}
-use Rattle.art_steps.specs.Steps.{Asks, Answers}
-use Rattle.art_steps.specs.Fits.{word_of}
-use Rattle.art_steps.specs.Rows.{Setting, key_of, is_insert, is_scan, locks}
-use Rattle.art_steps.proofs.TurnLemmas.{asks-same, load-exchange, store-exchange, load-store, exchange-store, exchange-word, exchanges-same}
-use Rattle.art_steps.proofs.TurnLemmas.{store-word}
-use Rattle.art_steps.proofs.TurnLemmas.{answers-asks}
-use Rattle.art_stages.specs.declared.stage.Held.{Held}
-use Rattle.art_stages.specs.declared.stage.Keys.{Keys}
-use Rattle.art_stages.specs.declared.stage.Hold.{Hold}
-use Rattle.art_stages.specs.declared.stage.Position.{Position}
-use Rattle.art_stages.specs.declared.stage.Down.{Down}
-use Rattle.art_stages.specs.declared.stage.Work.{Work}
+use Rattle.art_schedules.proofs.Common.{◌≡◌, inl, inr, ℕ, zero, suc, ◌+◌, ◌-◌, ◌^◌, ◌<◌, List, [], ◌∷◌, ◌++◌, refl, ap, sym, subst, ◌∙◌, Bool}
+use Rattle.art_schedules.proofs.Common.{true, false, arith, slice_get, slice_index, slice_set, Option, Some, None, false≢true, same_Some, Call}
+use Rattle.art_schedules.proofs.Common.{Get, Insert, Remove, Scan, Replace, Reply, Contents, Shape, Kind, Four, Sixteen, FortyEight, Full}
+use Rattle.art_schedules.proofs.Common.{table_words, kind_at, root_base, claims_of, is_locked, is_obsolete, locked_word, released_word}
+use Rattle.art_schedules.proofs.Common.{some-words, claims-few, key_byte-small, Coupled, Access, Load, Store, Swap, Point, Asks, Answers}
+use Rattle.art_schedules.proofs.Common.{word_of, Setting, key_of, is_insert, is_scan, locks, asks-same, load-exchange, store-exchange}
+use Rattle.art_schedules.proofs.Common.{load-store, exchange-store, exchange-word, exchanges-same, store-word, answers-asks, Held, Keys, Hold}
+use Rattle.art_schedules.proofs.Common.{Down, Work, Target, Root, Below, Taken, Stage, Lock, Exchange, Between, Info, Find, FindKeys, FindMore}
+use Rattle.art_schedules.proofs.Common.{FindCount, Slot, LetGo, Unlock, Over, row_at, byte_in, setting, count_in, place_in, turn_at, find_turn}
+use Rattle.art_schedules.proofs.Common.{between_turn, stage_after, work_at, put_at, moves_at, OnKey, call_turn, call_after, begun_as, Process}
+use Rattle.art_schedules.proofs.Common.{changed, told, Plan, State, Reached, root, below, child_in, level_in, IsAtRest, SameRow}
+use Rattle.art_schedules.proofs.Common.{WaysLeadToValues, LeavesAreSmall, sits-kind_at, kind_at-sits, sits-inside, sits, leads-root, stored-at}
+use Rattle.art_schedules.proofs.Common.{Each, Knows, KnowsKey, holds, fills, row_filled, FitsStage, lock_of, rows_of_hold, held_at_stage}
+use Rattle.art_schedules.proofs.Common.{IsAmong, IsOpen, IsSettled, stage_of, held_by, filled_by, IsAtStage, held-is-kept, among-each}
+use Rattle.art_schedules.proofs.Common.{each-among, each-map, settled-row, no-items, calm_of, IsGoneBy, IsStill, ComesInBy, pairs_by, Effect}
+use Rattle.art_schedules.proofs.Common.{HasFewClaims, Follows, KeepsTree, KeptTreesFollow, KnowsTarget, KnowsReply, KnowsAt, IsHeldLive}
+use Rattle.art_schedules.proofs.Common.{CallsBegin, CallsGoOn, CallsStay, FoundIsAnswered, OthersLeaveWays, IsLeaving, ObsoleteLeave}
+use Rattle.art_schedules.proofs.Common.{IsCoupledStep, WaysTakeReached, SeekersAreNotAnswered, ChildRow}
+use Rattle.std.proofs.Common.{All}
+use Rattle.std.specs.Prelude.{length}
 use Rattle.art_stages.specs.declared.stage.Work.TheVariants as work
-use Rattle.art_stages.specs.declared.stage.Target.{Target}
-use Rattle.art_stages.specs.declared.stage.Target.TheVariants.{Root, Below, Taken}
-use Rattle.art_stages.specs.declared.stage.Stage.{Stage}
-use Rattle.art_stages.specs.declared.stage.Stage.TheVariants.{Lock, Exchange, Between, Info, Find, FindKeys, FindMore, FindCount, Slot}
-use Rattle.art_stages.specs.declared.stage.Stage.TheVariants.{LetGo, Unlock, Over}
-use Rattle.art_stages.specs.Stages.{row_at, byte_in, setting, target_base, count_in, place_in}
-use Rattle.art_stages.specs.Automaton.{turn_at, find_turn, between_turn, stage_after, work_at, put_at, moves_at}
-use Rattle.art_stages.specs.Calls.{OnKey, call_turn, call_after, begun_as}
-use Rattle.art_core.specs.declared.process.Process.{Process}
-use Rattle.art_core.specs.Accesses.{changed, told}
-use Rattle.art_core.specs.Core.{Plan, State}
-use Rattle.art_core.specs.Meaning.{Reached, root, below, child_in}
-use Rattle.art_core.specs.Forms.{level_in}
-use Rattle.art_serial.specs.trees.Trees.{IsAtRest, SameRow, WaysLeadToValues, LeavesAreSmall}
-use Rattle.art_serial.proofs.alone.PlaceLemmas.{sits-kind_at, kind_at-sits, sits-inside}
-use Rattle.art_serial.proofs.alone.LikeLemmas.{sits}
-use Rattle.art_serial.proofs.alone.WayLemmas.{leads-root}
-use Rattle.art_serial.proofs.writes.StoreLemmas.{stored-at}
-use Rattle.art_versions.specs.versions.Holding.{Each, Knows, KnowsKey, holds, fills, row_filled, FitsStage}
-use Rattle.art_versions.specs.versions.Locking.{all_of, held_at_place, lock_of, locks_of, rows_of_hold, held_at_stage}
-use Rattle.art_versions.specs.versions.Effects.{IsAmong}
-use Rattle.art_versions.specs.versions.Versions.{IsOpen, IsSettled, stage_of, held_by, filled_by, IsAtStage}
-use Rattle.art_versions.proofs.versions.KnownLemmas.{held-is-kept, among-each, each-among, each-map}
-use Rattle.art_versions.proofs.versions.MoveLemmas.{settled-row, no-items}
-use Rattle.art_schedules.specs.calm.Calm.{calm_of}
+use Rattle.art_stages.specs.Stages.{target_base}
 use Rattle.art_schedules.proofs.calm.VersionLemmas.{free-busy}
-use Rattle.art_schedules.specs.changes.Courses.{IsGoneBy, IsStill, ComesInBy, pairs_by}
-use Rattle.art_schedules.specs.changes.Effects.{Effect}
-use Rattle.art_schedules.specs.changes.Follows.{HasFewClaims, Follows, KeepsTree}
-use Rattle.art_schedules.specs.changes.Laws.{KeptTreesFollow}
 use Rattle.art_schedules.proofs.changes.RowLemmas.{steady-row}
-use Rattle.art_schedules.specs.coupled.Knows.{IsBelow, HangsBelow, KnowsPlace, KnowsTarget, KnowsStage, KnowsReply, KnowsAt, KnowsWay}
-use Rattle.art_schedules.specs.coupled.Knows.{IsHeldLive}
+use Rattle.art_schedules.specs.coupled.Knows.{IsBelow, KnowsStage, KnowsWay}
 use Rattle.art_schedules.specs.coupled.Goes.{Gets, Goes, GoesOn, Works, Finds}
-use Rattle.art_schedules.specs.coupled.Laws.{CallsBegin, CallsGoOn, CallsStay, FoundIsAnswered, OthersLeaveWays, WaysHoldReached}
-use Rattle.art_schedules.specs.coupled.Moments.{IsLeaving, ObsoleteLeave, IsCoupledStep}
-use Rattle.art_schedules.specs.coupled.Good.{WaysTakeReached, SeekersAreNotAnswered}
 use Rattle.art_schedules.proofs.coupled.OwnLemmas.{ways-go-on, findings-stay}
 use Rattle.art_schedules.proofs.coupled.StayLemmas.{own-still, ways-are-kept}
 use Rattle.art_schedules.proofs.coupled.MadeLemmas.{Facts, facts, IsMade, made, others-open}
@@ -585,55 +539,6 @@ ways-take-reached plan start words schedule p s t claims m call stage found h at
     (ap (call_turn (setting plan.shape Coupled call)) (sym at.at)
     ∙ its-turn plan.shape s t p words _ _ (f plan start words schedule p s t claims m h) call at.process at.is_open
     (Swap x.base x.kept (locked_word x.kept)) asks)
-
-place-reached : (i : Bool) (c : Setting) (table : List ℕ) (p : Position) → KnowsPlace i c table p
-    → Each (λ h. Reached c.shape table h.base h.kind) (held_at_place true i p)
-place-reached false c table p k = (k.leads.reached, tt)
-place-reached true c table p k = (k.0.leads.reached, above p.above k.1)
-  where
-    above : (o : Option Held) → HangsBelow c table p.row p.slot o → Each (λ h. Reached c.shape table h.base h.kind) (all_of o)
-    above None k = tt
-    above (Some a) k = (k.0.leads.reached, tt)
-
-stage-reached : (i : Bool) (c : Setting) (table : List ℕ) (stage : Stage) → KnowsStage i c table stage
-    → Each (λ h. Reached c.shape table h.base h.kind) (held_at_stage true i stage)
-stage-reached i c table (Lock Root first) k = tt
-stage-reached i c table (Lock (Below d) first) k = (k.0.leads.reached, tt)
-stage-reached i c table (Lock (Taken t) first) k = absurd k
-stage-reached i c table (Exchange Root v) k = tt
-stage-reached i c table (Exchange (Below d) v) k = (k.0.leads.reached, tt)
-stage-reached i c table (Exchange (Taken t) v) k = absurd k
-stage-reached i c table (Between d kept) k = (reached-by c table d k, (k.0.leads.reached, tt))
-stage-reached true c table (Info d kept) k = (reached-by c table d k, (k.0.leads.reached, tt))
-stage-reached false c table (Info d kept) k = (k.reached, tt)
-stage-reached i c table (Find p) k = place-reached i c table p k
-stage-reached i c table (FindKeys p count) k = place-reached i c table p k.0
-stage-reached i c table (FindMore p count first) k = place-reached i c table p k.0
-stage-reached i c table (FindCount p index) k = place-reached i c table p k.0
-stage-reached i c table (Slot p slot) k = place-reached i c table p k.0
-stage-reached i c table (LetGo above p f) k = (k.0.leads.reached, (k.2, tt))
-stage-reached i c table stage k = absurd k
-
-at-reached : (o : Option Reply) (i : Bool) (c : Setting) (table : List ℕ) (stage : Stage) → KnowsAt o i c table stage
-    → Each (λ h. Reached c.shape table h.base h.kind) (held_at_stage true i stage)
-at-reached None i c table stage k = stage-reached i c table stage k
-at-reached (Some r) true c table (Info d kept) k = absurd k.1
-at-reached (Some r) false c table (Info d kept) k = (k.1.0, tt)
-at-reached (Some r) i c table (Unlock h outcome) k =
-    (k.2, subst (λ o. Each (λ h. Reached c.shape table h.base h.kind) (all_of o)) (sym k.0) tt)
-at-reached (Some r) i c table (Over outcome) k = tt
-at-reached (Some r) i c table stage k = absurd k
-
-locked-each : (shape : Shape) (table : List ℕ) (hs : List Held) → Each (λ h. Reached shape table h.base h.kind) hs → (h : Held)
-    → IsAmong h (locks_of hs)
-    → Reached shape table h.base h.kind
-locked-each shape table [] k h a = absurd a
-locked-each shape table (x ∷ hs) k h (inl e) = subst (λ y. Reached shape table y.base y.kind) (sym e) k.0
-locked-each shape table (x ∷ hs) k h (inr a) = locked-each shape table hs k.1 h a
-
-pub ways-hold-reached : WaysHoldReached
-ways-hold-reached shape call table words stage found k h a = locked-each shape table (held_at_stage true (is_insert call) stage)
-    (at-reached found (is_insert call) (setting shape Coupled call) table stage k.way) h a
 
 pub calls-begin : CallsBegin
 calls-begin shape call table words e = (begun call refl e, record { way = tt; rows = tt })

@@ -1,64 +1,32 @@
 -- A step of a call that knows its way.
-use Rattle.std.proofs.Common.{◌≡◌, ◌≢◌, inl, inr, ℕ, ◌+◌, ◌-◌, ◌%◌, ◌==◌, List, ◌∷◌, length, slice_index, Option, Some, None}
-use Rattle.std.proofs.Common.{Bool, true, false, refl, sym, ap, ◌∙◌, subst, arith, eqb-true, option_map, if◌then◌else◌}
-use Rattle.std.proofs.lemmas.Bool.{eqb-false}
-use Rattle.std.proofs.lemmas.Option.{none-some}
-use Rattle.events.specs.declared.event.Call.{Call}
-use Rattle.events.specs.declared.event.Reply.{Reply}
+use Rattle.art_schedules.proofs.Common.{◌≡◌, ◌≢◌, inl, inr, ℕ, ◌+◌, ◌-◌, ◌%◌, List, ◌∷◌, length, Bool, true, false, refl, sym, ap, ◌∙◌, subst}
+use Rattle.art_schedules.proofs.Common.{arith, eqb-true, option_map, eqb-false, none-some, Call, Reply, Contents, value_at, Does, Shape, Kind}
+use Rattle.art_schedules.proofs.Common.{Four, Sixteen, FortyEight, Full, Empty, ChildRow, Leaf, capacity, root_base, info_at, keys_at}
+use Rattle.art_schedules.proofs.Common.{more_keys_at, index_at, count_at, child_at, is_locked, key_bytes, first_difference, keys4_of, keys16_of}
+use Rattle.art_schedules.proofs.Common.{place_of, entries_of, child_of, child_word, count_of, seven-words, key_byte-small, Coupled, is_tree_call}
+use Rattle.art_schedules.proofs.Common.{Setting, key_of, is_insert, is_scan, path_differs_at, new_leaf, overwriting, keys_differ_at, not_full}
+use Rattle.art_schedules.proofs.Common.{Held, Keys, Finding, Has, Lacks, Position, Down, Target, Root, Below, Taken, Stage, Lock, Exchange}
+use Rattle.art_schedules.proofs.Common.{Between, Info, Find, FindKeys, FindMore, FindCount, Slot, LetGo, Write, ClaimPair, ClaimGrow, Unlock}
+use Rattle.art_schedules.proofs.Common.{Over, row_at, held, root_place, byte_in, keys_among, count_in, setting, after_with, seek_coupled}
+use Rattle.art_schedules.proofs.Common.{insert_coupled, place_coupled, let_go_at, found_at, among_at, find_at, below_at, entered_at, hold_alone}
+use Rattle.art_schedules.proofs.Common.{no_value, pair_work, overwrite_at, keys_one, release_at, root, Means, HasForm, level_in, path_in}
+use Rattle.art_schedules.proofs.Common.{IsAtRest, LeadsTo, WaysLeadToValues, LeavesAreSmall, is_seek, leads-root, keys-differ, absent-after}
+use Rattle.art_schedules.proofs.Common.{seek-reply, first-differs, path_byte-small, Each, IsUnder, FitsPlace, FitsStage, all_of, held_at_place}
+use Rattle.art_schedules.proofs.Common.{rows_of_target, held_at_stage, IsBehindVersion, slot-behind, count-most, LacksByte, KnowsTarget}
+use Rattle.art_schedules.proofs.Common.{KnowsInfo, KnowsAt, KnowsReply, IsHeldLive, slot_in, KnowsKeys, KnowsFinding, IsOnWay, HasChild}
+use Rattle.art_schedules.proofs.Common.{HangsOnWay}
+use Rattle.std.proofs.Common.{◌==◌, slice_index, Option, Some, None, if◌then◌else◌}
 use Rattle.events.specs.declared.event.Reply.TheVariants as reply
-use Rattle.map_object.specs.MapObject.{Contents, value_at, value_reply, Does}
-use Rattle.art_rows.specs.declared.table.Shape.{Shape}
-use Rattle.art_rows.specs.declared.table.Kind.{Kind}
-use Rattle.art_rows.specs.declared.table.Kind.TheVariants.{Four, Sixteen, FortyEight, Full}
-use Rattle.art_rows.specs.declared.table.Child.TheVariants.{Empty, Row as ChildRow, Leaf}
-use Rattle.art_rows.specs.Table.{capacity, root_base, info_at, keys_at, more_keys_at, index_at, count_at, child_at}
-use Rattle.art_rows.specs.Words.{is_locked, key_bytes, first_difference, keys4_of, keys16_of, place_of, entries_of, child_of, child_word}
-use Rattle.art_rows.specs.Words.{count_of}
-use Rattle.art_rows.proofs.KindLemmas.{seven-words}
-use Rattle.art_rows.proofs.ByteLemmas.{key_byte-small}
-use Rattle.art_steps.specs.declared.variant.Variant.TheVariants.{Coupled}
-use Rattle.art_steps.specs.TreeCalls.{is_tree_call}
-use Rattle.art_steps.specs.Rows.{Setting, key_of, is_insert, is_scan, path_differs_at}
-use Rattle.art_steps.specs.Updates.{new_leaf, overwriting, keys_differ_at}
-use Rattle.art_steps.proofs.AccessLemmas.{not_full}
-use Rattle.art_stages.specs.declared.stage.Held.{Held}
-use Rattle.art_stages.specs.declared.stage.Keys.{Keys}
-use Rattle.art_stages.specs.declared.stage.Finding.{Finding}
-use Rattle.art_stages.specs.declared.stage.Finding.TheVariants.{Has, Lacks}
-use Rattle.art_stages.specs.declared.stage.Position.{Position}
-use Rattle.art_stages.specs.declared.stage.Down.{Down}
+use Rattle.map_object.specs.MapObject.{value_reply}
 use Rattle.art_stages.specs.declared.stage.Work.TheVariants as work
-use Rattle.art_stages.specs.declared.stage.Target.{Target}
-use Rattle.art_stages.specs.declared.stage.Target.TheVariants.{Root, Below, Taken}
-use Rattle.art_stages.specs.declared.stage.Stage.{Stage}
-use Rattle.art_stages.specs.declared.stage.Stage.TheVariants.{Lock, Exchange, Between, Info, Find, FindKeys, FindMore, FindCount, Slot}
-use Rattle.art_stages.specs.declared.stage.Stage.TheVariants.{LetGo, Write, ClaimPair, ClaimGrow, Unlock, Over}
-use Rattle.art_stages.specs.Stages.{row_at, held, root_place, byte_in, keys_among, count_in, setting}
-use Rattle.art_stages.specs.Automaton.{after_with, seek_coupled, insert_coupled, place_coupled, let_go_at, found_at, words_at, among_at}
-use Rattle.art_stages.specs.Automaton.{find_at}
-use Rattle.art_stages.specs.Automaton.{below_at, entered_at, hold_alone, no_value, pair_work, overwrite_at, keys_one, release_at}
-use Rattle.art_core.specs.Meaning.{root, Means}
-use Rattle.art_core.specs.Forms.{HasForm, level_in, path_in}
-use Rattle.art_serial.specs.trees.Trees.{IsAtRest, LeadsTo, WaysLeadToValues, LeavesAreSmall}
-use Rattle.art_serial.specs.alone.Laws.{is_seek}
-use Rattle.art_serial.proofs.alone.WayLemmas.{leads-root, leads-below}
-use Rattle.art_serial.proofs.alone.DifferLemmas.{keys-differ}
-use Rattle.art_serial.proofs.alone.SeekLemmas.{absent-after, seek-reply}
-use Rattle.art_serial.proofs.inserts.InsertEndLemmas.{first-differs}
-use Rattle.art_serial.proofs.inserts.SmallLemmas.{path_byte-small}
+use Rattle.art_stages.specs.Automaton.{words_at}
+use Rattle.art_serial.proofs.alone.WayLemmas.{leads-below}
 use Rattle.art_serial.proofs.trees.Bytes.{never_differs}
-use Rattle.art_versions.specs.versions.Holding.{Each, IsUnder, HasRoom, FitsPlace, FitsStage}
-use Rattle.art_versions.specs.versions.Locking.{all_of, held_at_place, rows_of_target, held_at_stage}
-use Rattle.art_versions.specs.versions.Effects.{IsBehindVersion}
-use Rattle.art_versions.proofs.versions.KeyLemmas.{slot-behind}
-use Rattle.art_versions.proofs.versions.WordFacts.{full-not-less, count-most}
-use Rattle.art_schedules.specs.work.Works.{LacksByte}
-use Rattle.art_schedules.specs.coupled.Knows.{IsBelow, HangsBelow, KnowsTarget, KnowsPlace, KnowsInfo, KnowsStage, KnowsAt}
-use Rattle.art_schedules.specs.coupled.Knows.{KnowsReply}
-use Rattle.art_schedules.specs.coupled.Knows.{KnowsWay, IsHeldLive}
+use Rattle.art_versions.specs.versions.Holding.{HasRoom}
+use Rattle.art_versions.proofs.versions.WordFacts.{full-not-less}
+use Rattle.art_schedules.specs.coupled.Knows.{IsBelow, HangsBelow, KnowsPlace, KnowsStage, KnowsWay}
 use Rattle.art_schedules.specs.coupled.Goes.{Gets, Goes, GoesOn, Works, Finds}
 use Rattle.art_schedules.specs.coupled.Laws.{WaysGoOn, FindingsStay}
-use Rattle.art_schedules.specs.work.Ways.{slot_in, KnowsKeys, KnowsFinding, IsOnWay, HasChild, HangsOnWay}
 use Rattle.art_schedules.proofs.work.CallLemmas.{insert-of, seek-of, key-small, kept-after, full-slot}
 use Rattle.art_schedules.proofs.effects.ValueLemmas.{no-slot, empty-slot, own-leaf, other-leaf, other-row, hangs-on, reached-below}
 use Rattle.art_schedules.proofs.effects.ValueLemmas.{byte-in-small, overwritten}

@@ -1,46 +1,17 @@
 -- What a step leaves of the words of rows, and of the calm tree, where a call on its way makes it.
-use Rattle.std.proofs.Common.{◌≡◌, ◌≢◌, ◌⊎◌, inl, inr, ℕ, ◌+◌, ◌/◌, ◌%◌, ◌^◌, ◌<◌, ◌≤◌, List, [], ◌∷◌, refl, ap, sym, subst, ◌∙◌, true}
-use Rattle.std.proofs.Common.{false, All, arith}
-use Rattle.std.specs.Prelude.{slice_index, Option, Some}
-use Rattle.std.proofs.lemmas.Bool.{cases_eq, cases_lt}
-use Rattle.std.proofs.lemmas.Option.{same_Some}
-use Rattle.events.specs.declared.event.Call.{Call}
-use Rattle.art_rows.specs.declared.table.Shape.{Shape}
-use Rattle.art_rows.specs.declared.table.Kind.{Kind}
-use Rattle.art_rows.specs.Table.{kind_at, row_words, claims_of}
-use Rattle.art_rows.specs.Words.{is_obsolete, released_word}
-use Rattle.art_rows.proofs.KindLemmas.{some-words, claims-few}
-use Rattle.art_serial.proofs.words.TableLemmas.{rows_apart, row_begins}
-use Rattle.art_steps.specs.declared.variant.Variant.TheVariants.{Coupled}
-use Rattle.art_steps.specs.declared.access.Access.{Access}
-use Rattle.art_steps.specs.declared.access.Access.TheVariants.{Store}
-use Rattle.art_steps.specs.declared.access.Point.{Point}
-use Rattle.art_steps.specs.Steps.{Turn, Asks}
-use Rattle.art_stages.specs.declared.stage.Held.{Held}
-use Rattle.art_stages.specs.Calls.{call_turn}
-use Rattle.art_stages.specs.Stages.{setting}
-use Rattle.art_core.specs.declared.process.Process.{Process}
-use Rattle.art_core.specs.Core.{State}
-use Rattle.art_core.specs.Meaning.{Reached}
-use Rattle.art_serial.specs.trees.Trees.{IsAtRest, SameRow}
-use Rattle.art_serial.proofs.alone.PlaceLemmas.{sits-kind_at}
-use Rattle.art_serial.proofs.alone.LikeLemmas.{sits}
-use Rattle.art_serial.proofs.words.VersionLemmas.{obsolete_released}
-use Rattle.art_serial.specs.writes.Writes.{IsOutside}
-use Rattle.art_versions.specs.versions.Effects.{IsAmong, IsBehindVersion}
-use Rattle.art_versions.specs.versions.Versions.{IsOpen, IsSettled, stage_of, held_by, filled_by}
-use Rattle.art_versions.proofs.versions.KnownLemmas.{held-is-kept}
-use Rattle.art_versions.proofs.versions.MoveLemmas.{settled-row}
-use Rattle.art_versions.proofs.versions.WordFacts.{version-free}
-use Rattle.art_schedules.specs.calm.Calm.{is_busy}
-use Rattle.art_schedules.specs.calm.Changes.{AsksFor, RowChange, RowsStay, RowWritten, RowFilled, RowTaken, RowReleased}
+use Rattle.art_schedules.proofs.Common.{◌≡◌, ◌≢◌, ◌⊎◌, inl, inr, ℕ, ◌+◌, ◌/◌, ◌%◌, ◌^◌, ◌<◌, ◌≤◌, List, [], ◌∷◌, refl, ap, sym, subst, ◌∙◌, true}
+use Rattle.art_schedules.proofs.Common.{false, arith, slice_index, Option, Some, cases_eq, cases_lt, same_Some, Call, Shape, Kind, kind_at}
+use Rattle.art_schedules.proofs.Common.{row_words, claims_of, is_obsolete, released_word, some-words, claims-few, rows_apart, row_begins}
+use Rattle.art_schedules.proofs.Common.{Coupled, Access, Store, Point, Turn, Asks, Held, call_turn, setting, Process, State, Reached, IsAtRest}
+use Rattle.art_schedules.proofs.Common.{SameRow, sits-kind_at, sits, obsolete_released, IsOutside, IsAmong, IsBehindVersion, IsOpen, IsSettled}
+use Rattle.art_schedules.proofs.Common.{stage_of, held_by, filled_by, held-is-kept, settled-row, version-free, is_busy, AsksFor, RowChange}
+use Rattle.art_schedules.proofs.Common.{RowsStay, RowWritten, RowFilled, RowTaken, RowReleased, KeepsTree, IsHeldLive}
+use Rattle.std.proofs.Common.{All}
 use Rattle.art_schedules.proofs.calm.VersionLemmas.{not-behind, free-busy, released-free, locked-same}
 use Rattle.art_schedules.proofs.calm.UseLemmas.{without-store, with-released}
-use Rattle.art_schedules.specs.changes.Follows.{KeepsTree}
 use Rattle.art_schedules.proofs.changes.FollowLemmas.{low-words-keep}
 use Rattle.art_schedules.proofs.changes.RowLemmas.{steady-row}
 use Rattle.art_schedules.proofs.coupled.MadeLemmas.{Facts}
-use Rattle.art_schedules.specs.coupled.Knows.{IsHeldLive}
 
 row-word : (base j : ℕ) (kind : Kind) → 1 ≤ j → j < row_words kind → IsBehindVersion base kind (base + j)
 row-word base j kind low high = (omega (arith, low), omega (arith, high))

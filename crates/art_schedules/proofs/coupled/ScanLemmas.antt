@@ -1,50 +1,21 @@
 -- A step of a scan that knows the calm tree.
-use Rattle.std.proofs.Common.{◌≡◌, ℕ, zero, suc, ◌+◌, ◌-◌, ◌*◌, ◌/◌, ◌%◌, ◌<◌, ◌≤◌, ◌==◌, List, [], ◌∷◌, ◌++◌, refl, sym, ap, ◌∙◌, subst}
-use Rattle.std.proofs.Common.{Bool, true, false}
-use Rattle.std.proofs.Common.{arith}
-use Rattle.std.proofs.Common.{eqb-true, if◌then◌else◌, option_map}
-use Rattle.std.specs.Prelude.{map, filter, slice_index, Option, Some, None}
-use Rattle.std.proofs.lemmas.Bool.{and_parts}
-use Rattle.std.proofs.lemmas.Option.{none-some}
-use Rattle.events.specs.declared.event.Call.TheVariants.{Scan}
-use Rattle.art_rows.specs.declared.table.Shape.{Shape}
-use Rattle.art_rows.specs.declared.table.Kind.{Kind}
-use Rattle.art_rows.specs.declared.table.Kind.TheVariants.{Four, Sixteen, FortyEight, Full}
-use Rattle.art_rows.specs.declared.table.Child.{Child}
-use Rattle.art_rows.specs.declared.table.Child.TheVariants.{Empty, Row as ChildRow, Leaf}
-use Rattle.art_rows.specs.Table.{root_base, keys_at, more_keys_at, index_at, count_at, child_at}
-use Rattle.art_rows.specs.Words.{is_locked, keys4_of, keys16_of, place_of, entries_of, child_of}
-use Rattle.art_steps.specs.declared.variant.Variant.TheVariants.{Coupled}
-use Rattle.art_steps.specs.declared.access.Access.TheVariants.{Load}
-use Rattle.art_steps.specs.declared.access.Point.{Point}
-use Rattle.art_steps.specs.Steps.{Asks}
-use Rattle.art_steps.specs.Rows.{Setting}
-use Rattle.art_steps.specs.Scan.{bytes_of, with_leaf, has_row}
-use Rattle.art_stages.specs.declared.stage.Held.{Held}
-use Rattle.art_stages.specs.declared.stage.Keys.{Keys as KeyWords}
-use Rattle.art_stages.specs.declared.stage.Frame.{Frame}
-use Rattle.art_stages.specs.declared.stage.Entry.{Entry}
+use Rattle.art_schedules.proofs.Common.{◌≡◌, ℕ, zero, suc, ◌+◌, ◌-◌, ◌*◌, ◌/◌, ◌%◌, ◌<◌, ◌≤◌, List, [], ◌∷◌, ◌++◌, refl, sym, ap, ◌∙◌, subst}
+use Rattle.art_schedules.proofs.Common.{Bool, true, false, arith, eqb-true, option_map, map, filter, slice_index, Option, Some, None, and_parts}
+use Rattle.art_schedules.proofs.Common.{none-some, Scan, Shape, Kind, Four, Sixteen, FortyEight, Full, Child, Empty, ChildRow, Leaf, root_base}
+use Rattle.art_schedules.proofs.Common.{keys_at, more_keys_at, index_at, count_at, child_at, is_locked, keys4_of, keys16_of, place_of}
+use Rattle.art_schedules.proofs.Common.{entries_of, child_of, Coupled, Load, Point, Asks, Setting, bytes_of, with_leaf, has_row, Held, KeyWords}
+use Rattle.art_schedules.proofs.Common.{Frame, Entry, ScanStep, FirstKeys, SecondKeys, Index, LoadChild, Release, row_at, held, setting}
+use Rattle.art_schedules.proofs.Common.{keys_one, Walk, ScanAt, at, on_way, walked, frame_of, keys16, in_word, scan_turn, release_rows, slot_at}
+use Rattle.art_schedules.proofs.Common.{bytes_at, index_at_list, words_at, place_slot, child_from, word_test, lies, frame_at, way_at, resume_at}
+use Rattle.art_schedules.proofs.Common.{with_frame, with_held, visit_list, visit_at, entry_at, child_after, keys_after_word, step_after, OnScan}
+use Rattle.art_schedules.proofs.Common.{Reached, root, below, child_in, slot_of, IsAtRest, Each, ReadsHeld, is_lock, KnowsWords, KnowsFrame}
+use Rattle.art_schedules.proofs.Common.{KnowsEntry, KnowsTree}
+use Rattle.std.proofs.Common.{◌==◌, if◌then◌else◌}
 use Rattle.art_stages.specs.declared.stage.Entry.TheVariants.{Root, Below}
-use Rattle.art_stages.specs.declared.stage.ScanStep.{ScanStep}
-use Rattle.art_stages.specs.declared.stage.ScanStep.TheVariants.{Lock, Exchange, Wait, Info, Keys, FirstKeys, SecondKeys, Index}
-use Rattle.art_stages.specs.declared.stage.ScanStep.TheVariants.{Child as LoadChild, Release}
-use Rattle.art_stages.specs.declared.stage.ScanStep.TheVariants.{Over}
-use Rattle.art_stages.specs.Stages.{row_at, held, setting}
-use Rattle.art_stages.specs.Automaton.{keys_one}
-use Rattle.art_stages.specs.Scans.{Walk, ScanAt, at, on_way, walked, frame_of, keys16, in_word, scan_turn, release_rows, close_at, slot_at}
-use Rattle.art_stages.specs.Scans.{bytes_at}
-use Rattle.art_stages.specs.Scans.{index_at_list, words_at}
-use Rattle.art_stages.specs.Scans.{place_slot, child_from, word_test, lies, frame_at, way_at, resume_at, with_frame, with_held, row_begins}
-use Rattle.art_stages.specs.Scans.{visit_list}
-use Rattle.art_stages.specs.Scans.{visit_at, entry_at}
-use Rattle.art_stages.specs.Scans.{child_after, keys_after_word, step_after}
-use Rattle.art_stages.specs.Calls.{OnScan}
-use Rattle.art_core.specs.Meaning.{Reached, root, below, child_in, slot_of}
-use Rattle.art_serial.specs.trees.Trees.{IsAtRest}
-use Rattle.art_versions.specs.versions.Holding.{Each}
+use Rattle.art_stages.specs.declared.stage.ScanStep.TheVariants.{Lock, Exchange, Wait, Info, Keys, Over}
+use Rattle.art_stages.specs.Scans.{close_at, row_begins}
 use Rattle.art_versions.proofs.versions.ByteLemmas.{index-small}
-use Rattle.art_schedules.specs.work.Own.{ReadsHeld, is_lock}
-use Rattle.art_schedules.specs.coupled.Scanning.{KnowsWords, KnowsFrame, HangsOnHeld, KnowsEntry, KnowsTree, ScansKnowTrees}
+use Rattle.art_schedules.specs.coupled.Scanning.{HangsOnHeld, ScansKnowTrees}
 
 module _ (shape : Shape) (low high n : ℕ) (calm : List ℕ) (rest : IsAtRest shape n calm) where
   abbrev c : Setting

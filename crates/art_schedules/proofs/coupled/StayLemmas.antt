@@ -1,30 +1,12 @@
 -- What a call knows on its way stays so, whatever other calls do.
-use Rattle.std.proofs.Common.{ℕ, List, [], ◌∷◌, slice_index, Bool, true, false, sym, ap, ◌∙◌, subst, arith, inl}
-use Rattle.std.specs.Prelude.{Option, Some, None}
-use Rattle.map_object.specs.MapObject.{Contents}
-use Rattle.events.specs.declared.event.Reply.{Reply}
-use Rattle.art_rows.specs.declared.table.Kind.{Kind}
-use Rattle.art_rows.specs.declared.table.Child.TheVariants.{Row as ChildRow}
-use Rattle.art_rows.specs.Words.{key_bytes, first_difference}
-use Rattle.art_rows.proofs.KindLemmas.{seven-words}
-use Rattle.art_steps.specs.declared.variant.Variant.TheVariants.{Coupled}
-use Rattle.art_steps.specs.Rows.{Setting, key_of, is_insert}
-use Rattle.art_stages.specs.declared.stage.Held.{Held}
-use Rattle.art_stages.specs.declared.stage.Position.{Position}
-use Rattle.art_stages.specs.declared.stage.Down.{Down}
-use Rattle.art_stages.specs.declared.stage.Target.{Target}
-use Rattle.art_stages.specs.declared.stage.Target.TheVariants.{Root, Below, Taken}
-use Rattle.art_stages.specs.declared.stage.Stage.{Stage}
-use Rattle.art_stages.specs.declared.stage.Stage.TheVariants.{Lock, Exchange, Between, Info, Find, FindKeys, FindMore, FindCount, Slot}
-use Rattle.art_stages.specs.declared.stage.Stage.TheVariants.{LetGo, Unlock, Over}
-use Rattle.art_stages.specs.Stages.{setting}
-use Rattle.art_serial.specs.trees.Trees.{SameRow, LeadsTo}
-use Rattle.art_versions.specs.versions.Holding.{Each}
-use Rattle.art_versions.specs.versions.Locking.{held_at_place, rows_of_target, all_of, held_at_stage}
-use Rattle.art_schedules.specs.changes.Courses.{IsGoneBy, IsStill}
-use Rattle.art_schedules.specs.changes.Follows.{Follows}
-use Rattle.art_schedules.specs.coupled.Knows.{HangsBelow, KnowsTarget, KnowsPlace, KnowsInfo, IsPassed, KnowsStage, KnowsReply, KnowsAt}
-use Rattle.art_schedules.specs.coupled.Knows.{IsHeldLive}
+use Rattle.art_schedules.proofs.Common.{ℕ, List, [], ◌∷◌, Bool, true, false, sym, ap, ◌∙◌, subst, arith, inl, Option, Some, None, Contents}
+use Rattle.art_schedules.proofs.Common.{Reply, Kind, ChildRow, key_bytes, first_difference, seven-words, Coupled, Setting, key_of, is_insert}
+use Rattle.art_schedules.proofs.Common.{Held, Position, Down, Target, Root, Below, Taken, Stage, Lock, Exchange, Between, Info, Find, FindKeys}
+use Rattle.art_schedules.proofs.Common.{FindMore, FindCount, Slot, LetGo, Unlock, Over, setting, SameRow, LeadsTo, Each, held_at_place}
+use Rattle.art_schedules.proofs.Common.{rows_of_target, all_of, held_at_stage, IsGoneBy, IsStill, Follows, KnowsTarget, KnowsInfo, KnowsReply}
+use Rattle.art_schedules.proofs.Common.{KnowsAt, IsHeldLive}
+use Rattle.std.proofs.Common.{slice_index}
+use Rattle.art_schedules.specs.coupled.Knows.{HangsBelow, KnowsPlace, IsPassed, KnowsStage}
 use Rattle.art_schedules.specs.coupled.Stays.{WaysAreKept}
 use Rattle.art_schedules.proofs.effects.WayLemmas.{on-way, slot-still, hangs-still, finding-still, index-still}
 

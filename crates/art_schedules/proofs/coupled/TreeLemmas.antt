@@ -1,33 +1,12 @@
 -- What a scan knows of the calm tree stays so, whatever other calls do.
-use Rattle.std.proofs.Common.{◌≡◌, ℕ, ◌+◌, ◌*◌, ◌<◌, List, [], ◌∷◌, refl, sym, ap, ◌∙◌, subst, inl, arith}
-use Rattle.std.specs.Prelude.{slice_index, Option}
-use Rattle.map_object.specs.MapObject.{Contents}
-use Rattle.art_rows.specs.declared.table.Shape.{Shape}
-use Rattle.art_rows.specs.declared.table.Kind.{Kind}
-use Rattle.art_rows.specs.declared.table.Kind.TheVariants.{Four, Sixteen, FortyEight, Full}
-use Rattle.art_rows.specs.Table.{index_at}
-use Rattle.art_stages.specs.declared.stage.Held.{Held}
-use Rattle.art_stages.specs.declared.stage.Keys.{Keys as KeyWords}
-use Rattle.art_stages.specs.declared.stage.Frame.{Frame}
-use Rattle.art_stages.specs.declared.stage.Entry.{Entry}
+use Rattle.art_schedules.proofs.Common.{◌≡◌, ℕ, ◌+◌, ◌*◌, ◌<◌, List, [], ◌∷◌, refl, sym, ap, ◌∙◌, subst, inl, arith, slice_index, Option}
+use Rattle.art_schedules.proofs.Common.{Contents, Shape, Kind, Four, Sixteen, FortyEight, Full, index_at, Held, KeyWords, Frame, Entry, ScanStep}
+use Rattle.art_schedules.proofs.Common.{FirstKeys, SecondKeys, Index, LoadChild, Release, Reached, IsAtRest, SameRow, sits-kind_at, sits}
+use Rattle.art_schedules.proofs.Common.{row-keys, slot-same, child-same, Each, IsAmong, Effect, IsGoneBy, ComesInBy, Follows, IsWalked}
+use Rattle.art_schedules.proofs.Common.{ReadsWalked, KnowsWords, KnowsFrame, KnowsEntry, KnowsStep, StaysAt}
 use Rattle.art_stages.specs.declared.stage.Entry.TheVariants.{Root, Below}
-use Rattle.art_stages.specs.declared.stage.ScanStep.{ScanStep}
-use Rattle.art_stages.specs.declared.stage.ScanStep.TheVariants.{Lock, Exchange, Wait, Info, Keys, FirstKeys, SecondKeys, Index}
-use Rattle.art_stages.specs.declared.stage.ScanStep.TheVariants.{Child as LoadChild, Release}
-use Rattle.art_stages.specs.declared.stage.ScanStep.TheVariants.{Over}
-use Rattle.art_core.specs.Meaning.{Reached}
-use Rattle.art_serial.specs.trees.Trees.{IsAtRest, SameRow}
-use Rattle.art_serial.proofs.alone.PlaceLemmas.{sits-kind_at}
-use Rattle.art_serial.proofs.alone.LikeLemmas.{sits}
-use Rattle.art_serial.proofs.alone.SlotLemmas.{row-keys, slot-same}
-use Rattle.art_serial.proofs.inserts.OutcomeLemmas.{child-same}
-use Rattle.art_versions.specs.versions.Holding.{Each}
-use Rattle.art_versions.specs.versions.Effects.{IsAmong}
-use Rattle.art_schedules.specs.changes.Effects.{Effect}
-use Rattle.art_schedules.specs.changes.Courses.{IsGoneBy, ComesInBy}
-use Rattle.art_schedules.specs.changes.Follows.{Follows}
-use Rattle.art_schedules.specs.work.Own.{IsWalked, ReadsWalked}
-use Rattle.art_schedules.specs.coupled.Scanning.{KnowsWords, KnowsFrame, KnowsEntry, KnowsStep, StaysAt, ScansKeepTrees}
+use Rattle.art_stages.specs.declared.stage.ScanStep.TheVariants.{Lock, Exchange, Wait, Info, Keys, Over}
+use Rattle.art_schedules.specs.coupled.Scanning.{ScansKeepTrees}
 
 module _ (shape : Shape) (claims n : ℕ) (calm after : List ℕ) (pairs : Contents) (effect : Option Effect)
     (rest : IsAtRest shape claims calm)

@@ -1,40 +1,17 @@
 -- Scans by themselves.
-use Rattle.std.proofs.Common.{◌≡◌, ◌≢◌, ◌⊎◌, inl, inr, ℕ, zero, suc, ◌<◌, ◌≤◌, List, [], ◌∷◌, length, slice_index, slice_set, refl, sym, ap}
-use Rattle.std.proofs.Common.{◌∙◌, subst, arith}
-use Rattle.std.specs.Prelude.{Option, Some}
-use Rattle.std.proofs.lemmas.Bool.{cases_eq, cases_lt}
-use Rattle.std.proofs.lemmas.List.{length-set}
-use Rattle.art_versions.proofs.versions.ChangeLemmas.{index-other}
-use Rattle.events.specs.declared.event.Call.TheVariants.{Scan}
-use Rattle.events.specs.declared.event.Reply.{Reply}
+use Rattle.art_schedules.proofs.Common.{◌≡◌, ◌≢◌, ◌⊎◌, inl, inr, ℕ, zero, suc, ◌<◌, ◌≤◌, List, [], ◌∷◌, length, refl, sym, ap, ◌∙◌, subst, arith}
+use Rattle.art_schedules.proofs.Common.{Option, Some, cases_eq, cases_lt, length-set, index-other, Scan, Reply, reply_to, Shape, Coupled, Access}
+use Rattle.art_schedules.proofs.Common.{Store, released_word, Point, Asks, Answers, word_of, Setting, Held, Frame, ScanStep, setting, Walk, at}
+use Rattle.art_schedules.proofs.Common.{CallAt, OnScan, rest_at, call_after, call_begun, call_next, changed, told, got_by, words_after}
+use Rattle.art_schedules.proofs.Common.{RunsAlone, ends, goes, same-runs, ScansAreTheMaps, stored-at, Suits, Alone, SameOn, WalksAreTheMaps}
+use Rattle.art_schedules.proofs.Common.{IsOver}
+use Rattle.std.proofs.Common.{slice_index, slice_set}
 use Rattle.events.specs.declared.event.Reply.TheVariants as reply
-use Rattle.map_object.specs.MapObject.{reply_to}
-use Rattle.art_rows.specs.declared.table.Shape.{Shape}
-use Rattle.art_steps.specs.declared.variant.Variant.TheVariants.{Coupled}
-use Rattle.art_steps.specs.declared.access.Access.{Access}
-use Rattle.art_steps.specs.declared.access.Access.TheVariants.{Store}
-use Rattle.art_rows.specs.Words.{released_word}
-use Rattle.art_steps.specs.declared.access.Point.{Point}
 use Rattle.art_steps.specs.declared.access.Point.TheVariants as point
-use Rattle.art_steps.specs.Steps.{Asks, Answers}
-use Rattle.art_steps.specs.Fits.{word_of}
-use Rattle.art_steps.specs.Rows.{Setting}
-use Rattle.art_stages.specs.declared.stage.Held.{Held}
-use Rattle.art_stages.specs.declared.stage.Frame.{Frame}
-use Rattle.art_stages.specs.declared.stage.ScanStep.{ScanStep}
 use Rattle.art_stages.specs.declared.stage.ScanStep.TheVariants as scan
-use Rattle.art_stages.specs.Stages.{setting}
-use Rattle.art_stages.specs.Scans.{Walk, at}
-use Rattle.art_stages.specs.Calls.{CallAt, OnScan, rest_at, call_after, call_begun}
-use Rattle.art_stages.proofs.BehindLemmas.{behind, call_next}
-use Rattle.art_core.specs.Accesses.{changed, told, got_by, words_after}
-use Rattle.art_serial.specs.alone.Alone.{RunsAlone, ends, goes}
-use Rattle.art_serial.proofs.alone.AloneLemmas.{same-runs}
-use Rattle.art_serial.specs.walks.Walks.{ScansAreTheMaps}
-use Rattle.art_serial.proofs.writes.StoreLemmas.{stored-at}
-use Rattle.art_schedules.specs.work.Solo.{Suits}
+use Rattle.art_stages.proofs.BehindLemmas.{behind}
 use Rattle.art_schedules.proofs.work.SoloLemmas.{suits-on, runs-behind}
-use Rattle.art_schedules.specs.coupled.Walks.{Alone, here, further, SameOn, WalksAreTheMaps, WalksStay, IsOver}
+use Rattle.art_schedules.specs.coupled.Walks.{here, further, WalksStay}
 
 -- ---- on other words
 

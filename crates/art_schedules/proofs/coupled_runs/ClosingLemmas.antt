@@ -1,16 +1,11 @@
 -- Every run of the coupled tree is linearizable.
-use Rattle.std.proofs.Common.{refl, inl}
-use Rattle.art_steps.specs.declared.variant.Variant.TheVariants.{Coupled}
-use Rattle.art_core.specs.Claims.{CoupledIsLinearizable}
-use Rattle.art_schedules.specs.changes.Laws.{KeptTreesFollow}
-use Rattle.art_schedules.specs.stories.Laws.{StartsAreAtRest, StoriesGiveOrders}
+use Rattle.art_schedules.proofs.Common.{refl, inl, Coupled, CoupledIsLinearizable, KeptTreesFollow, StartsAreAtRest, StoriesGiveOrders}
+use Rattle.art_schedules.proofs.Common.{CoupledFits, LedAreLinearizable, the_plan}
 use Rattle.art_schedules.proofs.stories.GhostLemmas.{orders-of-ghosts}
-use Rattle.art_schedules.specs.coupled_runs.CoupledFits.{Ghosts, IsWorld, CoupledFits}
+use Rattle.art_schedules.specs.coupled_runs.CoupledFits.{Ghosts, IsWorld}
 use Rattle.art_schedules.proofs.coupled_runs.PartLaws.{LawsOfParts}
-use Rattle.art_schedules.specs.coupled_runs.Linear.{LedAreLinearizable}
 use Rattle.art_schedules.proofs.coupled_runs.InstanceLemmas.{coupled-is-linearizable}
 use Rattle.art_schedules.proofs.coupled_runs.ScanKeptLemmas.{scans-are-kept}
-use Rattle.art_schedules.specs.stories.Fitting.{the_plan}
 
 led-are-linearizable : StartsAreAtRest → KeptTreesFollow → StoriesGiveOrders → LedAreLinearizable
 led-are-linearizable starts trees orders shape scripts start words Scans led schedule s run =

@@ -1,50 +1,18 @@
 -- Every run of the coupled tree is linearizable, from the laws of the parts.
-use Rattle.std.proofs.Common.{◌≡◌, ℕ, ◌+◌, true, false, List, [], ◌∷◌, ◌++◌, length, refl, sym, ap, subst, ◌∙◌, ⊎_elim}
-use Rattle.std.specs.Prelude.{Option, Some, None}
-use Rattle.std.proofs.lemmas.Option.{same_Some, none-some}
-use Rattle.events.specs.declared.event.Call.{Call}
-use Rattle.events.specs.declared.event.Call.TheVariants.{Get, Insert, Remove, Scan, Replace}
-use Rattle.events.specs.declared.event.Reply.{Reply}
-use Rattle.map_object.specs.MapObject.{Contents}
-use Rattle.art_rows.specs.declared.table.Shape.{Shape}
-use Rattle.art_steps.specs.declared.variant.Variant.TheVariants.{Coupled}
-use Rattle.art_steps.specs.declared.access.Access.{Access}
-use Rattle.art_steps.specs.Steps.{Answers}
-use Rattle.art_steps.specs.Rows.{is_scan}
-use Rattle.art_stages.specs.declared.stage.Hold.{Hold}
-use Rattle.art_stages.specs.declared.stage.Outcome.{Outcome}
-use Rattle.art_stages.specs.declared.stage.Stage.{Stage}
-use Rattle.art_stages.specs.declared.stage.Stage.TheVariants.{Lock, Unlock, Obsolete, Over}
-use Rattle.art_stages.specs.declared.stage.Target.TheVariants.{Root}
-use Rattle.art_stages.specs.Stages.{setting, reply_for}
-use Rattle.art_stages.specs.Automaton.{turn_at}
-use Rattle.art_stages.specs.Calls.{OnKey, call_turn, call_begun, call_behind}
-use Rattle.art_core.specs.declared.process.Process.{Process}
-use Rattle.art_core.specs.Core.{Plan, State, opened_on}
-use Rattle.art_core.specs.Claims.{CoupledIsLinearizable}
-use Rattle.art_core.specs.Plans.{IsRun}
-use Rattle.art_versions.specs.versions.Holding.{holds}
-use Rattle.art_versions.specs.versions.Effects.{IsAmong}
-use Rattle.art_versions.specs.versions.Versions.{stage_of, IsAtStage}
-use Rattle.art_versions.proofs.versions.KnownLemmas.{same-call}
-use Rattle.art_schedules.specs.calm.Calm.{calm_of}
-use Rattle.art_schedules.specs.stories.Stories.{Status, Before, HasReply, Tale}
-use Rattle.art_schedules.specs.stories.Fitting.{IsToldStep, AllFit, IsLedOn, OwnStep, Stays, BeginsCall, MakesAccess, AnswersCall}
-use Rattle.art_schedules.specs.stories.Fitting.{HasItsReply, set_at, the_plan}
+use Rattle.art_schedules.proofs.Common.{◌≡◌, ℕ, ◌+◌, true, false, List, [], ◌∷◌, ◌++◌, length, refl, sym, ap, subst, ◌∙◌, ⊎_elim, Option, Some}
+use Rattle.art_schedules.proofs.Common.{None, same_Some, none-some, Call, Get, Insert, Remove, Scan, Replace, Reply, Contents, Shape, Coupled}
+use Rattle.art_schedules.proofs.Common.{Access, Answers, is_scan, Hold, Outcome, Stage, Lock, Unlock, Obsolete, Over, Root, setting, reply_for}
+use Rattle.art_schedules.proofs.Common.{turn_at, OnKey, call_turn, call_begun, call_behind, Process, Plan, State, opened_on}
+use Rattle.art_schedules.proofs.Common.{CoupledIsLinearizable, IsRun, holds, IsAmong, stage_of, IsAtStage, same-call, calm_of, Status, Before}
+use Rattle.art_schedules.proofs.Common.{HasReply, Tale, IsToldStep, AllFit, IsLedOn, OwnStep, Stays, BeginsCall, MakesAccess, AnswersCall}
+use Rattle.art_schedules.proofs.Common.{HasItsReply, set_at, the_plan, LeavesBy, HoldsGood, AtEnd, Answering, Leaving, Makes, ghosts_with}
+use Rattle.art_schedules.proofs.Common.{HasNone, OfScans, CoupledFits, ScansAreKept, HaveScans, LedAreLinearizable, TreeGoesOn}
 use Rattle.art_schedules.specs.coupled.Knows.{KnowsWay}
-use Rattle.art_schedules.specs.coupled.Moments.{LeavesBy}
-use Rattle.art_schedules.specs.coupled.Good.{HoldsGood}
-use Rattle.art_schedules.specs.effects.AtWork.{AtEnd, Answering, Leaving}
-use Rattle.art_schedules.specs.effects.Outcomes.{Makes}
-use Rattle.art_schedules.specs.coupled_runs.CoupledFits.{Ghosts, ghosts_with, IsWorld, HasNone, OfScans, IsFit, Seeks, Works, Finds, Ends}
-use Rattle.art_schedules.specs.coupled_runs.CoupledFits.{Walks}
-use Rattle.art_schedules.specs.coupled_runs.CoupledFits.{CoupledFits}
-use Rattle.art_schedules.specs.coupled_runs.KeptScans.{ScansAreKept}
+use Rattle.art_schedules.specs.coupled_runs.CoupledFits.{Ghosts, IsWorld, IsFit, Seeks, Works, Finds, Ends, Walks}
 use Rattle.art_schedules.proofs.coupled_runs.PartLaws.{LawsOfParts}
-use Rattle.art_schedules.specs.coupled_runs.Linear.{HaveScans, LedAreLinearizable, CoupledAreLed}
+use Rattle.art_schedules.specs.coupled_runs.Linear.{CoupledAreLed}
 use Rattle.art_schedules.proofs.coupled_runs.LedLemmas as led
 use Rattle.art_schedules.proofs.coupled_runs.OwnLemmas.{own-step}
-use Rattle.art_schedules.specs.changes.Courses.{TreeGoesOn}
 use Rattle.art_schedules.proofs.calls.ScriptLemmas.{next-tree}
 use Rattle.art_schedules.proofs.stories.OpenLemmas.{set-here, set-other, same-stage}
 

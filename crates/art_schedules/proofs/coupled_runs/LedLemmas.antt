@@ -1,46 +1,15 @@
 -- What fits each call of the coupled tree is kept by each step of a run.
-use Rattle.std.proofs.Common.{◌≡◌, ◌≢◌, ℕ, ◌+◌, true, false, List, [], ◌∷◌, ◌++◌, length, refl, sym, ap, subst, ◌∙◌, ⊎_elim, arith}
-use Rattle.std.specs.Prelude.{slice_index, Option, Some, None}
-use Rattle.std.proofs.lemmas.Option.{same_Some, none-some}
-use Rattle.events.specs.declared.event.Call.{Call}
-use Rattle.map_object.specs.MapObject.{Contents}
-use Rattle.art_rows.specs.declared.table.Shape.{Shape}
-use Rattle.art_rows.specs.declared.table.Kind.{Kind}
-use Rattle.art_rows.specs.Table.{claims_of}
-use Rattle.art_rows.specs.Words.{is_obsolete, locked_word}
-use Rattle.art_rows.proofs.KindLemmas.{claims-few}
-use Rattle.art_steps.specs.declared.variant.Variant.TheVariants.{Coupled}
-use Rattle.art_steps.specs.declared.access.Access.TheVariants.{Exchange as Swap}
-use Rattle.art_steps.specs.declared.access.Point.{Point}
-use Rattle.art_steps.specs.Steps.{Asks}
-use Rattle.art_stages.specs.declared.stage.Held.{Held}
-use Rattle.art_stages.specs.declared.stage.Hold.{Hold}
-use Rattle.art_stages.specs.declared.stage.Outcome.{Outcome}
-use Rattle.art_stages.specs.declared.stage.Stage.{Stage}
-use Rattle.art_stages.specs.declared.stage.Stage.TheVariants.{Unlock, Obsolete}
-use Rattle.art_stages.specs.Stages.{setting}
-use Rattle.art_stages.specs.Calls.{OnKey, call_turn}
-use Rattle.art_core.specs.declared.process.Process.{Process}
-use Rattle.art_core.specs.Core.{Plan, State}
-use Rattle.art_serial.specs.trees.Trees.{IsClaimed}
-use Rattle.art_versions.specs.versions.Holding.{Named}
-use Rattle.art_versions.specs.versions.Versions.{IsOpen, stage_of, IsAtStage}
-use Rattle.art_versions.proofs.versions.KnownLemmas.{same-call}
-use Rattle.art_schedules.specs.calm.Calm.{calm_of}
-use Rattle.art_schedules.specs.calm.Changes.{AsksFor}
+use Rattle.art_schedules.proofs.Common.{◌≡◌, ◌≢◌, ℕ, ◌+◌, true, false, List, [], ◌∷◌, ◌++◌, length, refl, sym, ap, subst, ◌∙◌, ⊎_elim, arith}
+use Rattle.art_schedules.proofs.Common.{slice_index, Option, Some, None, same_Some, none-some, Call, Contents, Shape, Kind, claims_of}
+use Rattle.art_schedules.proofs.Common.{is_obsolete, locked_word, claims-few, Coupled, Swap, Point, Asks, Held, Hold, Outcome, Stage, Unlock}
+use Rattle.art_schedules.proofs.Common.{Obsolete, setting, OnKey, call_turn, Process, Plan, State, IsClaimed, Named, IsOpen, stage_of, IsAtStage}
+use Rattle.art_schedules.proofs.Common.{same-call, calm_of, AsksFor, Effect, IsGoneBy, ComesInBy, TreeGoesOn, HasFewClaims, KeepsTree, Status}
+use Rattle.art_schedules.proofs.Common.{Tale, IsToldStep, AllFit, IsLedOn, set_at, the_plan, ObsoleteLeave, TakesLive, MakesLeave, LeavesBy}
+use Rattle.art_schedules.proofs.Common.{HeldAreLive, IsCoupledStep, TakesReached, Makes, HoldsReached, IsOther, ghosts_with, IsWorking, HasNone}
+use Rattle.art_schedules.proofs.Common.{OfScans, CoupledFits, ScansAreKept}
 use Rattle.art_schedules.proofs.calm.CalmLemmas.{claimed-row}
-use Rattle.art_schedules.specs.changes.Effects.{Effect}
-use Rattle.art_schedules.specs.changes.Courses.{IsGoneBy, ComesInBy, TreeGoesOn}
-use Rattle.art_schedules.specs.changes.Follows.{HasFewClaims, KeepsTree}
-use Rattle.art_schedules.specs.stories.Stories.{Status, Tale}
-use Rattle.art_schedules.specs.stories.Fitting.{IsToldStep, AllFit, IsLedOn, set_at, the_plan}
-use Rattle.art_schedules.specs.coupled.Moments.{ObsoleteLeave, TakesLive, MakesLeave, LeavesBy, HeldAreLive, IsCoupledStep}
-use Rattle.art_schedules.specs.coupled.Good.{TakesReached}
 use Rattle.art_schedules.proofs.coupled.MadeLemmas.{Facts, facts}
-use Rattle.art_schedules.specs.effects.Outcomes.{Makes, HoldsReached, IsOther}
-use Rattle.art_schedules.specs.coupled_runs.CoupledFits.{Ghosts, ghosts_with, IsWorld, IsWorking, HasNone, OfScans}
-use Rattle.art_schedules.specs.coupled_runs.CoupledFits.{IsFit, Seeks, Works, Finds, Ends, Walks, CoupledFits}
-use Rattle.art_schedules.specs.coupled_runs.KeptScans.{ScansAreKept}
+use Rattle.art_schedules.specs.coupled_runs.CoupledFits.{Ghosts, IsWorld, IsFit, Seeks, Works, Finds, Ends, Walks}
 use Rattle.art_schedules.proofs.coupled_runs.PartLaws.{LawsOfParts}
 use Rattle.art_schedules.proofs.changes.EffectLemmas.{gone-reached}
 use Rattle.art_schedules.proofs.work.CallLemmas.{key-same}

@@ -1,11 +1,6 @@
 -- What a call at work makes obsolete leaves the tree, as calls on their way know of it; and the row that it brings is its fresh one.
-use Rattle.std.proofs.Common.{◌≡◌, ℕ, sym, ap, ◌∙◌}
-use Rattle.std.specs.Prelude.{Option, Some}
-use Rattle.art_rows.specs.declared.table.Kind.{Kind}
-use Rattle.art_rows.specs.declared.table.Kind.TheVariants.{Four}
-use Rattle.art_versions.specs.versions.Holding.{Named}
-use Rattle.art_schedules.specs.changes.Effects.{Effect, Keeps, Fills, PutsLeaf, RemovesLeaf, HangsPair, HangsGrown, ComesIn}
-use Rattle.art_schedules.specs.effects.AtWork.{fresh_of}
+use Rattle.art_schedules.proofs.Common.{◌≡◌, ℕ, sym, ap, ◌∙◌, Option, Some, Kind, Four, Named, Effect, Keeps, Fills, PutsLeaf, RemovesLeaf}
+use Rattle.art_schedules.proofs.Common.{HangsPair, HangsGrown, ComesIn, fresh_of}
 
 -- the row that an effect brings
 pub fresh-is : (e : Effect) (fresh : Option Named) → fresh ≡ fresh_of e → (b : ℕ) (k : Kind) → ComesIn e b k → fresh ≡ Some (b, k)

@@ -1,61 +1,30 @@
 -- What a call of the coupled tree does in a step of its own.
-use Rattle.std.proofs.Common.{◌≡◌, ◌⊎◌, ℕ, true, false, List, [], ◌∷◌, ◌++◌, length, refl, sym, ap, subst, ◌∙◌, inl, inr, ⊎_elim}
-use Rattle.std.specs.Prelude.{Option, Some, None}
-use Rattle.std.proofs.lemmas.Option.{none-some}
-use Rattle.events.specs.declared.event.Call.{Call}
-use Rattle.events.specs.declared.event.Reply.{Reply}
+use Rattle.art_schedules.proofs.Common.{◌≡◌, ◌⊎◌, ℕ, true, false, List, [], ◌∷◌, ◌++◌, length, refl, sym, ap, subst, ◌∙◌, inl, inr, ⊎_elim}
+use Rattle.art_schedules.proofs.Common.{Option, Some, None, none-some, Call, Reply, Contents, Shape, Coupled, Access, Swap, Point, Asks}
+use Rattle.art_schedules.proofs.Common.{is_tree_call, is_insert, is_scan, Held, Hold, Stage, Unlock, Obsolete, Over, Work, setting, ScanAt}
+use Rattle.art_schedules.proofs.Common.{turn_at, work_at, OnKey, OnScan, call_turn, Process, Plan, State, begun, opened_on, Each, Knows, holds}
+use Rattle.art_schedules.proofs.Common.{all_of, lock_of, locks_of, rows_of_hold, IsAmong, IsOpen, stage_of, held_by, IsAtStage, each-map}
+use Rattle.art_schedules.proofs.Common.{calm_of, RowsOf, Effect, Status, Before, Found, Changed, HasNotChanged, Tale, IsToldStep, AllFit}
+use Rattle.art_schedules.proofs.Common.{IsLedOn, OwnStep, Changes, Next, Stays, FindsNow, MakesAccess, set_at, the_plan, IsHeldLive, TakesLive}
+use Rattle.art_schedules.proofs.Common.{MakesLeave, LeavesBy, IsCoupledStep, HoldsGood, TakesReached, AtWork, AtEnd, Answering, Leaving, Makes}
+use Rattle.art_schedules.proofs.Common.{IsRefused, TakesEffect, obsolete_by, WorkerStep, EnderStep, ghosts_with, IsWorking, HasNone, OfScans}
+use Rattle.art_schedules.proofs.Common.{CoupledFits, ScansAreKept, BeginsWork, IsInTree}
 use Rattle.events.specs.declared.event.Reply.TheVariants.{Refused}
-use Rattle.map_object.specs.MapObject.{Contents}
-use Rattle.art_rows.specs.declared.table.Shape.{Shape}
-use Rattle.art_steps.specs.declared.variant.Variant.TheVariants.{Coupled}
-use Rattle.art_steps.specs.declared.access.Access.{Access}
-use Rattle.art_steps.specs.declared.access.Access.TheVariants.{Exchange as Swap}
-use Rattle.art_steps.specs.declared.access.Point.{Point}
-use Rattle.art_steps.specs.Steps.{Asks}
-use Rattle.art_steps.specs.TreeCalls.{is_tree_call}
-use Rattle.art_steps.specs.Rows.{is_insert, is_scan}
-use Rattle.art_stages.specs.declared.stage.Held.{Held}
-use Rattle.art_stages.specs.declared.stage.Hold.{Hold}
-use Rattle.art_stages.specs.declared.stage.Stage.{Stage}
-use Rattle.art_stages.specs.declared.stage.Stage.TheVariants.{Unlock, Obsolete, Over}
-use Rattle.art_stages.specs.declared.stage.Work.{Work}
-use Rattle.art_stages.specs.Stages.{setting}
-use Rattle.art_stages.specs.Scans.{ScanAt}
-use Rattle.art_stages.specs.Automaton.{turn_at, work_at}
-use Rattle.art_stages.specs.Calls.{OnKey, OnScan, call_turn}
-use Rattle.art_core.specs.declared.process.Process.{Process}
-use Rattle.art_core.specs.Core.{Plan, State, begun, opened_on}
-use Rattle.art_versions.specs.versions.Holding.{Each, Knows, holds}
-use Rattle.art_versions.specs.versions.Locking.{all_of, lock_of, locks_of, rows_of_hold}
-use Rattle.art_versions.specs.versions.Effects.{IsAmong}
-use Rattle.art_versions.specs.versions.Versions.{IsOpen, stage_of, held_by, IsAtStage}
-use Rattle.art_versions.proofs.versions.KnownLemmas.{each-map}
-use Rattle.art_schedules.specs.calm.Calm.{calm_of}
-use Rattle.art_schedules.specs.work.Works.{RowsOf}
 use Rattle.art_schedules.proofs.work.OwnLemmas.{rows-known}
-use Rattle.art_schedules.specs.changes.Effects.{Effect}
-use Rattle.art_schedules.specs.stories.Stories.{Status, Before, Found, Changed, HasNotChanged, Tale}
-use Rattle.art_schedules.specs.stories.Fitting.{IsToldStep, AllFit, IsLedOn, OwnStep, Keeps, Changes, Next, Stays, FindsNow, MakesAccess}
-use Rattle.art_schedules.specs.stories.Fitting.{set_at, the_plan}
-use Rattle.art_schedules.specs.coupled.Knows.{KnowsWay, IsHeldLive}
+use Rattle.art_schedules.specs.stories.Fitting.{Keeps}
+use Rattle.art_schedules.specs.coupled.Knows.{KnowsWay}
 use Rattle.art_schedules.specs.coupled.Goes as goes
-use Rattle.art_schedules.specs.coupled.Moments.{GoesFrom, StaysFrom, TakesLive, MakesLeave, LeavesBy, IsCoupledStep}
-use Rattle.art_schedules.specs.coupled.Good.{HoldsGood, TakesReached}
-use Rattle.art_schedules.specs.effects.AtWork.{AtWork, AtEnd, Answering, Leaving}
-use Rattle.art_schedules.specs.effects.Outcomes.{Makes, Works as WorksOn, IsRefused, TakesEffect}
-use Rattle.art_schedules.specs.effects.Marks.{obsolete_by, WorkerStep, EnderStep}
-use Rattle.art_schedules.specs.coupled_runs.CoupledFits.{Ghosts, ghosts_with, IsWorld, IsWorking, HasNone, OfScans}
-use Rattle.art_schedules.specs.coupled_runs.CoupledFits.{IsFit, Seeks, Works, Finds, Ends, Walks, CoupledFits}
+use Rattle.art_schedules.specs.coupled.Moments.{GoesFrom, StaysFrom}
+use Rattle.art_schedules.specs.effects.Outcomes.{Works as WorksOn}
+use Rattle.art_schedules.specs.coupled_runs.CoupledFits.{Ghosts, IsWorld, IsFit, Seeks, Works, Finds, Ends, Walks}
 use Rattle.art_schedules.proofs.coupled_runs.PartLaws.{LawsOfParts}
-use Rattle.art_schedules.specs.coupled_runs.KeptScans.{ScanStep, ScansAreKept}
+use Rattle.art_schedules.specs.coupled_runs.KeptScans.{ScanStep}
 use Rattle.art_schedules.proofs.coupled_runs.StageLemmas.{work-claimed}
 use Rattle.art_schedules.proofs.coupled_runs.MarkBridgeLemmas.{fresh-is}
 use Rattle.art_schedules.proofs.coupled_runs.LedLemmas as led
 use Rattle.art_schedules.proofs.coupled.MoveLemmas.{works-hold}
 use Rattle.art_schedules.proofs.work.CallLemmas.{key-scan}
 use Rattle.art_schedules.proofs.stories.OpenLemmas.{set-here, same-stage}
-use Rattle.art_schedules.specs.effects.Begins.{BeginsWork}
-use Rattle.art_schedules.specs.work.Ways.{IsInTree}
 
 -- an end takes no row
 end-swaps : (shape : Shape) (real calm : List ℕ) (call : Call) (reply : Reply) (stage : Stage)

@@ -1,15 +1,10 @@
 -- The laws of the parts of which the proof is made.
-use Rattle.art_schedules.specs.changes.Laws.{KeptTreesFollow}
-use Rattle.art_schedules.specs.effects.Laws.{WorkBegins, WorkersMayHaveNoMark, OthersKeepMarked, WorkersGoOn, ObsoleteRowsHang}
-use Rattle.art_schedules.specs.effects.Laws.{WorkersOnlyWork}
-use Rattle.art_schedules.specs.effects.Laws.{OthersKeepEnds, EndersGoOn}
-use Rattle.art_schedules.specs.coupled.Laws.{CallsBegin, CallsGoOn, CallsStay, FoundIsAnswered, OthersLeaveWays, WaysTakeLive}
-use Rattle.art_schedules.specs.coupled.Laws.{ObsoleteRowsLeave, RestsHaveNone}
-use Rattle.art_schedules.specs.coupled.Good.{WaysTakeReached, GoodRowsStay, OthersLeaveGood, SeekersAreNotAnswered}
-use Rattle.art_schedules.specs.locked_scans.Laws.{ScansBegin, ScansComeOn, WalkedScansFind, FoundScansStay, FoundScansAnswer}
-use Rattle.art_schedules.specs.locked_scans.Laws.{WalkingScansAsk}
-use Rattle.art_schedules.specs.locked_scans.Laws.{ScansTakeLive, ScansTakeReached, OthersLeaveScans, OthersLeaveTrees}
-use Rattle.art_schedules.specs.stories.Laws.{StartsAreAtRest, StoriesGiveOrders}
+use Rattle.art_schedules.proofs.Common.{KeptTreesFollow, WorkBegins, WorkersMayHaveNoMark, OthersKeepMarked, WorkersGoOn, ObsoleteRowsHang}
+use Rattle.art_schedules.proofs.Common.{WorkersOnlyWork, OthersKeepEnds, EndersGoOn, CallsBegin, CallsGoOn, CallsStay, FoundIsAnswered}
+use Rattle.art_schedules.proofs.Common.{OthersLeaveWays, WaysTakeLive, ObsoleteRowsLeave, RestsHaveNone, WaysTakeReached, GoodRowsStay}
+use Rattle.art_schedules.proofs.Common.{OthersLeaveGood, SeekersAreNotAnswered, ScansBegin, ScansComeOn, WalkedScansFind, FoundScansStay}
+use Rattle.art_schedules.proofs.Common.{FoundScansAnswer, WalkingScansAsk, ScansTakeLive, ScansTakeReached, OthersLeaveScans, OthersLeaveTrees}
+use Rattle.art_schedules.proofs.Common.{StartsAreAtRest, StoriesGiveOrders}
 
 -- each of them, by the name of the function that carries it; some functions carry two
 pub record LawsOfParts : Type 0 where

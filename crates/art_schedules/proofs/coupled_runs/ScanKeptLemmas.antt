@@ -1,49 +1,19 @@
 -- What fits an open scan of the coupled tree is kept by each step of a run.
-use Rattle.std.proofs.Common.{◌≡◌, ◌≢◌, ◌⊎◌, inl, inr, ℕ, ◌+◌, List, [], ◌∷◌, ◌++◌, length, refl, sym, ap, subst, ◌∙◌, arith}
-use Rattle.std.specs.Prelude.{Option, None}
-use Rattle.std.proofs.lemmas.Bool.{false≢true}
-use Rattle.std.proofs.lemmas.Option.{same_Some}
-use Rattle.events.specs.declared.event.Call.{Call}
-use Rattle.events.specs.declared.event.Call.TheVariants.{Scan}
-use Rattle.events.specs.declared.event.Reply.{Reply}
-use Rattle.map_object.specs.MapObject.{Contents, reply_to}
-use Rattle.art_rows.specs.declared.table.Shape.{Shape}
-use Rattle.art_rows.specs.Table.{claims_of}
-use Rattle.art_rows.specs.Words.{is_obsolete}
-use Rattle.art_rows.proofs.KindLemmas.{claims-few}
-use Rattle.art_steps.specs.declared.variant.Variant.TheVariants.{Coupled}
-use Rattle.art_steps.specs.declared.access.Access.{Access}
-use Rattle.art_steps.specs.Steps.{Answers}
-use Rattle.art_stages.specs.declared.stage.Held.{Held}
+use Rattle.art_schedules.proofs.Common.{◌≡◌, ◌≢◌, ◌⊎◌, inl, inr, ℕ, ◌+◌, List, [], ◌∷◌, ◌++◌, length, refl, sym, ap, subst, ◌∙◌, arith, Option}
+use Rattle.art_schedules.proofs.Common.{None, false≢true, same_Some, Call, Scan, Reply, Contents, reply_to, Shape, claims_of, is_obsolete}
+use Rattle.art_schedules.proofs.Common.{claims-few, Coupled, Access, Answers, Held, Release, setting, ScanAt, scan_turn, scan_start, OnScan}
+use Rattle.art_schedules.proofs.Common.{call_turn, Process, Plan, State, begun, opened_on, IsAmong, holds, IsOpen, stage_of, IsAtStage, calm_of}
+use Rattle.art_schedules.proofs.Common.{Effect, IsGoneBy, pairs_by, ComesInBy, Follows, KeepsTree, Status, Before, Found, Changed, Tale}
+use Rattle.art_schedules.proofs.Common.{IsToldStep, Next, Stays, FindsNow, BeginsCall, MakesAccess, AnswersCall, HasItsReply, the_plan}
+use Rattle.art_schedules.proofs.Common.{KnowsTree, ObsoleteLeave, IsCoupledStep, HoldsGood, Makes, ScanComes, ScanStays, rows_of_scan, HaveScans}
+use Rattle.art_schedules.proofs.Common.{IsOver}
 use Rattle.art_stages.specs.declared.stage.ScanStep as stage
-use Rattle.art_stages.specs.declared.stage.ScanStep.TheVariants.{Release, Over}
-use Rattle.art_stages.specs.Stages.{setting}
-use Rattle.art_stages.specs.Scans.{ScanAt, scan_turn, scan_start}
-use Rattle.art_stages.specs.Calls.{OnScan, call_turn}
-use Rattle.art_core.specs.declared.process.Process.{Process}
-use Rattle.art_core.specs.Core.{Plan, State, begun, opened_on}
-use Rattle.art_versions.specs.versions.Effects.{IsAmong}
-use Rattle.art_versions.specs.versions.Holding.{holds}
-use Rattle.art_versions.specs.versions.Versions.{IsOpen, stage_of, IsAtStage}
-use Rattle.art_schedules.specs.calm.Calm.{calm_of}
+use Rattle.art_stages.specs.declared.stage.ScanStep.TheVariants.{Over}
 use Rattle.art_schedules.proofs.calm.VersionLemmas.{locked-same}
-use Rattle.art_schedules.specs.changes.Effects.{Effect}
-use Rattle.art_schedules.specs.changes.Courses.{IsGoneBy, pairs_by, ComesInBy}
-use Rattle.art_schedules.specs.changes.Follows.{Follows, KeepsTree}
-use Rattle.art_schedules.specs.stories.Stories.{Status, Before, Found, Changed, Tale}
-use Rattle.art_schedules.specs.stories.Fitting.{IsToldStep, Next, Stays, FindsNow, BeginsCall, MakesAccess, AnswersCall, HasItsReply}
-use Rattle.art_schedules.specs.stories.Fitting.{the_plan}
-use Rattle.art_schedules.specs.coupled.Scanning.{KnowsTree}
-use Rattle.art_schedules.specs.coupled.Moments.{ObsoleteLeave, IsCoupledStep}
-use Rattle.art_schedules.specs.coupled.Good.{HoldsGood}
 use Rattle.art_schedules.proofs.coupled.MadeLemmas.{Facts, facts}
-use Rattle.art_schedules.specs.effects.Outcomes.{Makes}
-use Rattle.art_schedules.specs.locked_scans.Walking.{ScanComes, ScanStays, rows_of_scan}
 use Rattle.art_schedules.specs.coupled_runs.KeptScans.{ScanStep}
-use Rattle.art_schedules.specs.coupled_runs.Linear.{HaveScans}
 use Rattle.art_schedules.specs.coupled_runs.ScanFits.{KnowsScan, IsKnownScan, CoupledScans}
 use Rattle.art_schedules.proofs.coupled_runs.PartLaws.{LawsOfParts}
-use Rattle.art_schedules.specs.coupled.Walks.{IsOver}
 
 -- a walk is over, or is not
 walked-or-not : (step : stage.ScanStep) → IsOver step ⊎ (IsOver step → ⊥)

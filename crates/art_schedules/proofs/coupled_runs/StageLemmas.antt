@@ -1,14 +1,7 @@
 -- Small facts of stages, of ghosts, and of calls that are open.
-use Rattle.std.proofs.Common.{◌≡◌, ℕ, List, sym, subst, ◌∙◌}
-use Rattle.std.specs.Prelude.{Option, Some}
-use Rattle.std.proofs.lemmas.Option.{same_Some, none-some}
-use Rattle.art_rows.specs.declared.table.Kind.TheVariants.{Four}
-use Rattle.art_steps.specs.Rows.{Setting}
-use Rattle.art_stages.specs.declared.stage.Stage.{Stage}
-use Rattle.art_serial.specs.trees.Trees.{IsClaimed}
-use Rattle.art_versions.specs.versions.Holding.{Named}
-use Rattle.art_schedules.specs.changes.Effects.{Effect, Keeps, Fills, PutsLeaf, RemovesLeaf, HangsPair, HangsGrown}
-use Rattle.art_schedules.specs.effects.AtWork.{AtWork, Claiming, Going, Hanging, IsPending, fresh_of, HasNew}
+use Rattle.art_schedules.proofs.Common.{◌≡◌, ℕ, List, sym, subst, ◌∙◌, Option, Some, same_Some, none-some, Four, Setting, Stage, IsClaimed}
+use Rattle.art_schedules.proofs.Common.{Named, Effect, Keeps, Fills, PutsLeaf, RemovesLeaf, HangsPair, HangsGrown, AtWork, Claiming, Going}
+use Rattle.art_schedules.proofs.Common.{Hanging, IsPending, fresh_of, HasNew}
 
 -- the fresh row of a call at work was claimed
 pub work-claimed : (c : Setting) (real calm : List ℕ) (fresh : Option Named) (stage : Stage) → AtWork c real calm fresh stage

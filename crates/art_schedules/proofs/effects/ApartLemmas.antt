@@ -1,16 +1,7 @@
 -- The fresh rows of calls at work are apart.
-use Rattle.std.proofs.Common.{◌≡◌, inl, inr, ℕ, List, sym, ◌∙◌, subst}
-use Rattle.std.specs.Prelude.{Option, Some, None}
-use Rattle.std.proofs.lemmas.Option.{same_Some, none-some}
-use Rattle.art_rows.specs.declared.table.Kind.TheVariants.{Four}
-use Rattle.art_steps.specs.Rows.{Setting}
-use Rattle.art_stages.specs.declared.stage.Stage.{Stage}
-use Rattle.art_core.specs.Core.{State}
-use Rattle.art_serial.specs.trees.Trees.{IsClaimed}
-use Rattle.art_versions.specs.versions.Holding.{Named}
-use Rattle.art_schedules.specs.changes.Effects.{Effect, Keeps, Fills, PutsLeaf, RemovesLeaf, HangsPair, HangsGrown}
-use Rattle.art_schedules.specs.effects.AtWork.{fresh_of, IsPending, AtWork, Claiming, Going, Hanging}
-use Rattle.art_schedules.specs.effects.Outcomes.{IsOther, FreshGoesOn, AreTwoRows}
+use Rattle.art_schedules.proofs.Common.{◌≡◌, ℕ, List, sym, subst, Option, Some, None, same_Some, none-some, Four, Setting, Stage, IsClaimed}
+use Rattle.art_schedules.proofs.Common.{Named, Effect, Keeps, Fills, PutsLeaf, RemovesLeaf, HangsPair, HangsGrown, fresh_of, IsPending, AtWork}
+use Rattle.art_schedules.proofs.Common.{Claiming, Going, Hanging, IsOther, AreTwoRows}
 
 pending-claimed : (c : Setting) (real calm : List ℕ) (e : Effect) (old : Option ℕ) → IsPending c real calm e old → (row : Named)
     → fresh_of e ≡ Some row
@@ -30,26 +21,6 @@ pub fresh-claimed : (c : Setting) (real calm : List ℕ) (stage : Stage) (row : 
 fresh-claimed c real calm stage row (Claiming none g) = absurd (none-some row (sym none))
 fresh-claimed c real calm stage row (Going g) = g.new.claimed
 fresh-claimed c real calm stage row (Hanging g) = pending-claimed c real calm g.effect g.old g.pending row (sym g.fresh_row)
-
-apart-swap : (a b : Option Named) → AreTwoRows a b → AreTwoRows b a
-apart-swap None None h = tt
-apart-swap None (Some b) h = tt
-apart-swap (Some a) None h = tt
-apart-swap (Some a) (Some b) h = λ e. h (sym e)
-
-pub stay-apart : (c : Setting) (s : State) (calm : List ℕ) (stage : Stage) (fresh later other : Option Named)
-    → AtWork c s.words calm other stage
-    → FreshGoesOn c.shape s fresh later → AreTwoRows fresh other → AreTwoRows later other × AreTwoRows other later
-stay-apart c s calm stage fresh later other work (inl same) apart =
-    let now = subst (λ z. AreTwoRows z other) (sym same) apart in (now, apart-swap later other now)
-stay-apart c s calm stage fresh later other work (inr (row, is, unclaimed)) apart =
-    let now = subst (λ z. AreTwoRows z other) (sym is) (go other work) in (now, apart-swap later other now)
-  where
-    go : (other : Option Named) → AtWork c s.words calm other stage → AreTwoRows (Some row) other
-    go None work = tt
-    go (Some x) work = λ e.
-        let claimed = fresh-claimed c s.words calm stage x work in
-        unclaimed x.1 (record { number = claimed.number; claimed = claimed.claimed; within = claimed.within; is = e ∙ claimed.is })
 
 pub bring-theirs : (e : Effect) (other : Option Named) → AreTwoRows (fresh_of e) other → IsOther (Some e) other
 bring-theirs e None apart = tt

@@ -1,41 +1,16 @@
 -- What is known around a step of a run: before and behind it, and of the rows of other processes.
-use Rattle.std.proofs.Common.{◌≡◌, ◌≢◌, ℕ, ◌+◌, ◌^◌, ◌<◌, ◌≤◌, List, [], ◌∷◌, ◌++◌, refl, ap, sym, ◌∙◌, inl, inr}
-use Rattle.std.specs.Prelude.{◌⊎◌, slice_get, slice_index, Option, Some}
-use Rattle.std.proofs.lemmas.Bool.{cases_eq}
-use Rattle.std.proofs.lemmas.Option.{same_Some}
-use Rattle.map_object.specs.MapObject.{Contents}
-use Rattle.events.specs.declared.event.Call.{Call}
-use Rattle.art_rows.specs.declared.table.Shape.{Shape}
-use Rattle.art_rows.specs.Table.{kind_at}
-use Rattle.art_steps.specs.declared.variant.Variant.{Variant}
-use Rattle.art_steps.specs.declared.access.Access.{Access}
-use Rattle.art_steps.specs.declared.access.Point.{Point}
-use Rattle.art_steps.specs.Steps.{Turn, Asks}
-use Rattle.art_steps.specs.Rows.{locks}
-use Rattle.art_steps.specs.Fits.{word_of}
-use Rattle.art_stages.specs.declared.stage.Held.{Held}
-use Rattle.art_stages.specs.Stages.{setting}
-use Rattle.art_stages.specs.Calls.{call_turn, call_after, call_begun}
-use Rattle.art_core.specs.declared.process.Process.{Process}
-use Rattle.art_core.specs.Accesses.{told, got_by, words_after}
-use Rattle.art_core.specs.Core.{Plan, State, Move, Makes, after_move, moved, move_of, move_from}
-use Rattle.art_core.proofs.HistoryLemmas.{IsMoved, is-moved}
-use Rattle.art_serial.proofs.serial.OrderlyLemmas.{set-here}
-use Rattle.art_serial.specs.trees.Trees.{AreZeroPastClaims}
-use Rattle.art_versions.specs.versions.Holding.{IsKept}
-use Rattle.art_versions.specs.versions.Effects.{IsAmong}
-use Rattle.art_versions.specs.versions.Versions.{IsOpen, IsSettled, IsSound, stage_of, held_by}
-use Rattle.art_versions.specs.versions.Steady.{IsSteady, SameWords}
-use Rattle.art_versions.specs.versions.Writers.{WritesOwn, IsHeldBy, IsTakenBy, IsFilledBy}
-use Rattle.art_versions.specs.versions.Laws.{IsFull}
-use Rattle.art_versions.proofs.versions.ChangeLemmas.{set-other}
-use Rattle.art_versions.proofs.versions.FreshLemmas.{fresh-at}
-use Rattle.art_versions.proofs.versions.KnownLemmas.{held-is-kept}
-use Rattle.art_versions.proofs.versions.MoveLemmas.{settled-row}
-use Rattle.art_versions.proofs.versions.RunLemmas.{written-at}
-use Rattle.art_versions.proofs.versions.StepLemmas.{after-more, next-turn}
-use Rattle.art_schedules.specs.calm.Calm.{calm_of, IsCalm}
-use Rattle.art_schedules.specs.calm.Changes.{CalmStep, IsRunStep}
+use Rattle.art_schedules.proofs.Common.{◌≡◌, ◌≢◌, ℕ, ◌+◌, ◌^◌, ◌<◌, ◌≤◌, List, [], ◌∷◌, ◌++◌, refl, ap, sym, ◌∙◌, inl, inr, slice_get}
+use Rattle.art_schedules.proofs.Common.{slice_index, Option, Some, cases_eq, same_Some, Contents, Call, Shape, kind_at, Variant, Access, Point}
+use Rattle.art_schedules.proofs.Common.{Turn, Asks, locks, word_of, Held, setting, call_turn, call_after, call_begun, Process, told, got_by}
+use Rattle.art_schedules.proofs.Common.{words_after, Plan, State, Move, after_move, moved, move_of, move_from, is-moved, set-here}
+use Rattle.art_schedules.proofs.Common.{AreZeroPastClaims, IsKept, IsAmong, IsOpen, IsSettled, IsSound, stage_of, held_by, IsSteady, SameWords}
+use Rattle.art_schedules.proofs.Common.{WritesOwn, IsFull, set-other, fresh-at, held-is-kept, settled-row, written-at, after-more, next-turn}
+use Rattle.art_schedules.proofs.Common.{calm_of, IsCalm, CalmStep}
+use Rattle.std.specs.Prelude.{◌⊎◌}
+use Rattle.art_core.specs.Core.{Makes}
+use Rattle.art_core.proofs.HistoryLemmas.{IsMoved}
+use Rattle.art_versions.specs.versions.Writers.{IsHeldBy, IsTakenBy, IsFilledBy}
+use Rattle.art_schedules.specs.calm.Changes.{IsRunStep}
 use Rattle.art_schedules.proofs.calm.InductionLemmas.{step-of-run}
 use Rattle.art_schedules.proofs.calm.RunLemmas.{calm-at, step-at}
 

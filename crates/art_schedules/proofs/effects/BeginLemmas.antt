@@ -1,18 +1,8 @@
 -- What is so where work begins.
-use Rattle.std.proofs.Common.{◌≡◌, ℕ, List, true, false, refl, sym, inl, inr}
-use Rattle.std.proofs.lemmas.Option.{none-some}
-use Rattle.std.specs.Prelude.{Option, Some}
-use Rattle.events.specs.declared.event.Call.{Call}
-use Rattle.events.specs.declared.event.Call.TheVariants.{Get, Insert, Remove, Scan, Replace}
-use Rattle.art_rows.specs.declared.table.Child.{Child}
-use Rattle.art_rows.specs.declared.table.Child.TheVariants.{Empty, Row, Leaf}
-use Rattle.art_steps.specs.Rows.{Setting, is_scan, is_insert}
-use Rattle.art_steps.specs.Updates.{overwriting}
-use Rattle.art_stages.specs.declared.stage.Hold.{Hold}
-use Rattle.art_stages.specs.declared.stage.Work.{Work}
+use Rattle.art_schedules.proofs.Common.{◌≡◌, ℕ, List, true, false, refl, sym, inl, inr, none-some, Option, Some, Call, Get, Insert, Remove, Scan}
+use Rattle.art_schedules.proofs.Common.{Replace, Child, Empty, Row, Leaf, Setting, is_scan, is_insert, overwriting, Hold, Work, child_on}
+use Rattle.art_schedules.proofs.Common.{BeginsWork, IsOverwritten}
 use Rattle.art_stages.specs.declared.stage.Work.TheVariants as work
-use Rattle.art_core.specs.Meaning.{child_on}
-use Rattle.art_schedules.specs.effects.Begins.{BeginsWork, IsOverwritten}
 use Rattle.art_schedules.proofs.work.CallLemmas.{is-insert}
 
 inserts-do-not-scan : (call : Call) → is_insert call ≡ true → is_scan call ≡ false

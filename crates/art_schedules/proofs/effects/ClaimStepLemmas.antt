@@ -1,61 +1,24 @@
 -- A call at work while it claims its row.
-use Rattle.std.proofs.Common.{◌≡◌, inl, inr, ℕ, ◌+◌, ◌%◌, ◌^◌, ◌<◌, ◌≤◌, List, [], ◌∷◌, slice_index, true, refl, sym, ap, ◌∙◌, subst, arith}
-use Rattle.std.specs.Prelude.{nat_lt, Some, None, if◌then◌else◌}
-use Rattle.std.proofs.lemmas.Bool.{cases_lt, lt-ltb, le-ltb}
-use Rattle.events.specs.declared.event.Call.{Call}
-use Rattle.map_object.specs.MapObject.{Contents}
-use Rattle.art_rows.specs.declared.table.Shape.{Shape}
-use Rattle.art_rows.specs.declared.table.Kind.{Kind}
-use Rattle.art_rows.specs.declared.table.Kind.TheVariants.{Four}
-use Rattle.art_rows.specs.Table.{rows_of, claims_of, base_of}
-use Rattle.art_rows.specs.Words.{is_obsolete}
-use Rattle.art_rows.proofs.KindLemmas.{some-words, claims-few}
-use Rattle.art_serial.proofs.words.TableLemmas.{row_begins, kind_at-base_of, base_of-once}
-use Rattle.art_steps.specs.declared.variant.Variant.{Variant}
-use Rattle.art_steps.specs.declared.access.Access.TheVariants.{Add}
-use Rattle.art_steps.specs.Steps.{Asks}
-use Rattle.art_steps.specs.Rows.{Setting}
-use Rattle.art_steps.specs.Updates.{next_kind}
-use Rattle.art_steps.proofs.TurnLemmas.{store-add}
-use Rattle.art_stages.specs.declared.stage.Held.{Held}
-use Rattle.art_stages.specs.declared.stage.Hold.{Hold}
+use Rattle.art_schedules.proofs.Common.{◌≡◌, inl, inr, ℕ, ◌+◌, ◌%◌, ◌^◌, ◌<◌, ◌≤◌, List, [], ◌∷◌, true, refl, sym, ap, ◌∙◌, subst, arith, nat_lt}
+use Rattle.art_schedules.proofs.Common.{Some, None, if◌then◌else◌, cases_lt, lt-ltb, le-ltb, Call, Contents, Shape, Kind, Four, rows_of}
+use Rattle.art_schedules.proofs.Common.{claims_of, base_of, is_obsolete, some-words, claims-few, row_begins, kind_at-base_of, base_of-once}
+use Rattle.art_schedules.proofs.Common.{Variant, Add, Asks, Setting, next_kind, store-add, Held, Hold, Refused, Work, Stage, StorePair, GrowInfo}
+use Rattle.art_schedules.proofs.Common.{Unlock, setting, turn_at, stage_after, work_at, OnKey, call_turn, call_after, Process, Plan, State}
+use Rattle.art_schedules.proofs.Common.{Means, IsAtRest, IsClaimed, IsUnused, ChildrenAreRead, stored-at, rows_of_hold, Each, Knows, IsOpen}
+use Rattle.art_schedules.proofs.Common.{stage_of, IsAtStage, index-other, settled-row, true-false, IsGoneBy, ComesInBy, EffectsFollow}
+use Rattle.art_schedules.proofs.Common.{KeptTreesFollow, IsUnreached, Solo, here, further, claims, RowsOf, BeginsWork, IsClaiming, claims_row}
+use Rattle.art_schedules.proofs.Common.{hold_at, FillsAt, AtWork, Going, Leaving, Makes, IsRefused, obsolete_by, WorkerStep, IsInTree, IsSame}
+use Rattle.std.proofs.Common.{slice_index}
 use Rattle.art_stages.specs.declared.stage.PairWord.TheVariants as pair_word
-use Rattle.art_stages.specs.declared.stage.Outcome.TheVariants.{Refused}
-use Rattle.art_stages.specs.declared.stage.Work.{Work}
 use Rattle.art_stages.specs.declared.stage.Work.TheVariants as work
-use Rattle.art_stages.specs.declared.stage.Stage.{Stage}
-use Rattle.art_stages.specs.declared.stage.Stage.TheVariants.{StorePair, GrowInfo, Unlock}
-use Rattle.art_stages.specs.Stages.{setting}
-use Rattle.art_stages.specs.Automaton.{turn_at, stage_after, work_at}
-use Rattle.art_stages.specs.Calls.{OnKey, call_turn, call_after}
-use Rattle.art_core.specs.declared.process.Process.{Process}
-use Rattle.art_core.specs.Core.{Plan, State}
-use Rattle.art_core.specs.Meaning.{Means}
-use Rattle.art_serial.specs.trees.Trees.{IsAtRest, IsClaimed, IsUnused}
-use Rattle.art_serial.specs.trees.Children.{ChildrenAreRead}
-use Rattle.art_serial.proofs.writes.StoreLemmas.{stored-at}
-use Rattle.art_versions.specs.versions.Locking.{rows_of_hold}
-use Rattle.art_versions.specs.versions.Holding.{Each, Knows}
-use Rattle.art_versions.specs.versions.Versions.{IsOpen, stage_of, IsAtStage}
-use Rattle.art_versions.proofs.versions.ChangeLemmas.{index-other}
-use Rattle.art_versions.proofs.versions.MoveLemmas.{settled-row, true-false}
 use Rattle.art_schedules.proofs.calm.UseLemmas.{without-store}
-use Rattle.art_schedules.specs.changes.Courses.{IsGoneBy, ComesInBy}
-use Rattle.art_schedules.specs.changes.Laws.{EffectsFollow, KeptTreesFollow}
-use Rattle.art_schedules.specs.changes.Written.{IsUnreached}
-use Rattle.art_schedules.specs.work.Solo.{Solo, here, further, claims}
-use Rattle.art_schedules.specs.work.Works.{RowsOf}
 use Rattle.art_schedules.proofs.work.OwnLemmas.{rows-known}
-use Rattle.art_schedules.specs.effects.Begins.{BeginsWork}
-use Rattle.art_schedules.specs.effects.AtWork.{IsClaiming, claims_row, hold_at, FillsAt, AtWork, Going, Leaving}
-use Rattle.art_schedules.specs.effects.Outcomes.{Makes, Works, IsRefused}
-use Rattle.art_schedules.specs.effects.Marks.{obsolete_by, WorkerStep}
+use Rattle.art_schedules.specs.effects.Outcomes.{Works}
 use Rattle.art_schedules.proofs.effects.AroundLemmas.{Around, OwnAccess, own-access}
 use Rattle.art_schedules.proofs.effects.KeptLemmas.{begins-kept, inside-kept, unreached-kept}
 use Rattle.art_schedules.proofs.effects.MarkLemmas.{obsolete-or}
 use Rattle.art_schedules.proofs.effects.OtherLemmas.{each-with, each-of}
 use Rattle.art_schedules.proofs.effects.ReleaseLemmas.{kept-by-words}
-use Rattle.art_schedules.specs.work.Ways.{IsInTree, IsSame}
 
 module _ (read : ChildrenAreRead) (trees : KeptTreesFollow) (effects : EffectsFollow) (plan : Plan) (p : ℕ) (s t : State)
     (calm after : List ℕ) (x : Around plan p s t calm after) (k : ℕ) (rest : IsAtRest plan.shape k calm) (m : Contents)

@@ -1,79 +1,38 @@
 -- A call at work, behind its claim and before its first release, while it steps.
-use Rattle.std.proofs.Common.{◌≡◌, ◌≢◌, ◌⊎◌, inl, inr, ℕ, ◌+◌, ◌-◌, ◌<◌, ◌≤◌, List, [], ◌∷◌, length, slice_index, Bool, false, refl, sym}
-use Rattle.std.proofs.Common.{ap, ◌∙◌, subst, arith}
-use Rattle.std.specs.Prelude.{take, slice_set, Option, Some, None}
-use Rattle.std.proofs.lemmas.Option.{same_Some, none-some}
-use Rattle.events.specs.declared.event.Call.{Call}
-use Rattle.map_object.specs.MapObject.{Contents}
-use Rattle.art_rows.specs.declared.table.Shape.{Shape}
-use Rattle.art_rows.specs.declared.table.Kind.{Kind}
-use Rattle.art_rows.specs.declared.table.Kind.TheVariants.{Four}
-use Rattle.art_rows.specs.Table.{row_words, base_of, table_words, kind_at}
-use Rattle.art_rows.specs.Words.{is_obsolete, key_bytes, info_word, row_word}
-use Rattle.art_rows.proofs.KindLemmas.{some-words}
-use Rattle.art_serial.proofs.words.TableLemmas.{row_begins, rows_apart}
-use Rattle.art_steps.specs.declared.variant.Variant.{Variant}
-use Rattle.art_steps.specs.declared.access.Access.{Access}
-use Rattle.art_steps.specs.declared.access.Access.TheVariants.{Load, Store}
-use Rattle.art_steps.specs.declared.access.Point.{Point}
-use Rattle.art_steps.specs.Steps.{Asks}
-use Rattle.art_steps.specs.Rows.{Setting, key_of}
-use Rattle.art_steps.specs.Updates.{next_kind, new_leaf}
-use Rattle.art_steps.proofs.TurnLemmas.{stores-same, load-store}
-use Rattle.art_stages.specs.declared.stage.Held.{Held}
-use Rattle.art_stages.specs.declared.stage.Hold.{Hold}
-use Rattle.art_stages.specs.declared.stage.Growing.{Growing}
-use Rattle.art_stages.specs.declared.stage.Pair.{Pair}
-use Rattle.art_stages.specs.declared.stage.PairWord.{PairWord}
+use Rattle.art_schedules.proofs.Common.{◌≡◌, ◌≢◌, ◌⊎◌, inl, inr, ℕ, ◌+◌, ◌-◌, ◌<◌, ◌≤◌, List, [], ◌∷◌, length, Bool, false, refl, sym, ap, ◌∙◌}
+use Rattle.art_schedules.proofs.Common.{subst, arith, slice_set, Option, Some, None, same_Some, none-some, Call, Contents, Shape, Kind, Four}
+use Rattle.art_schedules.proofs.Common.{row_words, base_of, table_words, kind_at, is_obsolete, key_bytes, info_word, row_word, some-words}
+use Rattle.art_schedules.proofs.Common.{row_begins, rows_apart, Variant, Access, Load, Store, Point, Asks, Setting, key_of, next_kind, new_leaf}
+use Rattle.art_schedules.proofs.Common.{stores-same, load-store, Held, Hold, Growing, Pair, PairWord, Value, Refused, Work, Stage, Write}
+use Rattle.art_schedules.proofs.Common.{StorePair, Hang, Unlock, Obsolete, setting, row_at, byte_in, old_child, new_child, turn_at, stage_after}
+use Rattle.art_schedules.proofs.Common.{work_at, pair_after, no_value, OnKey, call_turn, call_after, Process, Plan, State, Reached, Means}
+use Rattle.art_schedules.proofs.Common.{IsAtRest, SameRow, LeadsTo, ChildrenAreRead, load-same, stored-long, stored-at, way_byte, lock_of}
+use Rattle.art_schedules.proofs.Common.{locks_of, all_of, rows_of_hold, Named, Each, Knows, KnowsKey, holds, fills, IsAmong, IsBehindVersion}
+use Rattle.art_schedules.proofs.Common.{IsOpen, AreDistinct, stage_of, filled_by, IsAtStage, index-other, settled-row, true-false, is_busy}
+use Rattle.art_schedules.proofs.Common.{IsGoneBy, ComesInBy, EffectsFollow, KeptTreesFollow, Solo, further, loads, stores, IsHeldWord}
+use Rattle.art_schedules.proofs.Common.{TouchesOwn, LoadsHeld, StoresOwn, ClaimsRow, ReleasesHeld, Replies, may_release, RowsOf, IsRelease}
+use Rattle.art_schedules.proofs.Common.{IsDoneBy, PairHangs, GrownHangs, IsWorkDone, WorkIsDone, upper_of, upper_row, BeginsWork, hold_at}
+use Rattle.art_schedules.proofs.Common.{growing_at, FillsAt, HasNew, IsGoing, IsHanging, AtWork, Going, Hanging, HasFilledFresh, Makes, IsMarked}
+use Rattle.art_schedules.proofs.Common.{WorkerStep, IsInTree, IsSame}
+use Rattle.std.proofs.Common.{slice_index}
+use Rattle.std.specs.Prelude.{take}
 use Rattle.art_stages.specs.declared.stage.PairWord.TheVariants as pair_word
-use Rattle.art_stages.specs.declared.stage.Outcome.TheVariants.{Value, Refused}
-use Rattle.art_stages.specs.declared.stage.Work.{Work}
 use Rattle.art_stages.specs.declared.stage.Work.TheVariants as work
-use Rattle.art_stages.specs.declared.stage.Stage.{Stage}
-use Rattle.art_stages.specs.declared.stage.Stage.TheVariants.{Write, StorePair, Hang, Unlock, Obsolete}
-use Rattle.art_stages.specs.Stages.{setting, row_at, byte_in, old_child, new_child}
-use Rattle.art_stages.specs.Automaton.{turn_at, stage_after, work_at, pair_after, no_value}
-use Rattle.art_stages.specs.Calls.{OnKey, call_turn, call_after}
-use Rattle.art_core.specs.declared.process.Process.{Process}
-use Rattle.art_core.specs.Core.{Plan, State}
-use Rattle.art_core.specs.Meaning.{Reached, Means}
-use Rattle.art_serial.specs.trees.Trees.{IsAtRest, SameRow, LeadsTo}
-use Rattle.art_serial.specs.trees.Children.{ChildrenAreRead}
-use Rattle.art_serial.proofs.alone.AloneLemmas.{load-same}
-use Rattle.art_serial.proofs.writes.StoreLemmas.{stored-long, stored-at}
-use Rattle.art_serial.proofs.trees.Changes.{way_byte}
-use Rattle.art_versions.specs.versions.Locking.{lock_of, locks_of, all_of, rows_of_hold}
-use Rattle.art_versions.specs.versions.Holding.{Named, Each, Knows, KnowsKey, holds, fills}
-use Rattle.art_versions.specs.versions.Effects.{IsAmong, IsBehindVersion}
-use Rattle.art_versions.specs.versions.Versions.{IsOpen, AreDistinct, stage_of, filled_by, IsAtStage}
-use Rattle.art_versions.proofs.versions.ChangeLemmas.{index-other}
-use Rattle.art_versions.proofs.versions.MoveLemmas.{settled-row, true-false}
 use Rattle.art_versions.proofs.versions.LowLemmas.{first-item}
-use Rattle.art_schedules.specs.calm.Calm.{is_busy}
 use Rattle.art_schedules.proofs.calm.CalmLemmas.{claimed-row}
 use Rattle.art_schedules.proofs.calm.UseLemmas.{without-store, with-written, with-filled}
 use Rattle.art_schedules.proofs.calm.VersionLemmas.{free-busy}
-use Rattle.art_schedules.specs.changes.Courses.{IsGoneBy, ComesInBy}
-use Rattle.art_schedules.specs.changes.Laws.{EffectsFollow, KeptTreesFollow}
 use Rattle.art_schedules.proofs.changes.RowLemmas.{steady-row}
-use Rattle.art_schedules.specs.work.Solo.{Solo, further, loads, stores}
-use Rattle.art_schedules.specs.work.Own.{IsHeldWord, IsFilledWord, TouchesOwn, LoadsHeld, StoresOwn, ClaimsRow, ReleasesHeld, Replies}
-use Rattle.art_schedules.specs.work.Own.{may_release}
-use Rattle.art_schedules.specs.work.Works.{RowsOf, IsRelease, IsDoneBy, PairHangs, GrownHangs, IsWorkDone}
-use Rattle.art_schedules.specs.work.Laws.{WorkIsDone}
+use Rattle.art_schedules.specs.work.Own.{IsFilledWord}
 use Rattle.art_schedules.proofs.work.EndLemmas.{end-releases}
 use Rattle.art_schedules.proofs.work.GoingLemmas.{alike-set}
 use Rattle.art_schedules.proofs.work.OwnLemmas.{IsAllowed, allowed, rows-known}
 use Rattle.art_schedules.proofs.work.TouchLemmas.{work-own}
-use Rattle.art_schedules.proofs.work.WorkLemmas.{AtWork as InWork, at-work, holds-work, next-work, writes, pairs}
-use Rattle.art_schedules.proofs.work.WorkLemmas.{put_loads, put_stores, put_leaf, put_keys, put_more, put_count}
-use Rattle.art_schedules.proofs.work.WorkLemmas.{grow_info, grow_loads, grow_stores, spread_index, spread_loads}
-use Rattle.art_schedules.proofs.work.WorkLemmas.{spread_stores, grow_leaf, grow_keys, grow_count, hangs as hang_stage}
-use Rattle.art_schedules.specs.effects.Begins.{upper_of, upper_row, BeginsWork}
-use Rattle.art_schedules.specs.effects.AtWork.{hold_at, growing_at, FillsAt, HasNew, IsGoing, IsHanging, AtWork, Going}
-use Rattle.art_schedules.specs.effects.AtWork.{Hanging, FillsFresh, HasFilledFresh}
-use Rattle.art_schedules.specs.effects.Outcomes.{Makes, Works}
-use Rattle.art_schedules.specs.effects.Marks.{IsMarked, WorkerStep}
+use Rattle.art_schedules.proofs.work.WorkLemmas.{AtWork as InWork, at-work, holds-work, next-work, writes, pairs, put_loads, put_stores}
+use Rattle.art_schedules.proofs.work.WorkLemmas.{put_leaf, put_keys, put_more, put_count, grow_info, grow_loads, grow_stores, spread_index}
+use Rattle.art_schedules.proofs.work.WorkLemmas.{spread_loads, spread_stores, grow_leaf, grow_keys, grow_count, hangs as hang_stage}
+use Rattle.art_schedules.specs.effects.AtWork.{FillsFresh}
+use Rattle.art_schedules.specs.effects.Outcomes.{Works}
 use Rattle.art_schedules.proofs.effects.BeginLemmas.{no-scan}
 use Rattle.art_schedules.proofs.effects.AroundLemmas.{Around, OwnAccess, own-access}
 use Rattle.art_schedules.proofs.effects.KeptLemmas.{begins-kept, inside-kept, unreached-kept, fits-kept}
@@ -83,7 +42,6 @@ use Rattle.art_schedules.proofs.effects.ReleaseLemmas.{kept-by-words, kept-fille
 use Rattle.art_schedules.proofs.effects.StageLemmas.{place-work, work-place, grow-fills, grow-hold, grow-next, writes-fill, writes-next}
 use Rattle.art_schedules.proofs.effects.WorkBeginLemmas.{work-in}
 use Rattle.art_schedules.proofs.effects.HangLemmas.{slot-inside, write-hangs, put-hangs, pair-hangs, grown-hangs}
-use Rattle.art_schedules.specs.work.Ways.{IsInTree, IsSame}
 
 no-items : {row : Named} → ◌≡◌ {A = List Named} [] (row ∷ []) → ⊥
 no-items e = cc

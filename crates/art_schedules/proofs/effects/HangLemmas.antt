@@ -1,54 +1,21 @@
 -- What the work left at its first release is what its last release will do to calm's tree.
-use Rattle.std.proofs.Common.{◌≡◌, ◌≢◌, inl, inr, ℕ, ◌+◌, ◌^◌, ◌<◌, ◌≤◌, List, ◌++◌, length, slice_index, true, refl, sym, ap, ◌∙◌, subst}
-use Rattle.std.proofs.Common.{arith}
-use Rattle.std.proofs.Common.{eq-eqb, ne_eqb}
-use Rattle.std.specs.Prelude.{nat_lt, ◌&&◌, take, slice_set, Option, Some, None, if◌then◌else◌}
-use Rattle.std.proofs.lemmas.Bool.{cases_lt, cases_eq, and_parts, ltb-true, false≢true}
-use Rattle.std.proofs.lemmas.Option.{same_Some, none-some}
-use Rattle.events.specs.declared.event.Call.{Call}
-use Rattle.events.specs.declared.event.Call.TheVariants.{Get, Insert, Remove, Scan, Replace}
-use Rattle.map_object.specs.MapObject.{put, below, above as keys_above}
-use Rattle.art_rows.specs.declared.table.Shape.{Shape}
-use Rattle.art_rows.specs.declared.table.Kind.{Kind}
-use Rattle.art_rows.specs.declared.table.Kind.TheVariants.{Four}
-use Rattle.art_rows.specs.declared.table.Child.{Child}
-use Rattle.art_rows.specs.declared.table.Child.TheVariants.{Empty, Row, Leaf}
-use Rattle.art_rows.specs.Table.{row_words, table_words, info_at, kind_at}
-use Rattle.art_rows.specs.Words.{key_bytes, child_of, child_word, leaf_word, row_word, info_word, info_of}
-use Rattle.art_rows.proofs.KindLemmas.{first-some}
-use Rattle.art_rows.proofs.ByteLemmas.{key_byte-small}
-use Rattle.art_serial.proofs.words.TableLemmas.{row_ends, rows_apart, kind_at-base_of}
-use Rattle.art_steps.specs.TreeCalls.{is_tree_call}
-use Rattle.art_steps.specs.Rows.{Setting, key_of, is_insert, byte_at}
-use Rattle.art_steps.specs.Updates.{new_leaf, overwriting, next_kind}
-use Rattle.art_stages.specs.declared.stage.Held.{Held}
-use Rattle.art_stages.specs.declared.stage.Hold.{Hold}
-use Rattle.art_stages.specs.declared.stage.Pair.{Pair}
-use Rattle.art_stages.specs.declared.stage.Outcome.TheVariants.{Value}
-use Rattle.art_stages.specs.declared.stage.Stage.{Stage}
-use Rattle.art_stages.specs.declared.stage.Stage.TheVariants.{Unlock, Obsolete}
-use Rattle.art_stages.specs.Stages.{row_at, byte_in, old_child, new_child}
-use Rattle.art_stages.specs.Automaton.{no_value, hold_alone}
-use Rattle.art_core.specs.Meaning.{Reached, slot_of, child_in, child_on}
-use Rattle.art_core.specs.Forms.{level_in, path_in}
-use Rattle.art_serial.specs.trees.Trees.{IsAtRest, SameRow, LeadsTo, Parts}
-use Rattle.art_serial.proofs.alone.PlaceLemmas.{sits-kind_at}
-use Rattle.art_serial.proofs.alone.LikeLemmas.{sits}
-use Rattle.art_serial.proofs.alone.SlotLemmas.{slot-is, row-keys, form-same, IsChildWord}
-use Rattle.art_serial.proofs.inserts.OutcomeLemmas.{child-same}
-use Rattle.art_serial.specs.writes.Writes.{HasPut, IsOutside}
-use Rattle.art_serial.proofs.trees.Changes.{way_byte}
-use Rattle.art_versions.specs.versions.Locking.{rows_of_hold}
-use Rattle.art_versions.specs.versions.Holding.{Each}
-use Rattle.art_schedules.specs.changes.Effects.{Effect, PutsLeaf, RemovesLeaf, HangsPair, HangsGrown, IsGone}
+use Rattle.art_schedules.proofs.Common.{◌≡◌, ◌≢◌, inl, inr, ℕ, ◌+◌, ◌^◌, ◌<◌, ◌≤◌, List, ◌++◌, length, true, refl, sym, ap, ◌∙◌, subst, arith}
+use Rattle.art_schedules.proofs.Common.{eq-eqb, ne_eqb, nat_lt, ◌&&◌, slice_set, Option, Some, None, if◌then◌else◌, cases_lt, cases_eq}
+use Rattle.art_schedules.proofs.Common.{and_parts, ltb-true, false≢true, same_Some, none-some, Call, Get, Insert, Remove, Scan, Replace, put}
+use Rattle.art_schedules.proofs.Common.{Shape, Kind, Four, Child, Empty, Row, Leaf, row_words, table_words, info_at, kind_at, key_bytes}
+use Rattle.art_schedules.proofs.Common.{child_of, child_word, leaf_word, row_word, info_word, info_of, first-some, key_byte-small, row_ends}
+use Rattle.art_schedules.proofs.Common.{rows_apart, kind_at-base_of, is_tree_call, Setting, key_of, is_insert, byte_at, new_leaf, overwriting}
+use Rattle.art_schedules.proofs.Common.{next_kind, Held, Hold, Pair, Value, Stage, Unlock, Obsolete, row_at, byte_in, old_child, new_child}
+use Rattle.art_schedules.proofs.Common.{no_value, hold_alone, Reached, slot_of, child_in, child_on, level_in, path_in, IsAtRest, SameRow}
+use Rattle.art_schedules.proofs.Common.{LeadsTo, Parts, sits-kind_at, sits, slot-is, row-keys, form-same, IsChildWord, child-same, HasPut}
+use Rattle.art_schedules.proofs.Common.{IsOutside, way_byte, rows_of_hold, Each, Effect, PutsLeaf, RemovesLeaf, HangsPair, HangsGrown, IsGone}
+use Rattle.art_schedules.proofs.Common.{IsInsert, PairHangs, GrownHangs, upper_of, upper_row, IsOverwritten, IsOld, IsEffectOf, IsReleasing}
+use Rattle.art_schedules.proofs.Common.{Last, Lower, Gone, IsHanging, HasFilledFresh, HasWordAt, IsInTree, IsSame}
+use Rattle.std.proofs.Common.{slice_index}
+use Rattle.std.specs.Prelude.{take}
+use Rattle.map_object.specs.MapObject.{below, above as keys_above}
 use Rattle.art_schedules.proofs.changes.WrittenLemmas.{stores-are-slots, hung-rows-are-slots, children-are-of-rows, puts-are-children}
-use Rattle.art_schedules.specs.work.Works.{IsInsert, PairHangs, GrownHangs}
-use Rattle.art_schedules.specs.effects.Begins.{upper_of, upper_row, IsOverwritten}
-use Rattle.art_schedules.specs.effects.AtWork.{IsOld, IsEffectOf, IsReleasing, Last, Lower, Gone, IsHanging}
-use Rattle.art_schedules.specs.effects.AtWork.{HasFilledFresh}
 use Rattle.art_schedules.proofs.effects.KeptLemmas.{upper-each, info-kept}
-use Rattle.art_schedules.specs.changes.Written.{HasWordAt}
-use Rattle.art_schedules.specs.work.Ways.{IsInTree, IsSame}
 
 module _ (c : Setting) (n : ℕ) (real after first words : List ℕ) (rest : IsAtRest c.shape n after) (h : Hold) (at : Stage)
     (long : length first ≡ table_words c.shape) (rows : Each (IsInTree c.shape after) (rows_of_hold h))

@@ -1,41 +1,18 @@
 -- What calm says of held rows, and of the ways to them, is kept by each step that leaves these rows as they are.
-use Rattle.std.proofs.Common.{◌≡◌, inl, inr, ℕ, ◌<◌, List, ◌∷◌, slice_index, refl, sym, ap, ◌∙◌, subst, arith}
-use Rattle.std.specs.Prelude.{Option, Some, None}
-use Rattle.map_object.specs.MapObject.{Contents}
-use Rattle.art_rows.specs.declared.table.Shape.{Shape}
-use Rattle.art_rows.specs.declared.table.Kind.{Kind}
-use Rattle.art_rows.specs.declared.table.Kind.TheVariants.{Four}
-use Rattle.art_rows.specs.declared.table.Child.{Child}
-use Rattle.art_rows.specs.declared.table.Child.TheVariants.{Empty, Row, Leaf}
-use Rattle.art_rows.specs.Table.{info_at}
-use Rattle.art_rows.specs.Words.{key_bytes, first_difference, child_of, info_word, row_word, leaf_word}
-use Rattle.art_rows.proofs.KindLemmas.{two-words, first-some}
-use Rattle.art_rows.proofs.ByteLemmas.{key_byte-small}
-use Rattle.art_steps.specs.Rows.{Setting, key_of}
-use Rattle.art_stages.specs.declared.stage.Held.{Held}
-use Rattle.art_stages.specs.declared.stage.Keys.{Keys}
-use Rattle.art_stages.specs.declared.stage.Hold.{Hold}
-use Rattle.art_stages.specs.declared.stage.Work.{Work}
+use Rattle.art_schedules.proofs.Common.{◌≡◌, inl, inr, ℕ, ◌<◌, List, ◌∷◌, refl, sym, ap, ◌∙◌, subst, arith, Option, Some, None, Contents, Shape}
+use Rattle.art_schedules.proofs.Common.{Kind, Four, Child, Empty, Row, Leaf, info_at, key_bytes, first_difference, child_of, info_word, row_word}
+use Rattle.art_schedules.proofs.Common.{leaf_word, two-words, first-some, key_byte-small, Setting, key_of, Held, Keys, Hold, Work, row_at}
+use Rattle.art_schedules.proofs.Common.{byte_in, Reached, below, slot_of, child_in, child_on, level_in, path_in, SameRow, LeadsTo, Parts}
+use Rattle.art_schedules.proofs.Common.{slot-is, row-keys, slot-same, form-same, IsChildWord, child-same, way_byte, all_of, rows_of_hold, Each}
+use Rattle.art_schedules.proofs.Common.{Named, Effect, Keeps, Fills, PutsLeaf, RemovesLeaf, HangsPair, HangsGrown, base_of_effect}
+use Rattle.art_schedules.proofs.Common.{kind_of_effect, IsGone, Follows, LacksByte, FitsWords, upper_of, upper_row, IsOverwritten, BeginsWork}
+use Rattle.art_schedules.proofs.Common.{IsOld, fresh_of, IsPending, HasFilledFresh, HasWordAt, IsInTree, IsSame}
+use Rattle.std.proofs.Common.{slice_index}
 use Rattle.art_stages.specs.declared.stage.Work.TheVariants as work
-use Rattle.art_stages.specs.Stages.{row_at, byte_in}
-use Rattle.art_core.specs.Meaning.{Reached, below, slot_of, child_in, child_on}
-use Rattle.art_core.specs.Forms.{level_in, path_in}
-use Rattle.art_serial.specs.trees.Trees.{SameRow, LeadsTo, Parts}
-use Rattle.art_serial.proofs.alone.SlotLemmas.{slot-is, row-keys, slot-same, keys-same, count-same, form-same, IsChildWord}
-use Rattle.art_serial.proofs.inserts.OutcomeLemmas.{child-same}
-use Rattle.art_serial.proofs.trees.Changes.{way_byte}
-use Rattle.art_versions.specs.versions.Locking.{all_of, rows_of_hold}
-use Rattle.art_versions.specs.versions.Holding.{Each, Named}
-use Rattle.art_schedules.specs.changes.Effects.{Effect, Keeps, Fills, PutsLeaf, RemovesLeaf, HangsPair, HangsGrown, base_of_effect}
-use Rattle.art_schedules.specs.changes.Effects.{kind_of_effect, IsGone}
-use Rattle.art_schedules.specs.changes.Follows.{Follows}
+use Rattle.art_serial.proofs.alone.SlotLemmas.{keys-same, count-same}
 use Rattle.art_schedules.proofs.changes.EffectLemmas.{parted-small}
 use Rattle.art_schedules.proofs.changes.WrittenLemmas.{children-are-of-rows}
-use Rattle.art_schedules.specs.work.Works.{LacksByte, FitsWords}
-use Rattle.art_schedules.specs.effects.Begins.{upper_of, upper_row, IsOverwritten, FindsSlot, BeginsWork}
-use Rattle.art_schedules.specs.effects.AtWork.{IsOld, fresh_of, IsPending, HasFilledFresh}
-use Rattle.art_schedules.specs.changes.Written.{HasWordAt}
-use Rattle.art_schedules.specs.work.Ways.{IsInTree, IsSame}
+use Rattle.art_schedules.specs.effects.Begins.{FindsSlot}
 
 -- what is so of each row is so of the upper one
 pub upper-each : (P : Held → Type 0) (h : Hold) → Each P (rows_of_hold h) → P (upper_row h)

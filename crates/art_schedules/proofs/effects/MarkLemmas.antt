@@ -1,52 +1,20 @@
 -- Marks of calls at work, and what such a call asks for.
-use Rattle.std.proofs.Common.{◌≡◌, ◌⊎◌, inl, inr, ℕ, List, [], ◌∷◌, ◌++◌, Bool, true, false, refl, sym, ap, ◌∙◌, subst}
-use Rattle.std.specs.Prelude.{◌==◌, Option, Some, None, if◌then◌else◌}
-use Rattle.std.proofs.lemmas.Bool.{false≢true}
-use Rattle.std.proofs.lemmas.Option.{none-some}
-use Rattle.art_rows.specs.declared.table.Kind.{Kind}
-use Rattle.art_rows.specs.declared.table.Kind.TheVariants.{Four, Sixteen, FortyEight, Full}
-use Rattle.art_rows.specs.declared.table.Child.TheVariants.{Row}
-use Rattle.art_serial.proofs.words.TableLemmas.{base_of-once}
-use Rattle.art_steps.specs.declared.access.Access.TheVariants.{Exchange as Swap}
-use Rattle.art_steps.specs.Steps.{Turn, Asks, Answers}
-use Rattle.art_steps.specs.Rows.{Setting}
-use Rattle.art_steps.proofs.TurnLemmas.{answers-asks}
-use Rattle.art_stages.specs.declared.stage.Held.{Held}
-use Rattle.art_stages.specs.declared.stage.Hold.{Hold}
-use Rattle.art_stages.specs.declared.stage.Pair.{Pair}
-use Rattle.art_stages.specs.declared.stage.PairWord.{PairWord}
+use Rattle.art_schedules.proofs.Common.{◌≡◌, ◌⊎◌, inl, inr, ℕ, List, [], ◌∷◌, ◌++◌, Bool, true, false, refl, sym, ap, ◌∙◌, subst, ◌==◌, Option}
+use Rattle.art_schedules.proofs.Common.{Some, None, if◌then◌else◌, false≢true, none-some, Kind, Four, Sixteen, FortyEight, Full, Row}
+use Rattle.art_schedules.proofs.Common.{base_of-once, Swap, Turn, Asks, Answers, Setting, answers-asks, Held, Hold, Pair, PairWord, Growing}
+use Rattle.art_schedules.proofs.Common.{Keys, Outcome, Value, Work, Stage, Lock, Exchange, Wait, Leave, Between, Info, Find, FindKeys, FindMore}
+use Rattle.art_schedules.proofs.Common.{FindCount, Slot, Check, CheckLast, LetGo, Take, StorePair, PutKeys, GrowLeaf, GrowKeys, GrowCount}
+use Rattle.art_schedules.proofs.Common.{Obsolete, Over, Unlock, setting, turn_at, work_at, store_of, pair_turn, put_keys_turn, grow_leaf_turn}
+use Rattle.art_schedules.proofs.Common.{grow_keys_turn, grow_count_turn, Reached, child_on, IsAtRest, way_byte, Named, true-false, calm_of}
+use Rattle.art_schedules.proofs.Common.{Effect, Keeps, Fills, PutsLeaf, RemovesLeaf, HangsPair, HangsGrown, base_of_effect, kind_of_effect}
+use Rattle.art_schedules.proofs.Common.{IsGone, is_work, claims_row, hold_at, IsPending, IsReleasing, Last, Lower, Gone, AtWork, Claiming, Going}
+use Rattle.art_schedules.proofs.Common.{Hanging, EndStep, Leaves, AnswersNow, obsolete_by, IsMarkedBy, EnderStep, WorkersMayHaveNoMark}
+use Rattle.art_schedules.proofs.Common.{ObsoleteRowsHang, WorkersOnlyWork, LeaversStep, EndersGoOn}
 use Rattle.art_stages.specs.declared.stage.PairWord.TheVariants as pair_word
-use Rattle.art_stages.specs.declared.stage.Growing.{Growing}
-use Rattle.art_stages.specs.declared.stage.Keys.{Keys}
-use Rattle.art_stages.specs.declared.stage.Outcome.{Outcome}
-use Rattle.art_stages.specs.declared.stage.Outcome.TheVariants.{Value}
-use Rattle.art_stages.specs.declared.stage.Work.{Work}
 use Rattle.art_stages.specs.declared.stage.Work.TheVariants as work
-use Rattle.art_stages.specs.declared.stage.Stage.{Stage}
-use Rattle.art_stages.specs.declared.stage.Stage.TheVariants.{Lock, Exchange, Wait, Leave, Between, Info, Find, FindKeys, FindMore}
-use Rattle.art_stages.specs.declared.stage.Stage.TheVariants.{FindCount, Slot}
-use Rattle.art_stages.specs.declared.stage.Stage.TheVariants.{Check, CheckLast, LetGo, Take, StorePair, PutKeys, GrowLeaf, GrowKeys}
-use Rattle.art_stages.specs.declared.stage.Stage.TheVariants.{GrowCount}
-use Rattle.art_stages.specs.declared.stage.Stage.TheVariants.{Obsolete, Over, Unlock}
-use Rattle.art_stages.specs.Stages.{setting}
-use Rattle.art_stages.specs.Automaton.{turn_at, work_at, store_of, pair_turn, put_keys_turn, grow_leaf_turn, grow_keys_turn}
-use Rattle.art_stages.specs.Automaton.{grow_count_turn}
-use Rattle.art_core.specs.Meaning.{Reached, child_on}
-use Rattle.art_serial.specs.trees.Trees.{IsAtRest}
-use Rattle.art_serial.proofs.trees.Changes.{way_byte}
-use Rattle.art_versions.specs.versions.Holding.{Named}
-use Rattle.art_versions.proofs.versions.MoveLemmas.{true-false}
-use Rattle.art_schedules.specs.calm.Calm.{calm_of}
-use Rattle.art_schedules.specs.changes.Effects.{Effect, Keeps, Fills, PutsLeaf, RemovesLeaf, HangsPair, HangsGrown, base_of_effect}
-use Rattle.art_schedules.specs.changes.Effects.{kind_of_effect, IsGone}
-use Rattle.art_schedules.specs.work.Own.{is_work}
 use Rattle.art_schedules.proofs.work.OwnLemmas.{is_over}
 use Rattle.art_schedules.proofs.work.WorkLemmas.{at-work}
-use Rattle.art_schedules.specs.effects.AtWork.{claims_row, hold_at, IsPending, IsReleasing, Last, Lower, Gone, AtWork, Claiming, Going}
-use Rattle.art_schedules.specs.effects.AtWork.{Hanging}
-use Rattle.art_schedules.specs.effects.Outcomes.{EndStep, Leaves, Answers as AnswersNow}
-use Rattle.art_schedules.specs.effects.Marks.{obsolete_by, IsMarkedBy, HangsOnAbove, EnderStep}
-use Rattle.art_schedules.specs.effects.Laws.{WorkersMayHaveNoMark, ObsoleteRowsHang, WorkersOnlyWork, LeaversStep, EndersGoOn}
+use Rattle.art_schedules.specs.effects.Marks.{HangsOnAbove}
 use Rattle.art_schedules.proofs.effects.StageLemmas.{place-work}
 
 -- ---- no mark

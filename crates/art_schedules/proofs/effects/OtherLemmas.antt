@@ -1,67 +1,28 @@
 -- A call at work, or at its end, while another process steps.
-use Rattle.std.proofs.Common.{◌≡◌, ◌≢◌, ◌⊎◌, inl, inr, ℕ, ◌+◌, ◌<◌, ◌≤◌, List, [], ◌∷◌, ◌++◌, slice_index, true, false, refl, sym, ap, ◌∙◌}
-use Rattle.std.proofs.Common.{subst, arith}
-use Rattle.std.specs.Prelude.{Option, Some, None}
-use Rattle.std.proofs.lemmas.Bool.{cases_lt, cases_eq}
-use Rattle.std.proofs.lemmas.Option.{same_Some}
-use Rattle.events.specs.declared.event.Call.{Call}
-use Rattle.events.specs.declared.event.Reply.{Reply}
-use Rattle.map_object.specs.MapObject.{Contents}
-use Rattle.art_rows.specs.declared.table.Shape.{Shape}
-use Rattle.art_rows.specs.declared.table.Kind.{Kind}
-use Rattle.art_rows.specs.declared.table.Kind.TheVariants.{Four}
-use Rattle.art_rows.specs.declared.table.Child.TheVariants.{Row}
-use Rattle.art_rows.specs.Table.{row_words, kind_at}
-use Rattle.art_rows.specs.Words.{child_of, row_word, is_obsolete}
-use Rattle.art_rows.proofs.KindLemmas.{some-words}
-use Rattle.art_serial.proofs.words.TableLemmas.{row_begins, rows_apart}
-use Rattle.art_steps.specs.declared.variant.Variant.{Variant}
-use Rattle.art_steps.specs.Rows.{Setting}
-use Rattle.art_stages.specs.declared.stage.Held.{Held}
-use Rattle.art_stages.specs.declared.stage.Hold.{Hold}
-use Rattle.art_stages.specs.declared.stage.Growing.{Growing}
-use Rattle.art_stages.specs.declared.stage.Work.{Work}
+use Rattle.art_schedules.proofs.Common.{◌≡◌, ◌≢◌, ◌⊎◌, inl, inr, ℕ, ◌+◌, ◌<◌, ◌≤◌, List, [], ◌∷◌, ◌++◌, true, false, refl, sym, ap, ◌∙◌, subst}
+use Rattle.art_schedules.proofs.Common.{arith, Option, Some, None, cases_lt, cases_eq, same_Some, Call, Reply, Contents, Shape, Kind, Four, Row}
+use Rattle.art_schedules.proofs.Common.{row_words, kind_at, child_of, row_word, is_obsolete, some-words, row_begins, rows_apart, Variant}
+use Rattle.art_schedules.proofs.Common.{Setting, Held, Hold, Growing, Work, Outcome, Value, Stage, setting, work_at, hold_alone, OnKey, Process}
+use Rattle.art_schedules.proofs.Common.{Plan, State, Reached, below, slot_of, child_on, IsAtRest, SameRow, IsClaimed, ChildrenAreRead, way_byte}
+use Rattle.art_schedules.proofs.Common.{lock_of, locks_of, rows_of_hold, Named, Each, IsNamed, Knows, child_rows, holds, fills, IsAmong}
+use Rattle.art_schedules.proofs.Common.{IsBehindVersion, IsOpen, IsSettled, stage_of, held_by, filled_by, IsAtStage, settled-row, true-false}
+use Rattle.art_schedules.proofs.Common.{with-here, calm_of, CalmChange, CalmStays, CalmFilled, CalmReleased, RowChange, RowsStay, RowWritten}
+use Rattle.art_schedules.proofs.Common.{RowFilled, RowTaken, RowReleased, Effect, Keeps, Fills, PutsLeaf, RemovesLeaf, HangsPair, HangsGrown}
+use Rattle.art_schedules.proofs.Common.{base_of_effect, kind_of_effect, IsGone, IsGoneBy, ComesInBy, IsUnreached, IsClaiming, claims_row}
+use Rattle.art_schedules.proofs.Common.{FillsAt, HasNew, IsGoing, fresh_of, IsPending, IsReleasing, Last, Lower, Gone, IsHanging, AtWork}
+use Rattle.art_schedules.proofs.Common.{Claiming, Going, Hanging, AtEnd, Answering, Leaving, HasFilledFresh, Makes, HoldsReached, IsOther}
+use Rattle.art_schedules.proofs.Common.{IsMarkedBy, IsMarked, OthersKeepWork, OthersKeepMarked, OthersKeepEnds, IsInTree, IsSame}
+use Rattle.std.proofs.Common.{slice_index}
 use Rattle.art_stages.specs.declared.stage.Work.TheVariants as work
-use Rattle.art_stages.specs.declared.stage.Outcome.{Outcome}
-use Rattle.art_stages.specs.declared.stage.Outcome.TheVariants.{Value}
-use Rattle.art_stages.specs.declared.stage.Stage.{Stage}
-use Rattle.art_stages.specs.Stages.{setting}
-use Rattle.art_stages.specs.Automaton.{work_at, hold_alone}
-use Rattle.art_stages.specs.Calls.{OnKey}
-use Rattle.art_core.specs.declared.process.Process.{Process}
-use Rattle.art_core.specs.Core.{Plan, State}
-use Rattle.art_core.specs.Meaning.{Reached, below, slot_of, child_on}
-use Rattle.art_serial.specs.trees.Trees.{IsAtRest, SameRow, IsClaimed}
-use Rattle.art_serial.specs.trees.Children.{ChildrenAreRead}
-use Rattle.art_serial.proofs.trees.Changes.{way_byte}
-use Rattle.art_versions.specs.versions.Locking.{lock_of, locks_of, rows_of_hold}
-use Rattle.art_versions.specs.versions.Holding.{Named, Each, IsNamed, Knows, child_rows, holds, fills}
-use Rattle.art_versions.specs.versions.Effects.{IsAmong, IsBehindVersion}
-use Rattle.art_versions.specs.versions.Versions.{IsOpen, IsSettled, stage_of, held_by, filled_by, IsAtStage}
 use Rattle.art_versions.specs.versions.Steady as steady
-use Rattle.art_versions.proofs.versions.MoveLemmas.{settled-row, true-false}
-use Rattle.art_versions.proofs.versions.WithLemmas.{with-here}
-use Rattle.art_schedules.specs.calm.Calm.{calm_of}
-use Rattle.art_schedules.specs.calm.Changes.{CalmChange, CalmStays, CalmFilled, CalmReleased}
-use Rattle.art_schedules.specs.calm.Changes.{RowChange, RowsStay, RowWritten, RowFilled, RowTaken, RowReleased}
 use Rattle.art_schedules.proofs.calm.CalmLemmas.{claimed-row}
 use Rattle.art_schedules.proofs.calm.VersionLemmas.{locked-same, obsolete-busy}
-use Rattle.art_schedules.specs.changes.Effects.{Effect, Keeps, Fills, PutsLeaf, RemovesLeaf, HangsPair, HangsGrown, base_of_effect}
-use Rattle.art_schedules.specs.changes.Effects.{kind_of_effect, IsGone}
-use Rattle.art_schedules.specs.changes.Courses.{IsGoneBy, ComesInBy}
-use Rattle.art_schedules.specs.changes.Written.{IsUnreached}
 use Rattle.art_schedules.proofs.changes.RowLemmas.{steady-row}
 use Rattle.art_schedules.proofs.work.WorkLemmas.{holds-work}
-use Rattle.art_schedules.specs.effects.AtWork.{IsClaiming, claims_row, FillsAt, HasNew, IsGoing}
-use Rattle.art_schedules.specs.effects.AtWork.{fresh_of, IsPending, IsReleasing, Last, Lower, Gone}
-use Rattle.art_schedules.specs.effects.AtWork.{IsHanging, AtWork, Claiming, Going, Hanging, AtEnd, Answering, Leaving, HasFilledFresh}
-use Rattle.art_schedules.specs.effects.Outcomes.{Makes, IsEffectBy, HoldsReached, IsOther}
-use Rattle.art_schedules.specs.effects.Marks.{IsMarkedBy, IsMarked}
-use Rattle.art_schedules.specs.effects.Laws.{OthersKeepWork, OthersKeepMarked, OthersKeepEnds}
+use Rattle.art_schedules.specs.effects.Outcomes.{IsEffectBy}
 use Rattle.art_schedules.proofs.effects.AroundLemmas.{Around, around, other-open, others-row, others-stay, others-calm}
 use Rattle.art_schedules.proofs.effects.KeptLemmas.{begins-kept, inside-kept, unreached-kept, pending-kept, NewStays, GoneStays}
 use Rattle.art_schedules.proofs.effects.StageLemmas.{place-work, grow-fills}
-use Rattle.art_schedules.specs.work.Ways.{IsInTree, IsSame}
 use Rattle.art_schedules.proofs.calm.ReachedLemmas.{slot-of-row}
 
 -- of each row that is held

@@ -1,66 +1,26 @@
 -- A call that has hung its change, or is at its end, while it steps.
-use Rattle.std.proofs.Common.{◌≡◌, ◌≢◌, ◌⊎◌, inl, inr, ℕ, ◌+◌, ◌<◌, ◌≤◌, List, slice_index, true, false, refl, sym, ap, ◌∙◌, subst, arith}
-use Rattle.std.specs.Prelude.{Option, Some, None}
-use Rattle.std.proofs.lemmas.Bool.{cases_lt}
-use Rattle.std.proofs.lemmas.Option.{same_Some, none-some}
-use Rattle.events.specs.declared.event.Call.{Call}
-use Rattle.events.specs.declared.event.Reply.{Reply}
-use Rattle.map_object.specs.MapObject.{Contents}
+use Rattle.art_schedules.proofs.Common.{◌≡◌, ◌≢◌, ◌⊎◌, inl, inr, ℕ, ◌+◌, ◌<◌, ◌≤◌, List, true, false, refl, sym, ap, ◌∙◌, subst, arith, Option}
+use Rattle.art_schedules.proofs.Common.{Some, None, cases_lt, same_Some, none-some, Call, Reply, Contents, Shape, Kind, Four, row_words, kind_at}
+use Rattle.art_schedules.proofs.Common.{is_obsolete, released_word, obsolete_word, rows_apart, row_begins, some-words, Variant, Store, Point}
+use Rattle.art_schedules.proofs.Common.{Asks, Setting, locks, answers-asks, Held, Hold, Outcome, Value, Stage, Unlock, Over, setting, reply_for}
+use Rattle.art_schedules.proofs.Common.{turn_at, stage_after, release_at, hold_alone, OnKey, call_turn, call_after, Process, Plan, State}
+use Rattle.art_schedules.proofs.Common.{Reached, Means, IsAtRest, SameRow, ChildrenAreRead, lock_of, locks_of, rows_of_hold, Named, Each, holds}
+use Rattle.art_schedules.proofs.Common.{IsAmong, IsOpen, AreDistinct, stage_of, held_by, IsAtStage, settled-row, Effect, Keeps, Fills, PutsLeaf}
+use Rattle.art_schedules.proofs.Common.{RemovesLeaf, HangsPair, HangsGrown, base_of_effect, kind_of_effect, IsGone, ComesIn, IsGoneBy, ComesInBy}
+use Rattle.art_schedules.proofs.Common.{EffectsFollow, KeptTreesFollow, WaysSayValues, IsUnreached, fresh_of, IsPending, IsReleasing, Last}
+use Rattle.art_schedules.proofs.Common.{Lower, Gone, IsHanging, Hanging, AtEnd, Answering, Leaving, HasFilledFresh, obsolete_by, IsMarkedBy}
+use Rattle.art_schedules.proofs.Common.{WorkerStep, Makes, TakesEffect, EndStep, Leaves, AnswersNow, IsInTree, IsSame}
+use Rattle.std.proofs.Common.{slice_index}
 use Rattle.map_object.proofs.TellLemmas.{value_answers}
-use Rattle.art_rows.specs.declared.table.Shape.{Shape}
-use Rattle.art_rows.specs.declared.table.Kind.{Kind}
-use Rattle.art_rows.specs.declared.table.Kind.TheVariants.{Four}
-use Rattle.art_rows.specs.Table.{row_words, kind_at}
-use Rattle.art_rows.specs.Words.{is_obsolete, released_word, obsolete_word}
-use Rattle.art_serial.proofs.words.TableLemmas.{rows_apart, row_begins, base_of-once}
-use Rattle.art_rows.specs.declared.table.Child.TheVariants.{Row}
-use Rattle.art_rows.proofs.KindLemmas.{some-words}
-use Rattle.art_steps.specs.declared.variant.Variant.{Variant}
-use Rattle.art_steps.specs.declared.access.Access.TheVariants.{Store}
-use Rattle.art_steps.specs.declared.access.Point.{Point}
 use Rattle.art_steps.specs.declared.access.Point.TheVariants as point
-use Rattle.art_steps.specs.Steps.{Asks}
-use Rattle.art_steps.specs.Rows.{Setting, locks}
-use Rattle.art_steps.proofs.TurnLemmas.{answers-asks}
-use Rattle.art_stages.specs.declared.stage.Held.{Held}
-use Rattle.art_stages.specs.declared.stage.Hold.{Hold}
-use Rattle.art_stages.specs.declared.stage.Outcome.{Outcome}
-use Rattle.art_stages.specs.declared.stage.Outcome.TheVariants.{Value}
-use Rattle.art_stages.specs.declared.stage.Stage.{Stage}
-use Rattle.art_stages.specs.declared.stage.Stage.TheVariants.{Unlock, Over}
-use Rattle.art_stages.specs.Stages.{setting, reply_for}
-use Rattle.art_stages.specs.Automaton.{turn_at, stage_after, release_at, hold_alone}
-use Rattle.art_stages.specs.Calls.{OnKey, call_turn, call_after}
-use Rattle.art_core.specs.declared.process.Process.{Process}
-use Rattle.art_core.specs.Core.{Plan, State}
-use Rattle.art_core.specs.Meaning.{Reached, Means, below, child_on}
-use Rattle.art_serial.specs.trees.Trees.{IsAtRest, SameRow}
-use Rattle.art_serial.specs.trees.Children.{ChildrenAreRead}
-use Rattle.art_serial.proofs.trees.Changes.{way_byte}
-use Rattle.art_versions.specs.versions.Locking.{lock_of, locks_of, rows_of_hold}
-use Rattle.art_versions.specs.versions.Holding.{Named, Each, holds}
-use Rattle.art_versions.specs.versions.Effects.{IsAmong}
-use Rattle.art_versions.specs.versions.Versions.{IsOpen, AreDistinct, stage_of, held_by, IsAtStage}
-use Rattle.art_versions.proofs.versions.MoveLemmas.{settled-row}
 use Rattle.art_schedules.proofs.calm.CalmLemmas.{claimed-row}
 use Rattle.art_schedules.proofs.calm.UseLemmas.{without-store}
-use Rattle.art_schedules.specs.changes.Effects.{Effect, Keeps, Fills, PutsLeaf, RemovesLeaf, HangsPair, HangsGrown, base_of_effect}
-use Rattle.art_schedules.specs.changes.Effects.{kind_of_effect, IsGone, ComesIn}
-use Rattle.art_schedules.specs.changes.Courses.{IsGoneBy, ComesInBy}
-use Rattle.art_schedules.specs.changes.Laws.{EffectsFollow, KeptTreesFollow, WaysSayValues}
-use Rattle.art_schedules.specs.changes.Written.{IsUnreached}
-use Rattle.art_schedules.specs.effects.AtWork.{fresh_of, IsPending, IsReleasing, Last, Lower, Gone, IsHanging, Hanging}
-use Rattle.art_schedules.specs.effects.AtWork.{AtEnd, Answering, Leaving, HasFilledFresh}
-use Rattle.art_schedules.specs.effects.Marks.{obsolete_by, IsMarkedBy, WorkerStep}
-use Rattle.art_schedules.specs.effects.Outcomes.{Makes, Works, TakesEffect, EndStep, Leaves, Answers as AnswersNow}
+use Rattle.art_schedules.specs.effects.Outcomes.{Works}
 use Rattle.art_schedules.proofs.effects.AroundLemmas.{Around}
 use Rattle.art_schedules.proofs.effects.KeptLemmas.{inside-kept, unreached-kept, pending-kept, NewStays, GoneStays}
 use Rattle.art_schedules.proofs.effects.ReleaseLemmas.{kept-by-words, its-row, own, elsewhere, outside-same, kept-unchanged, takes-effect}
-use Rattle.art_schedules.proofs.effects.ReleaseLemmas.{is-obsolete}
-use Rattle.art_schedules.proofs.effects.ReleaseLemmas.{obsolete-same}
-use Rattle.art_schedules.proofs.effects.ReleaseLemmas.{kept-obsolete}
+use Rattle.art_schedules.proofs.effects.ReleaseLemmas.{is-obsolete, obsolete-same, kept-obsolete}
 use Rattle.art_schedules.proofs.effects.ReplyLemmas.{does-so}
-use Rattle.art_schedules.specs.work.Ways.{IsInTree, IsSame}
 
 module _ (read : ChildrenAreRead) (trees : KeptTreesFollow) (effects : EffectsFollow) (says : WaysSayValues) (plan : Plan)
     (p : ℕ) (s t : State)
@@ -361,30 +321,3 @@ module _ (read : ChildrenAreRead) (trees : KeptTreesFollow) (effects : EffectsFo
             ∙ is-obsolete read trees effects plan p s t calm after x k rest m means call q o stage at lower among here.live
             (Some point.Unlock) turn) marks
             (λ b some. subst (IsGone g.effect) (same_Some lower.base b (sym (ap obsolete_by is) ∙ some)) leaves)
-
--- The row above one that goes is the row that changes, which the call holds.
-pub holds-above : (c : Setting) (real calm : List ℕ) (n : ℕ) (stage : Stage) (fresh : Option Named) → IsAtRest c.shape n calm
-    → (g : IsHanging c real calm fresh stage) → (b : ℕ) → IsGone g.effect b → (a y : ℕ) (above l : Kind)
-    → Reached c.shape calm a above → y < 256
-    → child_on c.shape calm a above y ≡ Row b l → IsAmong (lock_of g.row) (holds c (OnKey stage)) × (g.row.base ≡ a)
-holds-above c real calm n stage fresh rest g b gone a y above l reached small hangs =
-    (releasing-holds g.at, sym g.base ∙ same g.effect g.old g.pending gone)
-  where
-    releasing-holds : IsReleasing c real calm g.row g.effect (Value g.old) stage → IsAmong (lock_of g.row) (holds c (OnKey stage))
-    releasing-holds (Last is obsolete) = subst (λ z. IsAmong (lock_of g.row) (holds c (OnKey z))) (sym is) (inl refl)
-    releasing-holds (Lower lower is inside same none) = subst (λ z. IsAmong (lock_of g.row) (holds c (OnKey z))) (sym is) (inr (inl refl))
-    releasing-holds (Gone lower is value inside leaves only) =
-        subst (λ z. IsAmong (lock_of g.row) (holds c (OnKey z))) (sym is) (inr (inl refl))
-
-    same : (e : Effect) (old : Option ℕ) → IsPending c real calm e old → IsGone e b → base_of_effect e ≡ a
-    same (Keeps base kind) old pending none = absurd none
-    same (Fills base kind) old pending none = absurd none
-    same (PutsLeaf base kind x key value) old pending none = absurd none
-    same (RemovesLeaf base kind x key) old pending none = absurd none
-    same (HangsPair base kind x key value row d i) old pending none = absurd none
-    same (HangsGrown base kind x key value full full_kind z row larger) old (upper, none, own, leads, empty, slot, ready, copy) is =
-        let mine = rest.claimed full full_kind leads.reached in
-        let its = rest.claimed b l (below reached y small hangs) in
-        let kinds = (base_of-once c.shape full_kind l mine.number its.number mine.within its.within (sym mine.is ∙ (sym is ∙ its.is))).0 in
-        (rest.tree.once base a x y b kind above l upper.reached reached (way_byte c.shape calm key base kind x upper) small
-        (own ∙ (ap (λ z. Row z full_kind) (sym is) ∙ ap (Row b) kinds)) hangs).0

@@ -1,19 +1,7 @@
 -- A call at work, or at its end, while it steps.
-use Rattle.std.proofs.Common.{ℕ, List, [], ◌∷◌, ◌++◌, sym, subst}
-use Rattle.std.specs.Prelude.{Option, None}
-use Rattle.events.specs.declared.event.Call.{Call}
-use Rattle.map_object.specs.MapObject.{Contents}
-use Rattle.art_stages.specs.declared.stage.Stage.{Stage}
-use Rattle.art_stages.specs.Stages.{setting}
-use Rattle.art_core.specs.Core.{Plan, State}
-use Rattle.art_serial.specs.trees.Children.{ChildrenAreRead}
-use Rattle.art_schedules.specs.calm.Calm.{calm_of}
-use Rattle.art_schedules.specs.changes.Laws.{EffectsFollow, KeptTreesFollow, WaysSayValues}
-use Rattle.art_versions.specs.versions.Holding.{Named}
-use Rattle.art_schedules.specs.work.Laws.{WorkIsDone}
-use Rattle.art_schedules.specs.effects.AtWork.{AtWork, Claiming, Going, Hanging}
-use Rattle.art_schedules.specs.effects.Marks.{IsMarked, WorkerStep}
-use Rattle.art_schedules.specs.effects.Laws.{WorkersStep, WorkersGoOn, LeaversStep}
+use Rattle.art_schedules.proofs.Common.{ℕ, List, [], ◌∷◌, ◌++◌, sym, subst, Option, None, Call, Contents, Stage, setting, Plan, State}
+use Rattle.art_schedules.proofs.Common.{ChildrenAreRead, calm_of, EffectsFollow, KeptTreesFollow, WaysSayValues, Named, WorkIsDone, AtWork}
+use Rattle.art_schedules.proofs.Common.{Claiming, Going, Hanging, IsMarked, WorkerStep, WorkersStep, WorkersGoOn, LeaversStep}
 use Rattle.art_schedules.proofs.effects.AroundLemmas.{around}
 use Rattle.art_schedules.proofs.effects.MarkLemmas.{unmarked}
 use Rattle.art_schedules.proofs.effects.ClaimStepLemmas.{claiming-step}

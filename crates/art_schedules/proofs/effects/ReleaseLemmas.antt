@@ -1,65 +1,26 @@
 -- What a step makes of calm's tree: nothing, or the effect of the row that it releases.
-use Rattle.std.proofs.Common.{◌≡◌, ◌≢◌, ◌⊎◌, inl, inr, ℕ, ◌+◌, ◌/◌, ◌%◌, ◌<◌, ◌≤◌, List, length, slice_index, true, false, refl, sym, ap}
-use Rattle.std.proofs.Common.{◌∙◌, subst, arith}
-use Rattle.std.specs.Prelude.{Option, Some, None}
-use Rattle.std.proofs.lemmas.Bool.{cases_lt}
-use Rattle.events.specs.declared.event.Call.{Call}
-use Rattle.map_object.specs.MapObject.{Contents}
-use Rattle.art_rows.specs.declared.table.Shape.{Shape}
-use Rattle.art_rows.specs.declared.table.Kind.{Kind}
-use Rattle.art_rows.specs.declared.table.Kind.TheVariants.{Four}
-use Rattle.art_rows.specs.declared.table.Child.TheVariants.{Leaf}
-use Rattle.art_rows.specs.Table.{row_words, claims_of, kind_at}
-use Rattle.art_rows.specs.Words.{is_obsolete, released_word, obsolete_word, row_word, leaf_word}
-use Rattle.art_rows.proofs.KindLemmas.{some-words, claims-few, first-some}
-use Rattle.art_serial.proofs.words.TableLemmas.{row_ends}
-use Rattle.art_steps.specs.declared.variant.Variant.{Variant}
-use Rattle.art_steps.specs.declared.access.Access.TheVariants.{Store}
-use Rattle.art_steps.specs.declared.access.Point.{Point}
-use Rattle.art_steps.specs.Steps.{Asks}
-use Rattle.art_steps.specs.Rows.{Setting, locks}
-use Rattle.art_stages.specs.declared.stage.Held.{Held}
-use Rattle.art_stages.specs.declared.stage.Stage.{Stage}
-use Rattle.art_stages.specs.Stages.{setting}
-use Rattle.art_stages.specs.Automaton.{turn_at}
-use Rattle.art_stages.specs.Calls.{OnKey, call_turn}
-use Rattle.art_core.specs.declared.process.Process.{Process}
-use Rattle.art_core.specs.Core.{Plan, State}
-use Rattle.art_core.specs.Meaning.{Means}
-use Rattle.art_serial.specs.trees.Trees.{IsAtRest, SameRow, IsFree, IsClaimed}
-use Rattle.art_serial.specs.trees.Children.{ChildrenAreRead}
-use Rattle.art_serial.proofs.alone.SlotLemmas.{slot-is, IsChildWord}
-use Rattle.art_serial.proofs.writes.StoreLemmas.{stored-at}
-use Rattle.art_serial.proofs.words.VersionLemmas.{obsolete_obsolete, obsolete_released}
-use Rattle.art_serial.proofs.trees.Changes.{way_byte}
-use Rattle.art_versions.specs.versions.Locking.{lock_of}
-use Rattle.art_versions.specs.versions.Holding.{IsKept}
-use Rattle.art_versions.specs.versions.Effects.{IsAmong, IsBehindVersion}
-use Rattle.art_versions.specs.versions.Versions.{IsOpen, IsSettled, stage_of, held_by}
+use Rattle.art_schedules.proofs.Common.{◌≡◌, ◌≢◌, ◌⊎◌, inl, inr, ℕ, ◌+◌, ◌/◌, ◌%◌, ◌<◌, ◌≤◌, List, length, true, false, refl, sym, ap, ◌∙◌}
+use Rattle.art_schedules.proofs.Common.{subst, arith, Option, Some, None, cases_lt, Call, Contents, Shape, Kind, Four, Leaf, row_words}
+use Rattle.art_schedules.proofs.Common.{claims_of, kind_at, is_obsolete, released_word, obsolete_word, row_word, leaf_word, some-words}
+use Rattle.art_schedules.proofs.Common.{claims-few, first-some, row_ends, Variant, Store, Point, Asks, Setting, locks, Held, Stage, setting}
+use Rattle.art_schedules.proofs.Common.{turn_at, OnKey, call_turn, Process, Plan, State, Means, IsAtRest, SameRow, IsClaimed, ChildrenAreRead}
+use Rattle.art_schedules.proofs.Common.{slot-is, IsChildWord, stored-at, obsolete_obsolete, obsolete_released, way_byte, lock_of, IsKept}
+use Rattle.art_schedules.proofs.Common.{IsAmong, IsBehindVersion, IsOpen, IsSettled, stage_of, held_by, index-other, held-is-kept, settled-row}
+use Rattle.art_schedules.proofs.Common.{version-free, is_busy, OneRow, HasNewChild, Effect, Keeps, Fills, PutsLeaf, RemovesLeaf, HangsPair}
+use Rattle.art_schedules.proofs.Common.{HangsGrown, base_of_effect, kind_of_effect, IsGone, HasEffect, HasFewClaims, EffectsFollow}
+use Rattle.art_schedules.proofs.Common.{KeptTreesFollow, IsUnreached, HasWordAt, IsOld, IsPending, Makes, IsSame}
+use Rattle.std.proofs.Common.{slice_index}
+use Rattle.art_serial.specs.trees.Trees.{IsFree}
 use Rattle.art_versions.specs.versions.Steady as steady
-use Rattle.art_versions.proofs.versions.ChangeLemmas.{index-other}
-use Rattle.art_versions.proofs.versions.KnownLemmas.{held-is-kept}
-use Rattle.art_versions.proofs.versions.MoveLemmas.{settled-row}
-use Rattle.art_versions.proofs.versions.WordFacts.{version-free}
-use Rattle.art_schedules.specs.calm.Calm.{is_busy}
 use Rattle.art_schedules.proofs.calm.UseLemmas.{with-released}
 use Rattle.art_schedules.proofs.calm.VersionLemmas.{free-busy, free-parts, released-free, obsolete-busy}
-use Rattle.art_schedules.specs.changes.Rows.{OneRow, SameOutside, HasNewChild}
-use Rattle.art_schedules.specs.changes.Effects.{Effect, Keeps, Fills, PutsLeaf, RemovesLeaf, HangsPair, HangsGrown, base_of_effect}
-use Rattle.art_schedules.specs.changes.Effects.{kind_of_effect, IsGone}
-use Rattle.art_schedules.specs.changes.Effects.{HasEffect}
-use Rattle.art_schedules.specs.changes.Follows.{HasFewClaims}
-use Rattle.art_schedules.specs.changes.Laws.{EffectsFollow, KeptTreesFollow}
-use Rattle.art_schedules.specs.changes.Written.{IsUnreached, HasWordAt}
+use Rattle.art_schedules.specs.changes.Rows.{SameOutside}
 use Rattle.art_schedules.proofs.changes.FollowLemmas.{low-words-keep}
 use Rattle.art_schedules.proofs.changes.RowLemmas.{rows-are-by-words, steady-row}
-use Rattle.art_schedules.proofs.changes.WorkedLemmas.{stored-leaves-are-put, stored-zeros-remove, written-pairs-are-hung}
-use Rattle.art_schedules.proofs.changes.WorkedLemmas.{written-rows-are-hung}
+use Rattle.art_schedules.proofs.changes.WorkedLemmas.{stored-leaves-are-put, stored-zeros-remove, written-pairs-are-hung, written-rows-are-hung}
 use Rattle.art_schedules.proofs.changes.WrittenLemmas.{children-are-of-rows}
-use Rattle.art_schedules.specs.effects.AtWork.{IsOld, IsPending, HasStoredLeaf}
-use Rattle.art_schedules.specs.effects.Outcomes.{Makes}
+use Rattle.art_schedules.specs.effects.AtWork.{HasStoredLeaf}
 use Rattle.art_schedules.proofs.effects.AroundLemmas.{Around, OwnAccess, own-access}
-use Rattle.art_schedules.specs.work.Ways.{IsSame}
 
 -- the slot in words that say the same of its row
 slot-later : (calm real later : List ℕ) (base : ℕ) (kind : Kind) (y slot word : ℕ) → y < 256 → SameRow real later base kind

@@ -1,25 +1,14 @@
 -- The reply that goes with an effect is the map's.
-use Rattle.std.proofs.Common.{◌≡◌, inl, inr, ℕ, List, true, refl, sym, ap, ◌∙◌, subst}
-use Rattle.std.specs.Prelude.{if◌then◌else◌, Option, Some, None}
-use Rattle.std.proofs.Common.{eq-eqb}
-use Rattle.events.specs.declared.event.Call.{Call}
-use Rattle.events.specs.declared.event.Call.TheVariants.{Get, Insert, Remove, Scan, Replace}
+use Rattle.art_schedules.proofs.Common.{◌≡◌, inl, inr, ℕ, List, true, refl, sym, ap, ◌∙◌, subst, if◌then◌else◌, Option, Some, None, eq-eqb, Call}
+use Rattle.art_schedules.proofs.Common.{Get, Insert, Remove, Scan, Replace, Contents, value_at, put, is_just, reply_to, Kind, Child, Empty, Row}
+use Rattle.art_schedules.proofs.Common.{Leaf, key_bytes, first_difference, Setting, value_reply, Means, child_on, IsAtRest, Parts, first-differs}
+use Rattle.art_schedules.proofs.Common.{Effect, Keeps, Fills, PutsLeaf, RemovesLeaf, HangsPair, HangsGrown, WaysSayValues, IsSaidBy, IsOld}
+use Rattle.art_schedules.proofs.Common.{IsPending, IsEffectOf}
 use Rattle.map_object.specs.MapObject as map
-use Rattle.map_object.specs.MapObject.{Contents, value_at, put, is_just, reply_to, after_reply, IsLegalReply}
+use Rattle.map_object.specs.MapObject.{after_reply, IsLegalReply}
 use Rattle.map_object.proofs.TellLemmas.{tells_all}
-use Rattle.art_rows.specs.declared.table.Kind.{Kind}
-use Rattle.art_rows.specs.declared.table.Child.{Child}
-use Rattle.art_rows.specs.declared.table.Child.TheVariants.{Empty, Row, Leaf}
-use Rattle.art_rows.specs.Words.{key_bytes, first_difference}
-use Rattle.art_steps.specs.Rows.{Setting}
-use Rattle.art_stages.specs.Stages.{value_reply}
-use Rattle.art_core.specs.Meaning.{Means, child_on}
-use Rattle.art_serial.specs.trees.Trees.{IsAtRest, Parts}
-use Rattle.art_serial.proofs.inserts.InsertEndLemmas.{first-differs}
-use Rattle.art_schedules.specs.changes.Effects.{Effect, Keeps, Fills, PutsLeaf, RemovesLeaf, HangsPair, HangsGrown, pairs_after}
-use Rattle.art_schedules.specs.changes.Laws.{WaysSayValues}
-use Rattle.art_schedules.specs.changes.Sayings.{IsSaidBy}
-use Rattle.art_schedules.specs.effects.AtWork.{IsOld, IsPending, key_of_effect, IsEffectOf}
+use Rattle.art_schedules.specs.changes.Effects.{pairs_after}
+use Rattle.art_schedules.specs.effects.AtWork.{key_of_effect}
 
 same-differ : (xs : List ℕ) (d : ℕ) → first_difference xs xs ≡ Some d → ⊥
 same-differ xs d e = first-differs xs xs d e refl

@@ -1,34 +1,17 @@
 -- The stages of work, by their rows.
-use Rattle.std.proofs.Common.{◌≡◌, ℕ, zero, suc, ◌+◌, Bool, true, false, [], refl, ap, subst, ◌∙◌, inl, inr}
-use Rattle.std.specs.Prelude.{◌⊎◌, ◌==◌, if◌then◌else◌, slice_index, Option, Some, None}
-use Rattle.std.proofs.lemmas.Bool.{false≢true}
-use Rattle.art_rows.specs.declared.table.Kind.{Kind}
-use Rattle.art_rows.specs.declared.table.Kind.TheVariants.{Four, Sixteen, FortyEight, Full}
-use Rattle.art_rows.specs.Words.{entries_of}
-use Rattle.art_steps.specs.Rows.{Setting, locks}
-use Rattle.art_stages.specs.declared.stage.Held.{Held}
-use Rattle.art_stages.specs.declared.stage.Keys.{Keys}
-use Rattle.art_stages.specs.declared.stage.Spread.{Spread}
-use Rattle.art_stages.specs.Stages.{count_in}
-use Rattle.art_stages.specs.Automaton.{stage_after, moves_at, put_keys_after, release_at, no_value}
-use Rattle.art_stages.specs.Automaton.{copies_at, spreads_at, fill_at, leaf_after, keys_at_after, entries_at}
-use Rattle.std.proofs.lemmas.Option.{same_Some, none-some}
-use Rattle.art_stages.specs.declared.stage.Hold.{Hold}
-use Rattle.art_stages.specs.declared.stage.Growing.{Growing}
-use Rattle.art_stages.specs.declared.stage.Stage.{Stage}
-use Rattle.art_stages.specs.declared.stage.Stage.TheVariants.{Lock, Exchange, Wait, Leave, Between, Info, Find}
-use Rattle.art_stages.specs.declared.stage.Stage.TheVariants.{FindKeys, FindMore, FindCount, Slot, Check, CheckLast, LetGo}
-use Rattle.art_stages.specs.declared.stage.Stage.TheVariants.{Take, Write, ClaimPair, StorePair, PutLoad}
-use Rattle.art_stages.specs.declared.stage.Stage.TheVariants.{PutStore, PutLeaf, PutKeys, PutMore, PutCount, ClaimGrow}
-use Rattle.art_stages.specs.declared.stage.Stage.TheVariants.{GrowInfo, GrowLoad, GrowStore, SpreadIndex, SpreadLoad, SpreadStore}
-use Rattle.art_stages.specs.declared.stage.Stage.TheVariants.{GrowLeaf, GrowKeys, GrowCount, Hang, Obsolete, Unlock, Over}
-use Rattle.art_stages.specs.Calls.{OnKey}
-use Rattle.art_versions.specs.versions.Holding.{fills, row_grown}
+use Rattle.art_schedules.proofs.Common.{◌≡◌, ℕ, zero, suc, ◌+◌, Bool, true, false, [], refl, ap, subst, ◌∙◌, inl, inr, ◌==◌, if◌then◌else◌}
+use Rattle.art_schedules.proofs.Common.{slice_index, Option, Some, None, false≢true, Kind, Four, Sixteen, FortyEight, Full, entries_of, Setting}
+use Rattle.art_schedules.proofs.Common.{locks, Held, Keys, Spread, count_in, stage_after, moves_at, put_keys_after, release_at, no_value}
+use Rattle.art_schedules.proofs.Common.{copies_at, spreads_at, fill_at, leaf_after, keys_at_after, entries_at, same_Some, none-some, Hold}
+use Rattle.art_schedules.proofs.Common.{Growing, Stage, Lock, Exchange, Wait, Leave, Between, Info, Find, FindKeys, FindMore, FindCount, Slot}
+use Rattle.art_schedules.proofs.Common.{Check, CheckLast, LetGo, Take, Write, ClaimPair, StorePair, PutLoad, PutStore, PutLeaf, PutKeys, PutMore}
+use Rattle.art_schedules.proofs.Common.{PutCount, ClaimGrow, GrowInfo, GrowLoad, GrowStore, SpreadIndex, SpreadLoad, SpreadStore, GrowLeaf}
+use Rattle.art_schedules.proofs.Common.{GrowKeys, GrowCount, Hang, Obsolete, Unlock, Over, OnKey, fills, hold_at, growing_at, writes_at}
+use Rattle.std.specs.Prelude.{◌⊎◌}
+use Rattle.art_versions.specs.versions.Holding.{row_grown}
 use Rattle.art_schedules.proofs.work.WorkLemmas.{AtWork, writes, pairs, put_loads, put_stores, put_leaf, put_keys, put_more, put_count}
-use Rattle.art_schedules.proofs.work.WorkLemmas.{grow_info, grow_loads}
-use Rattle.art_schedules.proofs.work.WorkLemmas.{grow_stores, spread_index, spread_loads, spread_stores, grow_leaf, grow_keys, grow_count}
-use Rattle.art_schedules.proofs.work.WorkLemmas.{hangs}
-use Rattle.art_schedules.specs.effects.AtWork.{hold_at, growing_at, writes_at}
+use Rattle.art_schedules.proofs.work.WorkLemmas.{grow_info, grow_loads, grow_stores, spread_index, spread_loads, spread_stores, grow_leaf}
+use Rattle.art_schedules.proofs.work.WorkLemmas.{grow_keys, grow_count, hangs}
 
 -- a stage behind the claim and before the first release
 pub place-work : (stage : Stage) (hold : Hold) → hold_at stage ≡ Some hold → (b : Bool) × AtWork hold b stage

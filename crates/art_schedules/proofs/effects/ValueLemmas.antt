@@ -1,23 +1,9 @@
 -- What the map has at a call's key, by what hangs on the key's byte of a row on its way; and work that overwrites a slot of such a row.
-use Rattle.std.proofs.Common.{◌≡◌, ◌≢◌, ℕ, ◌<◌, List, true, sym, ap, ◌∙◌, subst, refl}
-use Rattle.std.specs.Prelude.{Option, Some, None}
-use Rattle.map_object.specs.MapObject.{Contents, value_at}
-use Rattle.art_rows.specs.declared.table.Kind.{Kind}
-use Rattle.art_rows.specs.declared.table.Child.{Child}
-use Rattle.art_rows.specs.declared.table.Child.TheVariants.{Empty, Row as ChildRow, Leaf}
-use Rattle.art_rows.specs.Words.{key_bytes, first_difference}
-use Rattle.art_rows.proofs.ByteLemmas.{key_byte-small}
-use Rattle.art_steps.specs.TreeCalls.{is_tree_call}
-use Rattle.art_steps.specs.Rows.{Setting, key_of}
-use Rattle.art_stages.specs.declared.stage.Held.{Held}
+use Rattle.art_schedules.proofs.Common.{◌≡◌, ◌≢◌, ℕ, ◌<◌, List, true, sym, ap, ◌∙◌, subst, refl, Option, Some, None, Contents, value_at, Kind}
+use Rattle.art_schedules.proofs.Common.{Child, Empty, ChildRow, Leaf, key_bytes, first_difference, key_byte-small, is_tree_call, Setting, key_of}
+use Rattle.art_schedules.proofs.Common.{Held, row_at, byte_in, hold_alone, Reached, below, child_on, child_in, Means, path_in, IsAtRest}
+use Rattle.art_schedules.proofs.Common.{WaysLeadToValues, IsOnWay, slot_in, HasChild, HangsOnWay, BeginsWork, IsOverwritten}
 use Rattle.art_stages.specs.declared.stage.Work.TheVariants as work
-use Rattle.art_stages.specs.Stages.{row_at, byte_in}
-use Rattle.art_stages.specs.Automaton.{hold_alone}
-use Rattle.art_core.specs.Meaning.{Reached, below, child_on, child_in, Means}
-use Rattle.art_core.specs.Forms.{path_in}
-use Rattle.art_serial.specs.trees.Trees.{IsAtRest, WaysLeadToValues}
-use Rattle.art_schedules.specs.work.Ways.{IsOnWay, slot_in, HasChild, HangsOnWay}
-use Rattle.art_schedules.specs.effects.Begins.{BeginsWork, IsOverwritten}
 
 pub byte-in-small : (c : Setting) (h : Held) → byte_in c h < 256
 byte-in-small c h = key_byte-small (key_of c.call) (row_at h).level

@@ -1,27 +1,10 @@
 -- What a call knows of the rows on its way stays so where calm's tree goes on, for a row whose calm words stay and that does not leave the
 -- tree.
-use Rattle.std.proofs.Common.{◌≡◌, ℕ, ◌+◌, ◌-◌, ◌<◌, ◌≤◌, List, slice_index, Bool, true, false, sym, ap, ◌∙◌, subst, arith}
-use Rattle.map_object.specs.MapObject.{Contents}
-use Rattle.art_rows.specs.declared.table.Kind.{Kind}
-use Rattle.art_rows.specs.declared.table.Kind.TheVariants.{FortyEight}
-use Rattle.art_rows.specs.declared.table.Child.{Child}
-use Rattle.art_rows.specs.Table.{row_words, index_at}
-use Rattle.art_rows.specs.Words.{child_of}
-use Rattle.art_steps.specs.Rows.{Setting, key_of}
-use Rattle.art_stages.specs.declared.stage.Held.{Held}
-use Rattle.art_stages.specs.declared.stage.Finding.{Finding}
-use Rattle.art_stages.specs.declared.stage.Finding.TheVariants.{Has, Lacks}
-use Rattle.art_stages.specs.declared.stage.Hold.{Hold}
-use Rattle.art_stages.specs.declared.stage.Work.{Work}
-use Rattle.art_stages.specs.Stages.{byte_in}
-use Rattle.art_serial.specs.trees.Trees.{SameRow}
-use Rattle.art_serial.proofs.alone.SlotLemmas.{row-keys, slot-same}
-use Rattle.art_versions.specs.versions.Holding.{Each}
-use Rattle.art_versions.specs.versions.Locking.{rows_of_hold}
-use Rattle.art_versions.proofs.versions.KnownLemmas.{each-map}
-use Rattle.art_schedules.specs.changes.Follows.{Follows}
-use Rattle.art_schedules.specs.work.Ways.{IsOnWay, slot_in, HasChild, KnowsFinding, HangsOnWay}
-use Rattle.art_schedules.specs.effects.Begins.{BeginsWork}
+use Rattle.art_schedules.proofs.Common.{◌≡◌, ℕ, ◌+◌, ◌-◌, ◌<◌, ◌≤◌, List, Bool, true, false, sym, ap, ◌∙◌, subst, arith, Contents, Kind}
+use Rattle.art_schedules.proofs.Common.{FortyEight, Child, row_words, index_at, child_of, Setting, key_of, Held, Finding, Has, Lacks, Hold, Work}
+use Rattle.art_schedules.proofs.Common.{byte_in, SameRow, row-keys, slot-same, Each, rows_of_hold, each-map, Follows, IsOnWay, slot_in, HasChild}
+use Rattle.art_schedules.proofs.Common.{KnowsFinding, HangsOnWay, BeginsWork}
+use Rattle.std.proofs.Common.{slice_index}
 use Rattle.art_schedules.proofs.effects.ValueLemmas.{byte-in-small}
 use Rattle.art_schedules.proofs.effects.KeptLemmas.{slot-word, lacks-kept, begins-kept}
 

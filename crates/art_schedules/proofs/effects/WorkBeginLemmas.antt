@@ -1,38 +1,14 @@
 -- A call whose work begins is at work; and what it holds is in calm's tree.
-use Rattle.std.proofs.Common.{◌≡◌, inl, inr, ℕ, zero, suc, ◌-◌, List, [], ◌∷◌, length, true, false, refl, sym, ap, ◌∙◌, subst}
-use Rattle.std.proofs.lemmas.Option.{none-some}
-use Rattle.std.specs.Prelude.{Option, Some, None}
-use Rattle.events.specs.declared.event.Reply.{Reply}
-use Rattle.art_rows.specs.declared.table.Kind.{Kind}
-use Rattle.art_rows.specs.declared.table.Kind.TheVariants.{Four, Sixteen, FortyEight, Full}
-use Rattle.art_rows.specs.Table.{table_words}
-use Rattle.art_steps.specs.Rows.{Setting}
-use Rattle.art_stages.specs.declared.stage.Held.{Held}
-use Rattle.art_stages.specs.declared.stage.Hold.{Hold}
-use Rattle.art_stages.specs.declared.stage.Keys.{Keys}
-use Rattle.art_stages.specs.declared.stage.Outcome.{Outcome}
-use Rattle.art_stages.specs.declared.stage.Outcome.TheVariants.{Value}
-use Rattle.art_stages.specs.declared.stage.Stage.{Stage}
-use Rattle.art_stages.specs.declared.stage.Work.{Work}
+use Rattle.art_schedules.proofs.Common.{◌≡◌, inl, inr, ℕ, zero, suc, ◌-◌, List, [], ◌∷◌, length, true, false, refl, sym, ap, ◌∙◌, subst}
+use Rattle.art_schedules.proofs.Common.{none-some, Option, Some, None, Reply, Kind, Four, Sixteen, FortyEight, Full, table_words, Setting, Held}
+use Rattle.art_schedules.proofs.Common.{Hold, Keys, Outcome, Value, Stage, Work, byte_in, place_in, count_in, work_at, put_at, moves_at}
+use Rattle.art_schedules.proofs.Common.{hold_alone, OnKey, Reached, slot_of, locks_of, rows_of_hold, Each, Named, Knows, holds, IsAmong, here}
+use Rattle.art_schedules.proofs.Common.{RowsOf, Effect, BeginsWork, claims_row, hold_at, writes_at, IsReleasing, Last, Lower, Gone, AtWork}
+use Rattle.art_schedules.proofs.Common.{Claiming, Going, Hanging, AtEnd, Answering, Leaving, IsInTree, IsSame}
 use Rattle.art_stages.specs.declared.stage.Work.TheVariants as work
-use Rattle.art_stages.specs.Stages.{byte_in, place_in, count_in}
-use Rattle.art_stages.specs.Automaton.{work_at, put_at, moves_at, hold_alone}
-use Rattle.art_stages.specs.Calls.{OnKey}
-use Rattle.art_core.specs.Meaning.{Reached, slot_of}
-use Rattle.art_versions.specs.versions.Locking.{locks_of, rows_of_hold}
-use Rattle.art_versions.specs.versions.Holding.{Each, Named, Knows, holds}
-use Rattle.art_versions.specs.versions.Effects.{IsAmong}
-use Rattle.art_schedules.specs.work.Solo.{here}
-use Rattle.art_schedules.specs.work.Works.{RowsOf}
 use Rattle.art_schedules.proofs.work.WorkLemmas.{holds-work, moves-next}
-use Rattle.art_schedules.specs.changes.Effects.{Effect}
-use Rattle.art_schedules.specs.effects.Begins.{BeginsWork}
-use Rattle.art_schedules.specs.effects.AtWork.{claims_row, hold_at, writes_at, IsReleasing, Last, Lower, Gone, AtWork, Claiming, Going}
-use Rattle.art_schedules.specs.effects.AtWork.{Hanging}
-use Rattle.art_schedules.specs.effects.AtWork.{AtEnd, Answering, Leaving}
 use Rattle.art_schedules.proofs.effects.OtherLemmas.{each-of, holds-claiming}
 use Rattle.art_schedules.proofs.effects.StageLemmas.{place-work, work-place}
-use Rattle.art_schedules.specs.work.Ways.{IsInTree, IsSame}
 
 module _ (c : Setting) (real calm : List ℕ) (long : length calm ≡ table_words c.shape) (h : Hold) where
   going : (work : Work) → Knows (RowsOf c.shape) c (OnKey (work_at c h work)) → claims_row work ≡ false

@@ -1,19 +1,9 @@
 -- A scan by itself, beside one that gets the same words.
-use Rattle.std.proofs.Common.{◌≡◌, ℕ, ◌==◌, List, length, slice_index, slice_set, refl, sym, ap, ◌∙◌, subst}
-use Rattle.std.proofs.Common.{false, if◌then◌else◌}
-use Rattle.std.specs.Prelude.{Option}
-use Rattle.std.proofs.lemmas.List.{length-set, set-get_or}
-use Rattle.art_versions.proofs.versions.ChangeLemmas.{index-other}
-use Rattle.art_steps.specs.declared.access.Access.{Access}
-use Rattle.art_steps.specs.declared.access.Access.TheVariants.{Exchange as Swap}
-use Rattle.art_steps.specs.declared.access.Point.{Point}
-use Rattle.art_steps.specs.Steps.{Asks}
-use Rattle.art_steps.specs.Fits.{word_of}
-use Rattle.art_steps.specs.Rows.{Setting}
-use Rattle.art_stages.specs.declared.stage.Held.{Held}
-use Rattle.art_stages.specs.Calls.{CallAt, call_turn, call_after}
-use Rattle.art_core.specs.Accesses.{changed, told, got_by, words_after}
-use Rattle.art_schedules.specs.coupled.Walks.{IsOfRows, Alone, here, further, SameOn}
+use Rattle.art_schedules.proofs.Common.{◌≡◌, ℕ, List, length, refl, sym, ap, ◌∙◌, subst, false, Option, length-set, set-get_or, index-other}
+use Rattle.art_schedules.proofs.Common.{Access, Swap, Point, Asks, word_of, Setting, Held, CallAt, call_turn, call_after, changed, told, got_by}
+use Rattle.art_schedules.proofs.Common.{words_after, IsOfRows, Alone, SameOn}
+use Rattle.std.proofs.Common.{◌==◌, slice_index, slice_set, if◌then◌else◌}
+use Rattle.art_schedules.specs.coupled.Walks.{here, further}
 use Rattle.art_schedules.proofs.coupled.WalkLemmas.{set-word}
 
 -- an exchange that does not find the word leaves the words

@@ -1,18 +1,10 @@
 -- Where a scan begins, and what it has found at the end of its walk.
-use Rattle.std.proofs.Common.{◌≡◌, refl, sym, ◌∙◌, subst}
-use Rattle.events.specs.declared.event.Call.TheVariants.{Scan}
+use Rattle.art_schedules.proofs.Common.{◌≡◌, refl, sym, ◌∙◌, subst, Scan, Coupled, Answers, asks-answers, answers-same, ScanStep, Release}
+use Rattle.art_schedules.proofs.Common.{setting, Walk, at, scan_turn, OnScan, call_begun, Alone, WalksAreTheMaps, IsOver, unwaited, rows_of_scan}
+use Rattle.art_schedules.proofs.Common.{ScansBegin, WalkedScansFind, FoundScansAnswer}
 use Rattle.events.specs.declared.event.Reply.TheVariants as reply
-use Rattle.art_steps.specs.declared.variant.Variant.TheVariants.{Coupled}
-use Rattle.art_steps.specs.Steps.{Answers}
-use Rattle.art_steps.proofs.TurnLemmas.{asks-answers, answers-same}
-use Rattle.art_stages.specs.declared.stage.ScanStep.{ScanStep}
-use Rattle.art_stages.specs.declared.stage.ScanStep.TheVariants.{Release, Over}
-use Rattle.art_stages.specs.Stages.{setting}
-use Rattle.art_stages.specs.Scans.{Walk, at, scan_turn}
-use Rattle.art_stages.specs.Calls.{OnScan, call_begun}
-use Rattle.art_schedules.specs.coupled.Walks.{Alone, here, WalksAreTheMaps, IsOver}
-use Rattle.art_schedules.specs.locked_scans.Walking.{unwaited, rows_of_scan}
-use Rattle.art_schedules.specs.locked_scans.Laws.{ScansBegin, WalkedScansFind, FoundScansAnswer}
+use Rattle.art_stages.specs.declared.stage.ScanStep.TheVariants.{Over}
+use Rattle.art_schedules.specs.coupled.Walks.{here}
 
 pub scans-begin : ScansBegin
 scans-begin shape low high calm words long = (

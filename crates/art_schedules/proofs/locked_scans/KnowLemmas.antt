@@ -1,63 +1,27 @@
 -- What a scan knows of the calm tree, behind a step.
-use Rattle.std.proofs.Common.{◌≡◌, ℕ, ◌+◌, ◌≤◌, List, [], ◌∷◌, ◌++◌, slice_index, refl, sym, ap, ◌∙◌, subst, true, false, arith}
-use Rattle.std.specs.Prelude.{Option, Some, None}
-use Rattle.std.proofs.lemmas.Bool.{false≢true}
-use Rattle.std.proofs.lemmas.Option.{same_Some}
-use Rattle.events.specs.declared.event.Call.TheVariants.{Scan}
-use Rattle.map_object.specs.MapObject.{Contents}
-use Rattle.art_rows.specs.declared.table.Shape.{Shape}
-use Rattle.art_rows.specs.declared.table.Kind.{Kind}
-use Rattle.art_rows.specs.declared.table.Kind.TheVariants.{Four, Sixteen, FortyEight, Full}
-use Rattle.art_rows.specs.Table.{kind_at, claims_of}
-use Rattle.art_rows.proofs.KindLemmas.{claims-few}
-use Rattle.art_steps.specs.declared.variant.Variant.TheVariants.{Coupled}
-use Rattle.art_steps.specs.declared.access.Access.{Access}
-use Rattle.art_steps.specs.declared.access.Access.TheVariants.{Load}
-use Rattle.art_steps.specs.declared.access.Point.{Point}
-use Rattle.art_steps.specs.Steps.{Asks}
-use Rattle.art_steps.specs.Fits.{word_of}
-use Rattle.art_steps.specs.Rows.{Setting}
-use Rattle.art_steps.proofs.TurnLemmas.{asks-answers, asks-same}
-use Rattle.art_stages.specs.declared.stage.Held.{Held}
-use Rattle.art_stages.specs.declared.stage.ScanStep.{ScanStep}
-use Rattle.art_stages.specs.declared.stage.ScanStep.TheVariants.{Lock, Exchange, Wait, Info, Keys, FirstKeys, SecondKeys, Index}
-use Rattle.art_stages.specs.declared.stage.ScanStep.TheVariants.{Child as LoadChild, Release}
-use Rattle.art_stages.specs.declared.stage.ScanStep.TheVariants.{Over}
-use Rattle.art_stages.specs.Stages.{setting, held}
-use Rattle.art_stages.specs.Scans.{Walk, ScanAt, at, scan_turn, scan_after, keys_turn}
-use Rattle.art_stages.specs.Calls.{OnScan}
-use Rattle.art_core.specs.Accesses.{told}
-use Rattle.art_core.specs.Core.{Plan, State}
-use Rattle.art_serial.specs.trees.Trees.{IsAtRest, SameRow}
-use Rattle.art_versions.specs.versions.Holding.{holds}
-use Rattle.art_versions.specs.versions.Locking.{lock_of, locks_of, scan_locked}
-use Rattle.art_versions.specs.versions.Effects.{IsAmong}
-use Rattle.art_versions.specs.versions.Versions.{IsSettled, stage_of, IsAtStage}
-use Rattle.art_versions.proofs.versions.KnownLemmas.{among-each, held-is-kept, among-front}
-use Rattle.art_versions.proofs.versions.MoveLemmas.{settled-row}
-use Rattle.art_schedules.specs.calm.Calm.{calm_of}
-use Rattle.art_schedules.specs.changes.Effects.{Effect}
-use Rattle.art_schedules.specs.changes.Courses.{IsGoneBy, ComesInBy}
-use Rattle.art_schedules.specs.changes.Follows.{Follows}
-use Rattle.art_schedules.specs.changes.Laws.{KeptTreesFollow}
-use Rattle.art_schedules.specs.work.Own.{ReadsHeld, is_lock}
+use Rattle.art_schedules.proofs.Common.{◌≡◌, ℕ, ◌+◌, ◌≤◌, List, [], ◌∷◌, ◌++◌, refl, sym, ap, ◌∙◌, subst, true, false, arith, Option, Some, None}
+use Rattle.art_schedules.proofs.Common.{false≢true, same_Some, Scan, Contents, Shape, Kind, Four, Sixteen, FortyEight, Full, kind_at, claims_of}
+use Rattle.art_schedules.proofs.Common.{claims-few, Coupled, Access, Load, Point, Asks, word_of, Setting, asks-answers, asks-same, Held}
+use Rattle.art_schedules.proofs.Common.{ScanStep, FirstKeys, SecondKeys, Index, LoadChild, Release, setting, held, Walk, ScanAt, at, scan_turn}
+use Rattle.art_schedules.proofs.Common.{scan_after, keys_turn, OnScan, told, Plan, State, IsAtRest, SameRow, holds, lock_of, locks_of}
+use Rattle.art_schedules.proofs.Common.{scan_locked, IsAmong, IsSettled, stage_of, IsAtStage, among-each, held-is-kept, settled-row, calm_of}
+use Rattle.art_schedules.proofs.Common.{Effect, IsGoneBy, ComesInBy, Follows, KeptTreesFollow, ReadsHeld, is_lock, KnowsTree, StaysAt, SameOn}
+use Rattle.art_schedules.proofs.Common.{IsOver, HasWalked, ScanGoes, ScanComes, rows_of_scan, ScansComeOn, OthersLeaveTrees, WalkingScansAsk}
+use Rattle.art_schedules.proofs.Common.{IsCoupledStep, IsHeldLive}
+use Rattle.std.proofs.Common.{slice_index}
+use Rattle.art_stages.specs.declared.stage.ScanStep.TheVariants.{Lock, Exchange, Wait, Info, Keys, Over}
+use Rattle.art_versions.proofs.versions.KnownLemmas.{among-front}
 use Rattle.art_schedules.proofs.work.WalkLemmas.{reads-held}
-use Rattle.art_schedules.specs.coupled.Scanning.{KnowsTree, StaysAt}
-use Rattle.art_schedules.specs.coupled.Walks.{SameOn, IsOver}
 use Rattle.art_schedules.proofs.coupled.MadeLemmas.{Facts, facts, others-open}
 use Rattle.art_schedules.proofs.coupled.RowLemmas.{kept-row}
 use Rattle.art_schedules.proofs.coupled.ScanLemmas.{scans-know-trees}
 use Rattle.art_schedules.proofs.coupled.TreeLemmas.{scans-keep-trees}
-use Rattle.art_schedules.specs.locked_scans.Walking.{HasWalked, ScanGoes, ScanComes, rows_of_scan}
-use Rattle.art_schedules.specs.locked_scans.Laws.{ScansComeOn, OthersLeaveTrees, WalkingScansAsk}
 use Rattle.art_schedules.proofs.locked_scans.PlainLemmas.{IsRead}
 use Rattle.art_schedules.proofs.locked_scans.RunLemmas.{calm-on}
 use Rattle.art_schedules.proofs.locked_scans.OwnLemmas.{held-word, next-on, behind-at, scans-go-on}
 use Rattle.art_schedules.proofs.locked_scans.TreeLemmas.{scans-take-live}
 use Rattle.art_schedules.proofs.work.LockedLemmas.{lock-last, among-lock}
 use Rattle.art_schedules.proofs.coupled.OwnLemmas.{own-word}
-use Rattle.art_schedules.specs.coupled.Moments.{IsCoupledStep}
-use Rattle.art_schedules.specs.coupled.Knows.{IsHeldLive}
 
 same-scan : {low high : ℕ} {x y : ScanAt} → OnScan low high x ≡ OnScan low high y → x ≡ y
 same-scan e = cc

@@ -1,77 +1,40 @@
 -- A step of a scan, in a run.
-use Rattle.std.proofs.Common.{◌≡◌, ◌≢◌, inl, inr, ℕ, ◌+◌, ◌<◌, ◌≤◌, ◌==◌, List, [], ◌∷◌, ◌++◌, length, slice_index, refl, sym, ap, ◌∙◌}
-use Rattle.std.proofs.Common.{subst}
-use Rattle.std.proofs.Common.{Bool, true, false, eqb-true, arith, if◌then◌else◌}
-use Rattle.std.specs.Prelude.{Option, Some, None}
-use Rattle.std.proofs.lemmas.Bool.{false≢true}
-use Rattle.events.specs.declared.event.Call.{Call}
-use Rattle.events.specs.declared.event.Call.TheVariants.{Scan}
-use Rattle.events.specs.declared.event.Reply.{Reply}
+use Rattle.art_schedules.proofs.Common.{◌≡◌, ◌≢◌, inl, inr, ℕ, ◌+◌, ◌<◌, ◌≤◌, List, [], ◌∷◌, ◌++◌, length, refl, sym, ap, ◌∙◌, subst, Bool, true}
+use Rattle.art_schedules.proofs.Common.{false, eqb-true, arith, Option, Some, None, false≢true, Call, Scan, Reply, Contents, Shape, Kind, Four}
+use Rattle.art_schedules.proofs.Common.{Sixteen, FortyEight, Full, kind_at, row_words, is_locked, is_obsolete, locked_word, released_word}
+use Rattle.art_schedules.proofs.Common.{some-words, rows_apart, Coupled, Access, Load, Store, Swap, Point, Asks, word_of, Setting, load-store}
+use Rattle.art_schedules.proofs.Common.{load-add, store-word, asks-answers, load-word, load-exchange, exchange-store, exchange-word}
+use Rattle.art_schedules.proofs.Common.{exchanges-same, Held, Entry, ScanStep, FirstKeys, SecondKeys, Index, LoadChild, Release, setting, Walk}
+use Rattle.art_schedules.proofs.Common.{ScanAt, at, scan_turn, scan_after, step_after, entry_base, entry_at, keys_turn, release_rows, CallAt}
+use Rattle.art_schedules.proofs.Common.{OnScan, call_turn, call_after, call_begun, told, words_after, Plan, State, SameRow, load-same, stored-at}
+use Rattle.art_schedules.proofs.Common.{taken-locked, Each, Knows, holds, fills, IsKept, lock_of, locks_of, IsAmong, IsWith, Reads, Writes, Ends}
+use Rattle.art_schedules.proofs.Common.{Releases, Takes, Claims, Answered, AccessDoes, IsSettled, held_by, filled_by, IsAtStage, among-each}
+use Rattle.art_schedules.proofs.Common.{held-is-kept, each-among, settled-row, no-items, with-here, version-free, is_busy, calm_of, KeepsTree}
+use Rattle.art_schedules.proofs.Common.{TouchesOwn, LoadsHeld, StoresOwn, ClaimsRow, ReleasesHeld, Replies, IsHeldWord, ReadsHeld, is_lock}
+use Rattle.art_schedules.proofs.Common.{RowsOf, TakesLive, IsCoupledStep, IsOfRows, Alone, SameOn, IsOver, unwaited, HasWalked, ScanGoes}
+use Rattle.art_schedules.proofs.Common.{ScanStays, rows_of_scan, FoundScansStay, IsHeldLive}
+use Rattle.std.proofs.Common.{◌==◌, slice_index, if◌then◌else◌}
 use Rattle.events.specs.declared.event.Reply.TheVariants as reply
-use Rattle.map_object.specs.MapObject.{Contents}
-use Rattle.art_rows.specs.declared.table.Shape.{Shape}
-use Rattle.art_rows.specs.declared.table.Kind.{Kind}
-use Rattle.art_rows.specs.declared.table.Kind.TheVariants.{Four, Sixteen, FortyEight, Full}
-use Rattle.art_rows.specs.Table.{kind_at, row_words}
-use Rattle.art_rows.specs.Words.{is_locked, is_obsolete, locked_word, released_word}
-use Rattle.art_rows.proofs.KindLemmas.{some-words}
-use Rattle.art_serial.proofs.words.TableLemmas.{rows_apart}
-use Rattle.art_steps.specs.declared.variant.Variant.TheVariants.{Coupled}
-use Rattle.art_steps.specs.declared.access.Access.{Access}
-use Rattle.art_steps.specs.declared.access.Access.TheVariants.{Load, Store, Exchange as Swap}
-use Rattle.art_steps.specs.declared.access.Point.{Point}
 use Rattle.art_steps.specs.declared.access.Point.TheVariants as point
-use Rattle.art_steps.specs.Steps.{Asks}
-use Rattle.art_steps.specs.Fits.{word_of}
-use Rattle.art_steps.specs.Rows.{Setting}
-use Rattle.art_steps.proofs.TurnLemmas.{load-store, load-add, store-word, asks-answers, load-word, load-exchange, exchange-store}
-use Rattle.art_steps.proofs.TurnLemmas.{exchange-add, exchange-word}
-use Rattle.art_steps.proofs.TurnLemmas.{exchanges-same}
-use Rattle.art_stages.specs.declared.stage.Held.{Held}
-use Rattle.art_stages.specs.declared.stage.Entry.{Entry}
-use Rattle.art_stages.specs.declared.stage.ScanStep.{ScanStep}
-use Rattle.art_stages.specs.declared.stage.ScanStep.TheVariants.{Lock, Exchange, Wait, Info, Keys, FirstKeys, SecondKeys, Index}
-use Rattle.art_stages.specs.declared.stage.ScanStep.TheVariants.{Child as LoadChild, Release}
-use Rattle.art_stages.specs.declared.stage.ScanStep.TheVariants.{Over}
-use Rattle.art_stages.specs.Stages.{setting}
-use Rattle.art_stages.specs.Scans.{Walk, ScanAt, at, scan_turn, scan_after, step_after, entry_base, entry_at, keys_turn, release_rows}
-use Rattle.art_stages.specs.Calls.{CallAt, OnScan, call_turn, call_after, call_begun}
-use Rattle.art_core.specs.Accesses.{told, words_after}
-use Rattle.art_core.specs.Core.{Plan, State}
-use Rattle.art_serial.specs.trees.Trees.{SameRow}
-use Rattle.art_serial.proofs.alone.AloneLemmas.{load-same}
-use Rattle.art_serial.proofs.writes.StoreLemmas.{stored-at}
-use Rattle.art_serial.proofs.words.VersionLemmas.{taken-locked}
-use Rattle.art_versions.specs.versions.Holding.{Each, Knows, holds, fills, IsKept}
-use Rattle.art_versions.specs.versions.Locking.{lock_of, locks_of}
-use Rattle.art_versions.specs.versions.Effects.{IsAmong, IsWith, Reads, Writes, Fills, Ends, Releases, Takes, Claims, Answered, AccessDoes}
-use Rattle.art_versions.specs.versions.Versions.{IsSettled, held_by, filled_by, IsAtStage}
-use Rattle.art_versions.proofs.versions.KnownLemmas.{among-each, held-is-kept, each-among}
-use Rattle.art_versions.proofs.versions.MoveLemmas.{settled-row, no-items}
+use Rattle.art_steps.proofs.TurnLemmas.{exchange-add}
+use Rattle.art_stages.specs.declared.stage.ScanStep.TheVariants.{Lock, Exchange, Wait, Info, Keys, Over}
+use Rattle.art_versions.specs.versions.Effects.{Fills}
 use Rattle.art_versions.proofs.versions.ScanLemmas.{coupled-scan-does}
-use Rattle.art_versions.proofs.versions.WithLemmas.{with-here, with-more, with-split}
-use Rattle.art_versions.proofs.versions.WordFacts.{version-free}
-use Rattle.art_schedules.specs.calm.Calm.{is_busy, calm_of}
+use Rattle.art_versions.proofs.versions.WithLemmas.{with-more, with-split}
 use Rattle.art_schedules.proofs.calm.VersionLemmas.{free-busy}
-use Rattle.art_schedules.specs.changes.Follows.{KeepsTree}
 use Rattle.art_schedules.proofs.changes.RowLemmas.{steady-row}
-use Rattle.art_schedules.specs.work.Own.{TouchesOwn, LoadsHeld, StoresOwn, ClaimsRow, ReleasesHeld, Replies, IsHeldWord, ReadsHeld, is_lock}
-use Rattle.art_schedules.specs.work.Works.{RowsOf}
 use Rattle.art_schedules.proofs.work.OwnLemmas.{rows-known}
 use Rattle.art_schedules.proofs.work.LockedLemmas.{locked-own}
 use Rattle.art_schedules.proofs.work.WalkLemmas.{reads-held}
-use Rattle.art_schedules.specs.coupled.Moments.{TakesLive, IsCoupledStep}
-use Rattle.art_schedules.specs.coupled.Walks.{IsOfRows, Alone, SameOn, IsOver}
 use Rattle.art_schedules.proofs.coupled.MadeLemmas.{Facts, facts, IsMade, made}
 use Rattle.art_schedules.proofs.coupled.RowLemmas.{kept-row, own-same, keeps-without, keeps-released}
 use Rattle.art_schedules.proofs.coupled.StayLemmas.{own-still}
-use Rattle.art_schedules.specs.locked_scans.Walking.{unwaited, HasWalked, ScanGoes, ScanStays, HasPairsFound, rows_of_scan}
-use Rattle.art_schedules.specs.locked_scans.Laws.{ScansGoOn, FoundScansStay}
+use Rattle.art_schedules.specs.locked_scans.Walking.{HasPairsFound}
+use Rattle.art_schedules.specs.locked_scans.Laws.{ScansGoOn}
 use Rattle.art_schedules.proofs.locked_scans.AloneLemmas.{failed-keeps, alone-more, alone-outside, follows}
 use Rattle.art_schedules.proofs.locked_scans.PlainLemmas.{IsRead, plain-unwaited, entered, reads-plain}
 use Rattle.art_schedules.proofs.locked_scans.RunLemmas.{rows-own, carry, calm-on}
 use Rattle.art_schedules.proofs.coupled.MoveLemmas.{row-inside}
-use Rattle.art_schedules.specs.coupled.Knows.{IsHeldLive}
 
 module _ (shape : Shape) (low high : ℕ) where
   abbrev c : Setting

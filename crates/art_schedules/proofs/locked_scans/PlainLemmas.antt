@@ -1,32 +1,15 @@
 -- A scan that has read a word of a row that it holds goes on to a stage where it has not waited yet.
-use Rattle.std.proofs.Common.{◌≡◌, ℕ, zero, suc, ◌+◌, List, [], ◌∷◌, refl, Bool, true, false, if◌then◌else◌}
-use Rattle.std.specs.Prelude.{filter, Option, Some, None}
-use Rattle.events.specs.declared.event.Call.TheVariants.{Scan}
-use Rattle.art_rows.specs.declared.table.Shape.{Shape}
-use Rattle.art_rows.specs.declared.table.Kind.{Kind}
-use Rattle.art_rows.specs.declared.table.Kind.TheVariants.{Four, Sixteen, FortyEight, Full}
-use Rattle.art_rows.specs.declared.table.Child.{Child}
-use Rattle.art_rows.specs.declared.table.Child.TheVariants.{Empty, Row as ChildRow, Leaf}
-use Rattle.art_rows.specs.Table.{root_base, child_at}
-use Rattle.art_rows.specs.Words.{child_of}
-use Rattle.art_steps.specs.declared.variant.Variant.TheVariants.{Coupled}
-use Rattle.art_steps.specs.Rows.{Setting}
-use Rattle.art_steps.specs.Scan.{bytes_of, with_leaf}
-use Rattle.art_stages.specs.declared.stage.Held.{Held}
-use Rattle.art_stages.specs.declared.stage.Frame.{Frame}
-use Rattle.art_stages.specs.declared.stage.Entry.{Entry}
+use Rattle.art_schedules.proofs.Common.{◌≡◌, ℕ, zero, suc, ◌+◌, List, [], ◌∷◌, refl, Bool, true, false, filter, Option, Some, None, Scan, Shape}
+use Rattle.art_schedules.proofs.Common.{Kind, Four, Sixteen, FortyEight, Full, Child, Empty, ChildRow, Leaf, root_base, child_at, child_of}
+use Rattle.art_schedules.proofs.Common.{Coupled, Setting, bytes_of, with_leaf, Held, Frame, Entry, ScanStep, FirstKeys, SecondKeys, Index}
+use Rattle.art_schedules.proofs.Common.{LoadChild, Release, row_at, held, setting, keys_one, Walk, ScanAt, at, on_way, frame_of, in_word}
+use Rattle.art_schedules.proofs.Common.{release_rows, slot_at, bytes_at, index_at_list, words_at, child_from, frame_at, way_at, resume_at}
+use Rattle.art_schedules.proofs.Common.{with_frame, with_held, visit_list, visit_at, entry_at, child_after, keys_after_word, step_after, keys16}
+use Rattle.art_schedules.proofs.Common.{walked, unwaited}
+use Rattle.std.proofs.Common.{if◌then◌else◌}
 use Rattle.art_stages.specs.declared.stage.Entry.TheVariants.{Root, Below}
-use Rattle.art_stages.specs.declared.stage.ScanStep.{ScanStep}
-use Rattle.art_stages.specs.declared.stage.ScanStep.TheVariants.{Lock, Exchange, Wait, Info, Keys, FirstKeys, SecondKeys, Index}
-use Rattle.art_stages.specs.declared.stage.ScanStep.TheVariants.{Child as LoadChild, Release}
-use Rattle.art_stages.specs.declared.stage.ScanStep.TheVariants.{Over}
-use Rattle.art_stages.specs.Stages.{row_at, held, setting}
-use Rattle.art_stages.specs.Automaton.{keys_one}
-use Rattle.art_stages.specs.Scans.{Walk, ScanAt, at, on_way, frame_of, in_word, release_rows, slot_at, bytes_at, index_at_list, words_at}
-use Rattle.art_stages.specs.Scans.{child_from, frame_at, way_at, resume_at, with_frame, with_held, row_begins, visit_list, visit_at}
-use Rattle.art_stages.specs.Scans.{entry_at, child_after}
-use Rattle.art_stages.specs.Scans.{keys_after_word, step_after, keys16, walked}
-use Rattle.art_schedules.specs.locked_scans.Walking.{unwaited}
+use Rattle.art_stages.specs.declared.stage.ScanStep.TheVariants.{Lock, Exchange, Wait, Info, Keys, Over}
+use Rattle.art_stages.specs.Scans.{row_begins}
 
 -- it has not waited, or begun to take a row
 abbrev pub IsPlainStep : ScanStep → Type 0

@@ -1,35 +1,14 @@
 -- A row that a scan takes is a row of the calm tree.
-use Rattle.std.proofs.Common.{◌≡◌, ℕ, List, [], ◌∷◌, ◌++◌, sym, ap, ◌∙◌, subst, true, false}
-use Rattle.std.specs.Prelude.{Option}
-use Rattle.events.specs.declared.event.Call.TheVariants.{Scan}
-use Rattle.art_rows.specs.declared.table.Shape.{Shape}
-use Rattle.art_rows.specs.declared.table.Kind.{Kind}
-use Rattle.art_rows.specs.declared.table.Kind.TheVariants.{Full}
-use Rattle.art_rows.specs.Words.{locked_word}
-use Rattle.art_steps.specs.declared.variant.Variant.TheVariants.{Coupled}
-use Rattle.art_steps.specs.declared.access.Access.TheVariants.{Exchange as Swap}
-use Rattle.art_steps.specs.declared.access.Point.{Point}
-use Rattle.art_steps.specs.Steps.{Asks}
-use Rattle.art_steps.specs.Rows.{Setting}
-use Rattle.art_steps.proofs.TurnLemmas.{asks-answers, load-exchange, store-exchange, exchange-word}
-use Rattle.art_stages.specs.declared.stage.Held.{Held}
-use Rattle.art_stages.specs.declared.stage.Entry.{Entry}
+use Rattle.art_schedules.proofs.Common.{◌≡◌, ℕ, List, [], ◌∷◌, ◌++◌, sym, ap, ◌∙◌, subst, true, false, Option, Scan, Shape, Kind, Full}
+use Rattle.art_schedules.proofs.Common.{locked_word, Coupled, Swap, Point, Asks, Setting, asks-answers, load-exchange, store-exchange}
+use Rattle.art_schedules.proofs.Common.{exchange-word, Held, Entry, ScanStep, FirstKeys, SecondKeys, Index, LoadChild, Release, setting, Walk}
+use Rattle.art_schedules.proofs.Common.{at, scan_turn, entry_base, call_turn, Reached, root, below, calm_of, KnowsEntry, KnowsTree}
+use Rattle.art_schedules.proofs.Common.{ScansTakeReached, IsOver}
 use Rattle.art_stages.specs.declared.stage.Entry.TheVariants.{Root, Below}
-use Rattle.art_stages.specs.declared.stage.ScanStep.{ScanStep}
-use Rattle.art_stages.specs.declared.stage.ScanStep.TheVariants.{Lock, Exchange, Wait, Info, Keys, FirstKeys, SecondKeys, Index}
-use Rattle.art_stages.specs.declared.stage.ScanStep.TheVariants.{Child as LoadChild, Release}
-use Rattle.art_stages.specs.declared.stage.ScanStep.TheVariants.{Over}
-use Rattle.art_stages.specs.Stages.{setting}
-use Rattle.art_stages.specs.Scans.{Walk, at, scan_turn, entry_base}
-use Rattle.art_stages.specs.Calls.{call_turn}
-use Rattle.art_core.specs.Meaning.{Reached, root, below}
-use Rattle.art_schedules.specs.calm.Calm.{calm_of}
-use Rattle.art_schedules.specs.coupled.Scanning.{KnowsEntry, KnowsTree}
+use Rattle.art_stages.specs.declared.stage.ScanStep.TheVariants.{Lock, Exchange, Wait, Info, Keys, Over}
 use Rattle.art_schedules.proofs.coupled.MadeLemmas.{facts}
 use Rattle.art_schedules.proofs.coupled.RowLemmas.{its-turn}
-use Rattle.art_schedules.specs.locked_scans.Laws.{ScansTakeReached}
 use Rattle.art_schedules.proofs.locked_scans.TreeLemmas.{keys-swap}
-use Rattle.art_schedules.specs.coupled.Walks.{IsOver}
 
 module _ (shape : Shape) (calm : List ℕ) (low high : ℕ) where
   abbrev c : Setting

@@ -1,32 +1,13 @@
 -- What a scan has walked stays so where the rows that it holds stay.
-use Rattle.std.proofs.Common.{◌≡◌, ◌≢◌, inl, inr, ℕ, ◌+◌, ◌-◌, List, [], ◌∷◌, ◌++◌, length, slice_index, refl, sym, ap, ◌∙◌, subst, arith}
-use Rattle.std.proofs.lemmas.Bool.{cases_eq}
-use Rattle.events.specs.declared.event.Call.{Call}
-use Rattle.events.specs.declared.event.Call.TheVariants.{Scan}
-use Rattle.art_rows.specs.declared.table.Shape.{Shape}
-use Rattle.art_steps.specs.declared.variant.Variant.TheVariants.{Coupled}
-use Rattle.art_steps.specs.Rows.{Setting}
-use Rattle.art_stages.specs.declared.stage.Held.{Held}
-use Rattle.art_stages.specs.Stages.{setting}
-use Rattle.art_stages.specs.Scans.{ScanAt}
-use Rattle.art_stages.specs.Calls.{OnScan, call_begun}
-use Rattle.art_core.specs.declared.process.Process.{Process}
-use Rattle.art_core.specs.Core.{State}
-use Rattle.art_serial.specs.trees.Trees.{SameRow}
-use Rattle.art_versions.specs.versions.Holding.{Each, holds}
-use Rattle.art_versions.specs.versions.Effects.{IsAmong}
-use Rattle.art_versions.specs.versions.Versions.{IsOpen, IsSettled, stage_of, held_by}
-use Rattle.art_versions.proofs.versions.KnownLemmas.{held-is-kept}
-use Rattle.art_versions.proofs.versions.MoveLemmas.{settled-row}
-use Rattle.art_schedules.specs.calm.Calm.{calm_of}
-use Rattle.art_schedules.specs.coupled.Walks.{SameOn}
+use Rattle.art_schedules.proofs.Common.{◌≡◌, ◌≢◌, inl, inr, ℕ, ◌+◌, ◌-◌, List, [], ◌∷◌, ◌++◌, length, refl, sym, ap, ◌∙◌, subst, arith, cases_eq}
+use Rattle.art_schedules.proofs.Common.{Call, Scan, Shape, Coupled, Setting, Held, setting, ScanAt, OnScan, call_begun, Process, State, SameRow}
+use Rattle.art_schedules.proofs.Common.{Each, holds, IsAmong, IsOpen, IsSettled, stage_of, held_by, held-is-kept, settled-row, calm_of, SameOn}
+use Rattle.art_schedules.proofs.Common.{unwaited, HasWalked, rows_of_scan, OthersLeaveScans, IsHeldLive}
+use Rattle.std.proofs.Common.{slice_index}
 use Rattle.art_schedules.proofs.coupled.MadeLemmas.{Facts, facts, others-open}
 use Rattle.art_schedules.proofs.coupled.RowLemmas.{others-same}
 use Rattle.art_schedules.proofs.coupled.StayLemmas.{own-still}
 use Rattle.art_schedules.proofs.coupled.WalkLemmas.{walks-stay}
-use Rattle.art_schedules.specs.locked_scans.Walking.{unwaited, HasWalked, rows_of_scan}
-use Rattle.art_schedules.specs.locked_scans.Laws.{OthersLeaveScans}
-use Rattle.art_schedules.specs.coupled.Knows.{IsHeldLive}
 
 -- words that are the same on rows are so on each of them
 on-row : (rows : List Held) (words later : List ℕ) → SameOn rows words later → (h : Held) → IsAmong h rows

@@ -1,46 +1,17 @@
 -- A scan that knows the calm tree, in a run.
-use Rattle.std.proofs.Common.{◌≡◌, inl, ℕ, List, [], ◌∷◌, ◌++◌, slice_index, refl, sym, ap, ◌∙◌, subst, true, false, arith}
-use Rattle.std.specs.Prelude.{slice_get, Option}
-use Rattle.std.proofs.lemmas.Bool.{false_from_ne_true}
-use Rattle.std.proofs.lemmas.Option.{same_Some}
-use Rattle.events.specs.declared.event.Call.TheVariants.{Scan}
-use Rattle.art_rows.specs.declared.table.Shape.{Shape}
-use Rattle.art_rows.specs.declared.table.Kind.{Kind}
-use Rattle.art_rows.specs.declared.table.Kind.TheVariants.{Four, Sixteen, FortyEight, Full}
-use Rattle.art_rows.specs.Table.{root_base}
-use Rattle.art_rows.specs.Words.{is_obsolete, locked_word}
-use Rattle.art_steps.specs.declared.variant.Variant.TheVariants.{Coupled}
-use Rattle.art_steps.specs.declared.access.Access.TheVariants.{Exchange as Swap}
-use Rattle.art_steps.specs.declared.access.Point.{Point}
-use Rattle.art_steps.specs.Steps.{Asks}
-use Rattle.art_steps.specs.Rows.{Setting}
-use Rattle.art_steps.proofs.TurnLemmas.{asks-answers, load-exchange, store-exchange, exchange-word}
-use Rattle.art_stages.specs.declared.stage.Held.{Held}
-use Rattle.art_stages.specs.declared.stage.Entry.{Entry}
+use Rattle.art_schedules.proofs.Common.{◌≡◌, inl, ℕ, List, [], ◌∷◌, ◌++◌, refl, sym, ap, ◌∙◌, subst, true, false, arith, slice_get, Option}
+use Rattle.art_schedules.proofs.Common.{false_from_ne_true, same_Some, Scan, Shape, Kind, Four, Sixteen, FortyEight, Full, root_base}
+use Rattle.art_schedules.proofs.Common.{is_obsolete, locked_word, Coupled, Swap, Point, Asks, Setting, asks-answers, load-exchange}
+use Rattle.art_schedules.proofs.Common.{store-exchange, exchange-word, Held, Entry, ScanStep, FirstKeys, SecondKeys, Index, LoadChild, Release}
+use Rattle.art_schedules.proofs.Common.{setting, Walk, ScanAt, at, scan_turn, entry_base, keys_turn, OnScan, call_turn, State, root, below}
+use Rattle.art_schedules.proofs.Common.{IsAtRest, leads-root, holds, lock_of, IsAmong, stage_of, held_by, IsAtStage, calm_of, IsLeaving}
+use Rattle.art_schedules.proofs.Common.{ObsoleteLeave, KnowsStep, KnowsTree, ScansTakeLive, IsOver}
+use Rattle.std.proofs.Common.{slice_index}
 use Rattle.art_stages.specs.declared.stage.Entry.TheVariants.{Root, Below}
-use Rattle.art_stages.specs.declared.stage.ScanStep.{ScanStep}
-use Rattle.art_stages.specs.declared.stage.ScanStep.TheVariants.{Lock, Exchange, Wait, Info, Keys, FirstKeys, SecondKeys, Index}
-use Rattle.art_stages.specs.declared.stage.ScanStep.TheVariants.{Child as LoadChild, Release}
-use Rattle.art_stages.specs.declared.stage.ScanStep.TheVariants.{Over}
-use Rattle.art_stages.specs.Stages.{setting}
-use Rattle.art_stages.specs.Scans.{Walk, ScanAt, at, scan_turn, entry_base, keys_turn}
-use Rattle.art_stages.specs.Calls.{OnScan, call_turn}
-use Rattle.art_core.specs.Core.{State}
-use Rattle.art_core.specs.Meaning.{root, below}
-use Rattle.art_serial.specs.trees.Trees.{IsAtRest}
-use Rattle.art_serial.proofs.alone.WayLemmas.{leads-root}
-use Rattle.art_versions.specs.versions.Holding.{holds}
-use Rattle.art_versions.specs.versions.Locking.{lock_of}
-use Rattle.art_versions.specs.versions.Effects.{IsAmong}
-use Rattle.art_versions.specs.versions.Versions.{stage_of, held_by, IsAtStage}
-use Rattle.art_schedules.specs.calm.Calm.{calm_of}
-use Rattle.art_schedules.specs.coupled.Moments.{IsLeaving, ObsoleteLeave}
-use Rattle.art_schedules.specs.coupled.Scanning.{KnowsStep, KnowsTree}
+use Rattle.art_stages.specs.declared.stage.ScanStep.TheVariants.{Lock, Exchange, Wait, Info, Keys, Over}
 use Rattle.art_schedules.proofs.coupled.MadeLemmas.{Facts, facts}
 use Rattle.art_schedules.proofs.coupled.RowLemmas.{its-turn}
-use Rattle.art_schedules.specs.locked_scans.Laws.{ScansTakeLive}
 use Rattle.art_schedules.proofs.work.LockedLemmas.{among-lock}
-use Rattle.art_schedules.specs.coupled.Walks.{IsOver}
 use Rattle.art_schedules.proofs.work.CallLemmas.{key-scan}
 
 pub keys-swap : (kind : Kind) (n : Held) (word v w : ℕ) (l : Option Point) → keys_turn kind n ≡ Asks (Swap word v w) l → ⊥

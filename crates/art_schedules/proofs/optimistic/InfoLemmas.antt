@@ -1,54 +1,23 @@
 -- No call of the optimistic tree stores the info word of a row that is settled: the info words of calm are those of the table.
-use Rattle.std.proofs.Common.{◌≡◌, ◌≢◌, ◌⊎◌, inl, inr, ℕ, ◌+◌, ◌*◌, ◌<◌, ◌≤◌, ◌==◌, List, [], ◌∷◌, slice_index, Bool, true, false}
-use Rattle.std.proofs.Common.{refl, sym, ap, ◌∙◌, subst, arith, if◌then◌else◌}
-use Rattle.std.specs.Prelude.{nat_lt, Option, Some, None}
-use Rattle.std.proofs.lemmas.Bool.{cases_eq}
-use Rattle.events.specs.declared.event.Call.{Call}
-use Rattle.art_rows.specs.declared.table.Shape.{Shape}
-use Rattle.art_rows.specs.declared.table.Kind.{Kind}
-use Rattle.art_rows.specs.declared.table.Kind.TheVariants.{Four, Sixteen, FortyEight, Full}
-use Rattle.art_rows.specs.Table.{capacity, row_words, kind_at, info_at, keys_at, more_keys_at, index_at, count_at, child_at}
+use Rattle.art_schedules.proofs.Common.{◌≡◌, ◌≢◌, ◌⊎◌, inl, inr, ℕ, ◌+◌, ◌*◌, ◌<◌, ◌≤◌, List, [], ◌∷◌, Bool, true, false, refl, sym, ap, ◌∙◌}
+use Rattle.art_schedules.proofs.Common.{subst, arith, nat_lt, Option, Some, None, cases_eq, Call, Shape, Kind, Four, Sixteen, FortyEight, Full}
+use Rattle.art_schedules.proofs.Common.{capacity, row_words, kind_at, info_at, keys_at, more_keys_at, index_at, count_at, child_at, seven-words}
+use Rattle.art_schedules.proofs.Common.{key_byte-small, rows_apart, row_begins, Optimistic, Store, Point, Asks, Setting, next_kind, store-word}
+use Rattle.art_schedules.proofs.Common.{load-store, exchange-store, add-store, answers-asks, Held, Keys, Hold, Growing, Pair, PairWord, Stage}
+use Rattle.art_schedules.proofs.Common.{Lock, Exchange, Wait, Leave, Between, Info, Find, FindKeys, FindMore, FindCount, Slot, Check, CheckLast}
+use Rattle.art_schedules.proofs.Common.{LetGo, Take, Write, ClaimPair, StorePair, PutLoad, PutStore, PutLeaf, PutKeys, PutMore, PutCount}
+use Rattle.art_schedules.proofs.Common.{ClaimGrow, GrowInfo, GrowLoad, GrowStore, SpreadIndex, SpreadLoad, SpreadStore, GrowLeaf, GrowKeys}
+use Rattle.art_schedules.proofs.Common.{GrowCount, Hang, Obsolete, Unlock, Over, row_at, byte_in, keys_in, place_in, setting, turn_at, find_turn}
+use Rattle.art_schedules.proofs.Common.{pair_turn, put_keys_turn, grow_keys_turn, grow_leaf_turn, grow_count_turn, CallAt, OnKey, OnScan}
+use Rattle.art_schedules.proofs.Common.{call_turn, Process, State, Reached, OfRows, Named, Each, IsSlot, IsKept, HangsIn, KnowsKey, Knows, holds}
+use Rattle.art_schedules.proofs.Common.{fills, row_filled, all_of, IsAmong, IsOpen, IsSettled, IsSound, stage_of, slot-behind, settled-row}
+use Rattle.art_schedules.proofs.Common.{is_busy, IsCalm, calm_of, RowChange, RowsStay, RowWritten, RowFilled, RowTaken, RowReleased, CalmStep}
+use Rattle.std.proofs.Common.{◌==◌, slice_index, if◌then◌else◌}
 use Rattle.art_rows.proofs.WriterLemmas.{new_place-most}
-use Rattle.art_rows.proofs.KindLemmas.{seven-words}
-use Rattle.art_rows.proofs.ByteLemmas.{key_byte-small, keys4-few}
-use Rattle.art_serial.proofs.words.TableLemmas.{rows_apart, row_begins}
-use Rattle.art_steps.specs.declared.variant.Variant.TheVariants.{Optimistic}
-use Rattle.art_steps.specs.declared.access.Access.TheVariants.{Store}
-use Rattle.art_steps.specs.declared.access.Point.{Point}
-use Rattle.art_steps.specs.Steps.{Asks}
-use Rattle.art_steps.specs.Rows.{Setting}
-use Rattle.art_steps.specs.Updates.{next_kind}
-use Rattle.art_steps.proofs.TurnLemmas.{store-word, load-store, exchange-store, add-store, answers-asks}
-use Rattle.art_stages.specs.declared.stage.Held.{Held}
-use Rattle.art_stages.specs.declared.stage.Keys.{Keys}
-use Rattle.art_stages.specs.declared.stage.Hold.{Hold}
-use Rattle.art_stages.specs.declared.stage.Growing.{Growing}
-use Rattle.art_stages.specs.declared.stage.Pair.{Pair}
-use Rattle.art_stages.specs.declared.stage.PairWord.{PairWord}
+use Rattle.art_rows.proofs.ByteLemmas.{keys4-few}
 use Rattle.art_stages.specs.declared.stage.PairWord.TheVariants as pair_word
-use Rattle.art_stages.specs.declared.stage.Stage.{Stage}
-use Rattle.art_stages.specs.declared.stage.Stage.TheVariants.{Lock, Exchange, Wait, Leave, Between, Info, Find, FindKeys, FindMore}
-use Rattle.art_stages.specs.declared.stage.Stage.TheVariants.{FindCount, Slot, Check}
-use Rattle.art_stages.specs.declared.stage.Stage.TheVariants.{CheckLast, LetGo, Take, Write, ClaimPair, StorePair, PutLoad, PutStore}
-use Rattle.art_stages.specs.declared.stage.Stage.TheVariants.{PutLeaf, PutKeys, PutMore}
-use Rattle.art_stages.specs.declared.stage.Stage.TheVariants.{PutCount, ClaimGrow, GrowInfo, GrowLoad, GrowStore, SpreadIndex, SpreadLoad}
-use Rattle.art_stages.specs.declared.stage.Stage.TheVariants.{SpreadStore}
-use Rattle.art_stages.specs.declared.stage.Stage.TheVariants.{GrowLeaf, GrowKeys, GrowCount, Hang, Obsolete, Unlock, Over}
-use Rattle.art_stages.specs.Stages.{row_at, byte_in, keys_in, place_in, leaf_place, new_child_at, setting}
-use Rattle.art_stages.specs.Automaton.{turn_at, find_turn, pair_turn, put_keys_turn, grow_keys_turn, grow_leaf_turn, grow_count_turn}
-use Rattle.art_stages.specs.Calls.{CallAt, OnKey, OnScan, call_turn}
-use Rattle.art_core.specs.declared.process.Process.{Process}
-use Rattle.art_core.specs.Core.{State}
-use Rattle.art_core.specs.Meaning.{Reached}
-use Rattle.art_versions.specs.versions.Holding.{OfRows, Named, Each, IsSlot, IsKept, IsCopied, HangsIn, KnowsKey, Knows, holds, fills}
-use Rattle.art_versions.specs.versions.Holding.{row_filled}
-use Rattle.art_versions.specs.versions.Locking.{all_of}
-use Rattle.art_versions.specs.versions.Effects.{IsAmong}
-use Rattle.art_versions.specs.versions.Versions.{IsOpen, IsSettled, IsSound, stage_of}
-use Rattle.art_versions.proofs.versions.KeyLemmas.{slot-behind}
-use Rattle.art_versions.proofs.versions.MoveLemmas.{settled-row}
-use Rattle.art_schedules.specs.calm.Calm.{is_busy, IsCalm, calm_of}
-use Rattle.art_schedules.specs.calm.Changes.{RowChange, RowsStay, RowWritten, RowFilled, RowTaken, RowReleased, CalmStep}
+use Rattle.art_stages.specs.Stages.{leaf_place, new_child_at}
+use Rattle.art_versions.specs.versions.Holding.{IsCopied}
 use Rattle.art_schedules.proofs.calm.VersionLemmas.{version-change, VersionChange, Stays, IsTaken, IsReleased}
 use Rattle.art_schedules.proofs.calm.InductionLemmas.{step-of-run}
 use Rattle.art_schedules.proofs.calm.RunLemmas.{along-calm, calm-at}

@@ -1,37 +1,14 @@
 -- A step of another process.
-use Rattle.std.proofs.Common.{◌≡◌, ◌≢◌, inl, inr, ℕ, ◌+◌, ◌%◌, ◌≤◌, List, [], ◌∷◌, ◌++◌, slice_index, true, false, refl, sym, ap, ◌∙◌}
-use Rattle.std.proofs.Common.{subst, arith}
-use Rattle.std.proofs.Common.{ne_eqb}
-use Rattle.std.specs.Prelude.{Option, Some}
-use Rattle.std.proofs.lemmas.Bool.{cases_eq, false≢true}
-use Rattle.events.specs.declared.event.Call.{Call}
-use Rattle.art_rows.specs.declared.table.Shape.{Shape}
-use Rattle.art_rows.specs.Words.{is_obsolete}
-use Rattle.art_steps.specs.declared.variant.Variant.TheVariants.{Optimistic}
-use Rattle.art_steps.specs.Rows.{is_insert}
-use Rattle.art_stages.specs.declared.stage.Held.{Held}
-use Rattle.art_stages.specs.declared.stage.Stage.{Stage}
-use Rattle.art_stages.specs.Stages.{setting}
-use Rattle.art_stages.specs.Calls.{OnKey}
-use Rattle.art_core.specs.declared.process.Process.{Process}
-use Rattle.art_core.specs.Core.{State}
-use Rattle.art_serial.specs.trees.Trees.{SameRow}
-use Rattle.art_versions.specs.versions.Holding.{Each, IsKept, Knows, holds}
-use Rattle.art_versions.specs.versions.Locking.{lock_of, held_at_stage}
-use Rattle.art_versions.specs.versions.Effects.{IsAmong}
-use Rattle.art_versions.specs.versions.Versions.{IsOpen, IsHeld, IsSettled, IsSound, stage_of, held_by}
-use Rattle.art_versions.specs.versions.Writers.{WritesOwn, MayWrite}
-use Rattle.art_versions.proofs.versions.KnownLemmas.{held-is-kept}
-use Rattle.art_versions.proofs.versions.MoveLemmas.{settled-row}
-use Rattle.art_versions.proofs.versions.RunLemmas.{written-at}
-use Rattle.art_schedules.specs.calm.Calm.{calm_of}
-use Rattle.art_schedules.specs.calm.Changes.{CalmStep}
+use Rattle.art_schedules.proofs.Common.{◌≡◌, ◌≢◌, inl, inr, ℕ, ◌+◌, ◌%◌, ◌≤◌, List, [], ◌∷◌, ◌++◌, true, false, refl, sym, ap, ◌∙◌, subst, arith}
+use Rattle.art_schedules.proofs.Common.{ne_eqb, Option, Some, cases_eq, false≢true, Call, Shape, is_obsolete, Optimistic, is_insert, Held, Stage}
+use Rattle.art_schedules.proofs.Common.{setting, OnKey, Process, State, SameRow, Each, IsKept, Knows, holds, lock_of, held_at_stage, IsAmong}
+use Rattle.art_schedules.proofs.Common.{IsOpen, IsHeld, IsSettled, IsSound, stage_of, held_by, WritesOwn, held-is-kept, settled-row, written-at}
+use Rattle.art_schedules.proofs.Common.{calm_of, CalmStep, IsGoneBy, IsStill, Effect, OtherStepsKeepWays}
+use Rattle.std.proofs.Common.{slice_index}
+use Rattle.art_versions.specs.versions.Writers.{MayWrite}
 use Rattle.art_schedules.proofs.calm.InductionLemmas.{step-of-run}
 use Rattle.art_schedules.proofs.calm.RunLemmas.{step-at}
-use Rattle.art_schedules.specs.changes.Courses.{IsGoneBy, IsStill}
-use Rattle.art_schedules.specs.changes.Effects.{Effect}
 use Rattle.art_schedules.proofs.changes.RowLemmas.{steady-row}
-use Rattle.art_schedules.specs.optimistic.Steps.{OtherStepsKeepWays}
 use Rattle.art_schedules.proofs.optimistic.InfoLemmas.{infos-stay, calm-agrees}
 use Rattle.art_schedules.proofs.optimistic.StayLemmas.{ways-are-kept}
 use Rattle.art_schedules.proofs.effects.OtherLemmas.{each-of}

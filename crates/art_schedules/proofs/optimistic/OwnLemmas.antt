@@ -1,71 +1,32 @@
 -- A step of a call that knows its way.
-use Rattle.std.proofs.Common.{◌≡◌, ◌≢◌, ◌⊎◌, inl, inr, ℕ, ◌+◌, ◌-◌, ◌%◌, ◌<◌, ◌≤◌, ◌==◌, List, [], ◌∷◌, ◌++◌, length, slice_index, Option}
-use Rattle.std.proofs.Common.{Some, None}
-use Rattle.std.proofs.Common.{Bool, true, false, refl, sym, ap, ◌∙◌, subst, arith, eqb-true, option_map, if◌then◌else◌}
-use Rattle.std.specs.Prelude.{nat_le}
-use Rattle.std.proofs.lemmas.Bool.{eqb-false}
-use Rattle.std.proofs.lemmas.Option.{none-some}
-use Rattle.events.specs.declared.event.Call.{Call}
-use Rattle.events.specs.declared.event.Reply.{Reply}
+use Rattle.art_schedules.proofs.Common.{◌≡◌, ◌≢◌, ◌⊎◌, inl, inr, ℕ, ◌+◌, ◌-◌, ◌%◌, ◌<◌, ◌≤◌, List, [], ◌∷◌, ◌++◌, length, Bool, true, false}
+use Rattle.art_schedules.proofs.Common.{refl, sym, ap, ◌∙◌, subst, arith, eqb-true, option_map, nat_le, eqb-false, none-some, Call, Reply}
+use Rattle.art_schedules.proofs.Common.{Contents, value_at, Does, Shape, Kind, Four, Sixteen, FortyEight, Full, Empty, ChildRow, Leaf, capacity}
+use Rattle.art_schedules.proofs.Common.{row_words, root_base, info_at, keys_at, more_keys_at, index_at, count_at, child_at, is_locked}
+use Rattle.art_schedules.proofs.Common.{is_obsolete, key_bytes, first_difference, info_of, keys4_of, keys16_of, place_of, entries_of, child_of}
+use Rattle.art_schedules.proofs.Common.{child_word, count_of, seven-words, key_byte-small, Optimistic, is_tree_call, Setting, key_of, is_insert}
+use Rattle.art_schedules.proofs.Common.{is_scan, path_differs_at, new_leaf, overwriting, keys_differ_at, not_full, Held, Keys, Finding, Has}
+use Rattle.art_schedules.proofs.Common.{Lacks, Position, Down, Work, Target, Root, Below, Taken, Stage, Wait, Between, Info, Find, FindKeys}
+use Rattle.art_schedules.proofs.Common.{FindMore, FindCount, Slot, Check, CheckLast, Take, Unlock, Over, row_at, held, root_place, byte_in}
+use Rattle.art_schedules.proofs.Common.{keys_among, count_in, setting, after_with, seek_unlocked, insert_unlocked, overwrite_unlocked}
+use Rattle.art_schedules.proofs.Common.{grow_unlocked, found_at, among_at, find_at, below_at, hold_alone, no_value, pair_work, beside_work}
+use Rattle.art_schedules.proofs.Common.{leaf_work, keys_one, release_at, taken_at, take_alone, Reached, Means, HasForm, level_in, path_in}
+use Rattle.art_schedules.proofs.Common.{IsAtRest, LeadsTo, WaysLeadToValues, LeavesAreSmall, is_seek, leads-root, keys-differ, absent-after}
+use Rattle.art_schedules.proofs.Common.{seek-reply, first-differs, path_byte-small, Each, IsKept, IsUnder, FitsPlace, rows_kept, FitsStage}
+use Rattle.art_schedules.proofs.Common.{all_of, held_at_stage, IsBehindVersion, slot-behind, count-most, is_busy, RowsOf, LacksByte, BeginsWork}
+use Rattle.art_schedules.proofs.Common.{Stands, IsBelow, HangsBelow, KnowsPlace, KnowsStage, IsReachedHere, AllStand, hold_taken, IsPast}
+use Rattle.art_schedules.proofs.Common.{KnowsWay, IsHeldReached, Agrees, Gets, Goes, GoesOn, WaysBegin, IsOnWay, slot_in, HasChild, KnowsKeys}
+use Rattle.art_schedules.proofs.Common.{KnowsFinding, HangsOnWay}
+use Rattle.std.proofs.Common.{◌==◌, slice_index, Option, Some, None, if◌then◌else◌}
 use Rattle.events.specs.declared.event.Reply.TheVariants as reply
-use Rattle.map_object.specs.MapObject.{Contents, value_at, value_reply, Does}
-use Rattle.art_rows.specs.declared.table.Shape.{Shape}
-use Rattle.art_rows.specs.declared.table.Kind.{Kind}
-use Rattle.art_rows.specs.declared.table.Kind.TheVariants.{Four, Sixteen, FortyEight, Full}
-use Rattle.art_rows.specs.declared.table.Child.TheVariants.{Empty, Row as ChildRow, Leaf}
-use Rattle.art_rows.specs.Table.{capacity, row_words, root_base, info_at, keys_at, more_keys_at, index_at, count_at, child_at}
-use Rattle.art_rows.specs.Words.{is_locked, is_obsolete, key_bytes, first_difference, info_of, keys4_of}
-use Rattle.art_rows.specs.Words.{keys16_of, place_of, entries_of, child_of, child_word, count_of}
-use Rattle.art_rows.proofs.KindLemmas.{seven-words}
-use Rattle.art_rows.proofs.ByteLemmas.{key_byte-small}
-use Rattle.art_steps.specs.declared.variant.Variant.TheVariants.{Optimistic}
-use Rattle.art_steps.specs.TreeCalls.{is_tree_call}
-use Rattle.art_steps.specs.Rows.{Setting, key_of, is_insert, is_scan, path_differs_at}
-use Rattle.art_steps.specs.Updates.{new_leaf, overwriting, keys_differ_at}
-use Rattle.art_steps.proofs.AccessLemmas.{not_full}
-use Rattle.art_stages.specs.declared.stage.Held.{Held}
-use Rattle.art_stages.specs.declared.stage.Keys.{Keys}
-use Rattle.art_stages.specs.declared.stage.Finding.{Finding}
-use Rattle.art_stages.specs.declared.stage.Finding.TheVariants.{Has, Lacks}
-use Rattle.art_stages.specs.declared.stage.Position.{Position}
-use Rattle.art_stages.specs.declared.stage.Down.{Down}
-use Rattle.art_stages.specs.declared.stage.Work.{Work}
+use Rattle.map_object.specs.MapObject.{value_reply}
 use Rattle.art_stages.specs.declared.stage.Work.TheVariants as work
-use Rattle.art_stages.specs.declared.stage.Target.{Target}
-use Rattle.art_stages.specs.declared.stage.Target.TheVariants.{Root, Below, Taken}
-use Rattle.art_stages.specs.declared.stage.Stage.{Stage}
-use Rattle.art_stages.specs.declared.stage.Stage.TheVariants.{Wait, Between, Info, Find, FindKeys, FindMore}
-use Rattle.art_stages.specs.declared.stage.Stage.TheVariants.{FindCount, Slot, Check, CheckLast, Take, Unlock, Over}
-use Rattle.art_stages.specs.Stages.{row_at, held, root_place, byte_in, keys_among, count_in, setting}
-use Rattle.art_stages.specs.Automaton.{after_with, seek_unlocked, insert_unlocked, overwrite_unlocked, grow_unlocked, found_at}
-use Rattle.art_stages.specs.Automaton.{words_at, among_at, find_at, below_at, hold_alone, no_value}
-use Rattle.art_stages.specs.Automaton.{pair_work, beside_work, leaf_work, keys_one, release_at, taken_at}
-use Rattle.art_stages.specs.Automaton.{take_alone}
-use Rattle.art_core.specs.Meaning.{Reached, Means}
-use Rattle.art_core.specs.Forms.{HasForm, level_in, path_in}
-use Rattle.art_serial.specs.trees.Trees.{IsAtRest, LeadsTo, WaysLeadToValues, LeavesAreSmall}
-use Rattle.art_serial.specs.alone.Laws.{is_seek}
-use Rattle.art_serial.proofs.alone.WayLemmas.{leads-root}
-use Rattle.art_serial.proofs.alone.DifferLemmas.{keys-differ}
-use Rattle.art_serial.proofs.alone.SeekLemmas.{absent-after, seek-reply}
-use Rattle.art_serial.proofs.inserts.InsertEndLemmas.{first-differs}
-use Rattle.art_serial.proofs.inserts.SmallLemmas.{path_byte-small}
-use Rattle.art_versions.specs.versions.Holding.{Each, IsKept, IsUnder, FitsPlace, rows_kept, FitsStage}
-use Rattle.art_versions.specs.versions.Locking.{all_of, held_at_stage}
-use Rattle.art_versions.specs.versions.Effects.{IsBehindVersion}
-use Rattle.art_versions.proofs.versions.KeyLemmas.{slot-behind}
-use Rattle.art_versions.proofs.versions.WordFacts.{count-most}
-use Rattle.art_schedules.specs.calm.Calm.{is_busy}
+use Rattle.art_stages.specs.Automaton.{words_at}
 use Rattle.art_schedules.proofs.changes.SayingLemmas.{ways-are-paths}
-use Rattle.art_schedules.specs.work.Works.{RowsOf, LacksByte}
-use Rattle.art_schedules.specs.effects.Begins.{BeginsWork}
-use Rattle.art_schedules.specs.optimistic.Knows.{Stands, IsBelow, HangsBelow, KnowsPlace}
-use Rattle.art_schedules.specs.optimistic.Knows.{KnowsStage}
-use Rattle.art_schedules.specs.optimistic.Knows.{KnowsAt, IsReachedHere, AllStand, hold_taken, IsPast, KnowsWay, IsHeldReached}
-use Rattle.art_schedules.specs.optimistic.Goes.{Agrees, Gets, Goes, GoesOn, Works, Finds}
-use Rattle.art_schedules.specs.optimistic.Laws.{WaysBegin, WaysGoOn, FindingsStay}
+use Rattle.art_schedules.specs.optimistic.Knows.{KnowsAt}
+use Rattle.art_schedules.specs.optimistic.Goes.{Works, Finds}
+use Rattle.art_schedules.specs.optimistic.Laws.{WaysGoOn, FindingsStay}
 use Rattle.art_schedules.proofs.calm.VersionLemmas.{unmarked-free}
-use Rattle.art_schedules.specs.work.Ways.{IsOnWay, slot_in, HasChild, KnowsKeys, KnowsFinding, HangsOnWay}
 use Rattle.art_schedules.proofs.work.CallLemmas.{insert-of, seek-of, key-small, kept-after, full-slot}
 use Rattle.art_schedules.proofs.effects.ValueLemmas.{no-slot, empty-slot, own-leaf, other-leaf, other-row, hangs-on, reached-below}
 use Rattle.art_schedules.proofs.effects.ValueLemmas.{byte-in-small, overwritten}

@@ -1,76 +1,30 @@
 -- A step of the call's own, in a run.
-use Rattle.std.proofs.Common.{◌≡◌, ◌≢◌, ◌⊎◌, inl, inr, ℕ, ◌+◌, ◌<◌, ◌≤◌, ◌==◌, List, [], ◌∷◌, ◌++◌, slice_index, slice_set}
-use Rattle.std.proofs.Common.{Bool, true, false, refl, sym, ap, ◌∙◌, subst, arith, eq-eqb, ne_eqb, if◌then◌else◌}
-use Rattle.std.specs.Prelude.{slice_get, Option, Some, None}
-use Rattle.std.proofs.lemmas.Bool.{cases_eq, cases_lt}
-use Rattle.std.proofs.lemmas.List.{set-get_or}
+use Rattle.art_schedules.proofs.Common.{◌≡◌, ◌≢◌, ◌⊎◌, inl, inr, ℕ, ◌+◌, ◌<◌, ◌≤◌, List, [], ◌∷◌, ◌++◌, Bool, true, false, refl, sym, ap, ◌∙◌}
+use Rattle.art_schedules.proofs.Common.{subst, arith, eq-eqb, ne_eqb, slice_get, Option, Some, None, cases_eq, cases_lt, set-get_or, same_Some}
+use Rattle.art_schedules.proofs.Common.{Call, Reply, Contents, Shape, Kind, Four, Sixteen, FortyEight, Full, row_words, kind_at, claims_of}
+use Rattle.art_schedules.proofs.Common.{is_locked, is_obsolete, locked_word, released_word, some-words, claims-few, rows_apart, row_begins}
+use Rattle.art_schedules.proofs.Common.{row_ends, Optimistic, Access, Load, Store, Swap, Point, Asks, Answers, is_tree_call, Setting, is_insert}
+use Rattle.art_schedules.proofs.Common.{is_scan, act, word_of, asks-same, load-store, exchange-store, Held, Hold, Taking, Work, Stage, Wait}
+use Rattle.art_schedules.proofs.Common.{Between, Info, Find, FindKeys, FindMore, FindCount, Slot, Check, CheckLast, Take, Unlock, Over, setting}
+use Rattle.art_schedules.proofs.Common.{turn_at, find_turn, stage_after, taken_at, release_at, OnKey, call_turn, call_after, call_begun, got_by}
+use Rattle.art_schedules.proofs.Common.{words_after, told, Process, Plan, State, opened_on, step, moved, after_move, move_of, move_from, IsRun}
+use Rattle.art_schedules.proofs.Common.{Reached, Means, is-moved, IsAtRest, SameRow, WaysLeadToValues, LeavesAreSmall, stored-at, set-here}
+use Rattle.art_schedules.proofs.Common.{obsolete_released, IsOutside, IsAmong, Each, IsKept, Knows, KnowsKey, holds, rows_kept, FitsStage}
+use Rattle.art_schedules.proofs.Common.{lock_of, all_of, held_at_stage, IsOpen, IsSettled, stage_of, held_by, IsAtStage, index-other, knows-more}
+use Rattle.art_schedules.proofs.Common.{settled-row, after-more, next-turn, version-free, is_busy, calm_of, IsCalm, CalmStep, KeepsTree, RowsOf}
+use Rattle.art_schedules.proofs.Common.{BeginsWork, KnowsStage, IsReachedHere, KnowsWay, Stands, AllStand, hold_taken, IsPast, IsHeldReached}
+use Rattle.art_schedules.proofs.Common.{Agrees, Gets, Goes, GoesOn, StepsOn, OwnStepsGoOn, OwnFindingsStay}
+use Rattle.std.proofs.Common.{◌==◌, slice_index, slice_set, if◌then◌else◌}
 use Rattle.std.proofs.lemmas.Grind.{same_number_lists}
-use Rattle.std.proofs.lemmas.Option.{same_Some}
-use Rattle.events.specs.declared.event.Call.{Call}
-use Rattle.events.specs.declared.event.Reply.{Reply}
-use Rattle.map_object.specs.MapObject.{Contents}
-use Rattle.art_rows.specs.declared.table.Shape.{Shape}
-use Rattle.art_rows.specs.declared.table.Kind.{Kind}
-use Rattle.art_rows.specs.declared.table.Kind.TheVariants.{Four, Sixteen, FortyEight, Full}
-use Rattle.art_rows.specs.Table.{row_words, kind_at, claims_of}
-use Rattle.art_rows.specs.Words.{is_locked, is_obsolete, locked_word, released_word}
-use Rattle.art_rows.proofs.KindLemmas.{some-words, claims-few}
-use Rattle.art_serial.proofs.words.TableLemmas.{rows_apart, row_begins, row_ends}
-use Rattle.art_steps.specs.declared.variant.Variant.TheVariants.{Optimistic}
-use Rattle.art_steps.specs.declared.access.Access.{Access}
-use Rattle.art_steps.specs.declared.access.Access.TheVariants.{Load, Store, Exchange as Swap}
-use Rattle.art_steps.specs.declared.access.Point.{Point}
 use Rattle.art_steps.specs.declared.access.Point.TheVariants as point
-use Rattle.art_steps.specs.Steps.{Asks, Answers}
-use Rattle.art_steps.specs.TreeCalls.{is_tree_call}
-use Rattle.art_steps.specs.Rows.{Setting, is_insert, is_scan}
-use Rattle.art_steps.specs.Act.{act}
-use Rattle.art_steps.specs.Fits.{word_of}
-use Rattle.art_steps.proofs.TurnLemmas.{asks-same, load-store, exchange-store}
-use Rattle.art_stages.specs.declared.stage.Held.{Held}
-use Rattle.art_stages.specs.declared.stage.Hold.{Hold}
-use Rattle.art_stages.specs.declared.stage.Taking.{Taking}
-use Rattle.art_stages.specs.declared.stage.Work.{Work}
-use Rattle.art_stages.specs.declared.stage.Stage.{Stage}
-use Rattle.art_stages.specs.declared.stage.Stage.TheVariants.{Wait, Between, Info, Find, FindKeys, FindMore}
-use Rattle.art_stages.specs.declared.stage.Stage.TheVariants.{FindCount, Slot, Check, CheckLast, Take, Unlock, Over}
-use Rattle.art_stages.specs.Stages.{setting}
-use Rattle.art_stages.specs.Automaton.{turn_at, find_turn, stage_after, taken_at, release_at}
-use Rattle.art_stages.specs.Calls.{OnKey, call_turn, call_after, call_begun}
-use Rattle.art_core.specs.Accesses.{got_by, words_after, told}
-use Rattle.art_core.specs.declared.process.Process.{Process}
-use Rattle.art_core.specs.Core.{Plan, State, Makes, opened_on, step, moved, after_move, move_of, move_from}
-use Rattle.art_core.specs.Plans.{IsRun}
-use Rattle.art_core.specs.Meaning.{Reached, Means}
-use Rattle.art_core.proofs.HistoryLemmas.{is-moved}
-use Rattle.art_serial.specs.trees.Trees.{IsAtRest, SameRow, WaysLeadToValues, LeavesAreSmall}
-use Rattle.art_serial.proofs.writes.StoreLemmas.{stored-at}
-use Rattle.art_serial.proofs.serial.OrderlyLemmas.{set-here}
-use Rattle.art_serial.proofs.words.VersionLemmas.{obsolete_released}
-use Rattle.art_serial.specs.writes.Writes.{IsOutside}
-use Rattle.art_versions.specs.versions.Effects.{IsAmong}
-use Rattle.art_versions.specs.versions.Holding.{Each, IsKept, FitsTaking, Knows, KnowsKey, holds, rows_kept, FitsStage}
-use Rattle.art_versions.specs.versions.Locking.{lock_of, all_of, held_at_stage}
-use Rattle.art_versions.specs.versions.Versions.{IsOpen, IsSettled, stage_of, held_by, IsAtStage}
-use Rattle.art_versions.proofs.versions.ChangeLemmas.{index-other}
-use Rattle.art_versions.proofs.versions.KnownLemmas.{knows-more}
-use Rattle.art_versions.proofs.versions.MoveLemmas.{settled-row}
-use Rattle.art_versions.proofs.versions.StepLemmas.{after-more, next-turn}
-use Rattle.art_versions.proofs.versions.WordFacts.{version-free}
-use Rattle.art_schedules.specs.calm.Calm.{is_busy, calm_of, IsCalm}
-use Rattle.art_schedules.specs.calm.Changes.{CalmStep}
+use Rattle.art_core.specs.Core.{Makes}
+use Rattle.art_versions.specs.versions.Holding.{FitsTaking}
 use Rattle.art_schedules.proofs.calm.InductionLemmas.{run-begins, last-step, step-of-run}
 use Rattle.art_schedules.proofs.calm.RunLemmas.{step-at, calm-at}
 use Rattle.art_schedules.proofs.calm.UseLemmas.{without-store, with-released}
-use Rattle.art_schedules.proofs.calm.VersionLemmas.{free-busy, free-parts, released-free, not-behind}
-use Rattle.art_schedules.specs.changes.Follows.{KeepsTree}
-use Rattle.art_schedules.specs.work.Works.{RowsOf}
-use Rattle.art_schedules.specs.effects.Begins.{BeginsWork}
-use Rattle.art_schedules.specs.optimistic.Knows.{KnowsStage, KnowsReply, KnowsTaking, IsReachedHere, KnowsWay, Stands, AllStand, hold_taken}
-use Rattle.art_schedules.specs.optimistic.Knows.{IsPast, IsHeldReached}
-use Rattle.art_schedules.specs.optimistic.Goes.{Agrees, Gets, Goes, GoesOn, Works}
-use Rattle.art_schedules.specs.optimistic.Steps.{StepsOn, OwnStepsGoOn, OwnFindingsStay}
-use Rattle.art_schedules.proofs.calm.VersionLemmas.{unmarked-free}
+use Rattle.art_schedules.proofs.calm.VersionLemmas.{free-busy, free-parts, released-free, not-behind, unmarked-free}
+use Rattle.art_schedules.specs.optimistic.Knows.{KnowsReply, KnowsTaking}
+use Rattle.art_schedules.specs.optimistic.Goes.{Works}
 use Rattle.art_schedules.proofs.optimistic.InfoLemmas.{calm-agrees}
 use Rattle.art_schedules.proofs.optimistic.OwnLemmas.{ways-go-on, findings-stay}
 

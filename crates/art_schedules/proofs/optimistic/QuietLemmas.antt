@@ -1,26 +1,14 @@
 -- Steps without a store.
-use Rattle.std.proofs.Common.{◌≡◌, ℕ, ◌≤◌, List, [], ◌∷◌, ◌++◌, slice_index, refl, sym, ◌∙◌, arith, false, true}
-use Rattle.art_rows.specs.declared.table.Kind.{Kind}
-use Rattle.art_rows.specs.declared.table.Kind.TheVariants.{Four, Sixteen, FortyEight, Full}
-use Rattle.art_rows.specs.Table.{claims_of}
-use Rattle.art_rows.specs.Words.{released_word}
-use Rattle.art_rows.proofs.KindLemmas.{claims-few}
-use Rattle.art_steps.specs.declared.variant.Variant.TheVariants.{Optimistic}
-use Rattle.art_steps.specs.declared.access.Access.TheVariants.{Store}
-use Rattle.art_steps.specs.Steps.{Asks}
-use Rattle.art_steps.proofs.TurnLemmas.{load-store, exchange-store, answers-asks}
-use Rattle.art_stages.specs.declared.stage.Held.{Held}
-use Rattle.art_stages.specs.declared.stage.ScanStep.{ScanStep}
-use Rattle.art_stages.specs.declared.stage.ScanStep.TheVariants.{Lock, Exchange, Wait, Info, Keys}
-use Rattle.art_stages.specs.declared.stage.ScanStep.TheVariants.{FirstKeys, SecondKeys, Index, Child as LoadChild, Release, Over}
-use Rattle.art_stages.specs.Stages.{setting}
-use Rattle.art_stages.specs.Scans.{Walk, at, scan_turn, keys_turn}
-use Rattle.art_schedules.specs.calm.Calm.{calm_of, IsCalm}
-use Rattle.art_schedules.specs.calm.Changes.{CalmChange, CalmStays, CalmFilled, CalmReleased}
-use Rattle.art_schedules.proofs.calm.InductionLemmas.{run-begins, last-step, step-of-run}
+use Rattle.art_schedules.proofs.Common.{◌≡◌, ℕ, ◌≤◌, List, [], ◌∷◌, ◌++◌, refl, sym, ◌∙◌, arith, false, true, Kind, Four, Sixteen, FortyEight}
+use Rattle.art_schedules.proofs.Common.{Full, claims_of, released_word, claims-few, Optimistic, Store, Asks, load-store, exchange-store}
+use Rattle.art_schedules.proofs.Common.{answers-asks, Held, ScanStep, FirstKeys, SecondKeys, Index, LoadChild, Release, setting, Walk, at}
+use Rattle.art_schedules.proofs.Common.{scan_turn, keys_turn, calm_of, IsCalm, CalmChange, CalmStays, CalmFilled, CalmReleased}
+use Rattle.art_schedules.proofs.Common.{QuietStepsKeepTrees, ScansStoreNothing}
+use Rattle.std.proofs.Common.{slice_index}
+use Rattle.art_stages.specs.declared.stage.ScanStep.TheVariants.{Lock, Exchange, Wait, Info, Keys, Over}
+use Rattle.art_schedules.proofs.calm.InductionLemmas.{step-of-run}
 use Rattle.art_schedules.proofs.calm.RunLemmas.{step-at, calm-at}
 use Rattle.art_schedules.proofs.changes.FollowLemmas.{low-words-keep}
-use Rattle.art_schedules.specs.optimistic.Steps.{QuietStepsKeepTrees, ScansStoreNothing}
 
 pub scans-store-nothing : ScansStoreNothing
 scans-store-nothing shape call low high scan word value mark e = go scan.step scan.walk e

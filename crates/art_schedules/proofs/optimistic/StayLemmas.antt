@@ -1,49 +1,16 @@
 -- What a call knows on its way stays so, whatever other calls do.
-use Rattle.std.proofs.Common.{◌≡◌, ℕ, ◌+◌, List, [], ◌∷◌, ◌++◌, slice_index, Bool, true, false, sym, ap, ◌∙◌, arith, inl}
-use Rattle.std.specs.Prelude.{Option, Some, None}
-use Rattle.std.proofs.lemmas.Bool.{false≢true}
-use Rattle.map_object.specs.MapObject.{Contents}
-use Rattle.events.specs.declared.event.Call.{Call}
-use Rattle.events.specs.declared.event.Reply.{Reply}
-use Rattle.art_rows.specs.declared.table.Shape.{Shape}
-use Rattle.art_rows.specs.declared.table.Kind.{Kind}
-use Rattle.art_rows.specs.declared.table.Child.{Child}
-use Rattle.art_rows.specs.declared.table.Child.TheVariants.{Row as ChildRow}
-use Rattle.art_rows.specs.Table.{kind_at}
-use Rattle.art_rows.specs.Words.{key_bytes, first_difference, info_of, child_of, is_obsolete}
-use Rattle.art_rows.proofs.KindLemmas.{seven-words}
-use Rattle.art_steps.specs.declared.variant.Variant.TheVariants.{Optimistic}
-use Rattle.art_steps.specs.Rows.{Setting, key_of, is_insert}
-use Rattle.art_stages.specs.declared.stage.Held.{Held}
-use Rattle.art_stages.specs.declared.stage.Position.{Position}
-use Rattle.art_stages.specs.declared.stage.Down.{Down}
-use Rattle.art_stages.specs.declared.stage.Work.{Work}
-use Rattle.art_stages.specs.declared.stage.Target.TheVariants.{Root, Below, Taken}
-use Rattle.art_stages.specs.declared.stage.Stage.{Stage}
-use Rattle.art_stages.specs.declared.stage.Stage.TheVariants.{Wait, Between, Info, Find, FindKeys, FindMore}
-use Rattle.art_stages.specs.declared.stage.Stage.TheVariants.{FindCount, Slot, Check, CheckLast, Take, Unlock, Over}
-use Rattle.art_stages.specs.Stages.{held, setting}
-use Rattle.art_core.specs.Core.{State}
-use Rattle.art_core.specs.Forms.{path_in}
-use Rattle.art_serial.specs.trees.Trees.{SameRow}
-use Rattle.art_versions.specs.versions.Holding.{Each, IsKept, rows_kept}
-use Rattle.art_versions.specs.versions.Locking.{all_of, held_at_stage}
-use Rattle.art_versions.specs.versions.Versions.{IsSettled}
-use Rattle.art_versions.specs.versions.Steady.{IsSteady}
-use Rattle.art_versions.proofs.versions.MoveLemmas.{settled-row}
-use Rattle.art_schedules.specs.calm.Calm.{is_busy}
-use Rattle.art_schedules.proofs.calm.VersionLemmas.{free-parts}
-use Rattle.art_schedules.specs.changes.Courses.{IsGoneBy, ComesInBy, IsStill, pairs_by}
-use Rattle.art_schedules.specs.changes.Effects.{Effect}
-use Rattle.art_schedules.specs.changes.Follows.{Follows}
-use Rattle.art_schedules.specs.effects.Begins.{BeginsWork}
-use Rattle.art_schedules.specs.optimistic.Knows.{Stands, IsBelow, HangsBelow, KnowsPlace, KnowsStage}
-use Rattle.art_schedules.specs.optimistic.Knows.{KnowsReply, KnowsAt, IsReachedHere, AllStand, hold_taken}
-use Rattle.art_schedules.specs.optimistic.Knows.{PathFollows, PathDiffers, IsReachedBelow, IsPast, IsHeldReached}
-use Rattle.art_schedules.specs.optimistic.Goes.{Agrees}
+use Rattle.art_schedules.proofs.Common.{◌≡◌, ℕ, ◌+◌, List, [], ◌∷◌, ◌++◌, Bool, true, false, sym, ap, ◌∙◌, arith, inl, Option, Some, None}
+use Rattle.art_schedules.proofs.Common.{false≢true, Contents, Call, Reply, Shape, Kind, Child, ChildRow, kind_at, key_bytes, first_difference}
+use Rattle.art_schedules.proofs.Common.{info_of, is_obsolete, seven-words, Optimistic, Setting, key_of, is_insert, Held, Position}
+use Rattle.art_schedules.proofs.Common.{Down, Work, Root, Below, Taken, Stage, Wait, Between, Info, Find, FindKeys, FindMore, FindCount, Slot}
+use Rattle.art_schedules.proofs.Common.{Check, CheckLast, Take, Unlock, Over, held, setting, State, path_in, SameRow, Each, IsKept, rows_kept}
+use Rattle.art_schedules.proofs.Common.{all_of, held_at_stage, IsSettled, IsSteady, settled-row, is_busy, IsGoneBy, ComesInBy, IsStill, pairs_by}
+use Rattle.art_schedules.proofs.Common.{Effect, Follows, BeginsWork, Stands, IsBelow, HangsBelow, KnowsPlace, KnowsStage, IsReachedHere}
+use Rattle.art_schedules.proofs.Common.{AllStand, hold_taken, IsPast, IsHeldReached, Agrees, HangsOnWay}
+use Rattle.std.proofs.Common.{slice_index}
+use Rattle.art_schedules.proofs.calm.VersionLemmas.{free-parts, unmarked-free}
+use Rattle.art_schedules.specs.optimistic.Knows.{KnowsReply, KnowsAt, PathFollows, PathDiffers, IsReachedBelow}
 use Rattle.art_schedules.specs.optimistic.Laws.{InfosStay, WaysAreKept}
-use Rattle.art_schedules.proofs.calm.VersionLemmas.{unmarked-free}
-use Rattle.art_schedules.specs.work.Ways.{HangsOnWay}
 use Rattle.art_schedules.proofs.effects.WayLemmas.{on-way, slot-still, hangs-still, finding-still, index-still, begins-still}
 
 -- ---- a step, with the states before and behind it

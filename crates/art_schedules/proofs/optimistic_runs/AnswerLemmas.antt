@@ -1,36 +1,14 @@
 -- What an open call of the optimistic tree is answered.
-use Rattle.std.proofs.Common.{◌≡◌, ℕ, ◌≤◌, true, List, [], ◌∷◌, ◌++◌, length, refl, sym, ap, subst, ◌∙◌, ⊎_elim, arith}
-use Rattle.std.specs.Prelude.{Some}
-use Rattle.std.proofs.lemmas.Option.{same_Some, none-some}
-use Rattle.std.proofs.Math.Seq.{take-length}
-use Rattle.events.specs.declared.event.Call.{Call}
-use Rattle.events.specs.declared.event.Call.TheVariants.{Scan}
-use Rattle.events.specs.declared.event.Reply.{Reply}
-use Rattle.map_object.specs.MapObject.{Contents, Does}
-use Rattle.art_rows.specs.declared.table.Shape.{Shape}
-use Rattle.art_steps.specs.declared.variant.Variant.TheVariants.{Optimistic}
-use Rattle.art_steps.specs.Steps.{Answers, reply_of}
-use Rattle.art_steps.specs.TreeCalls.{is_tree_call}
-use Rattle.art_stages.specs.declared.stage.Stage.{Stage}
-use Rattle.art_stages.specs.declared.stage.Stage.TheVariants.{Info, CheckLast, Unlock, Over}
-use Rattle.art_stages.specs.Stages.{setting, reply_for}
-use Rattle.art_stages.specs.Automaton.{turn_at}
-use Rattle.art_stages.specs.Calls.{OnKey, call_turn}
-use Rattle.art_core.specs.declared.process.Process.{Process}
-use Rattle.art_core.specs.Core.{Plan, State, begun, opened_on, known_reply}
-use Rattle.art_core.specs.Runs.{At, Gives}
-use Rattle.art_schedules.specs.calls.RunCalls.{IsIn}
-use Rattle.art_versions.specs.versions.Versions.{IsOpen, stage_of}
-use Rattle.art_versions.proofs.versions.StepLemmas.{next-turn}
-use Rattle.art_schedules.specs.calm.Calm.{calm_of}
-use Rattle.art_schedules.specs.stories.Stories.{Status, Before, Found, HasNotChanged, HasReply, Tale, IsInCall}
-use Rattle.art_schedules.specs.stories.Fitting.{IsToldStep, AllFit, Stays, FindsAt, AnswersCall, MeansAt, HasItsReply, the_plan}
-use Rattle.art_schedules.specs.optimistic.Knows.{KnowsWay}
+use Rattle.art_schedules.proofs.Common.{◌≡◌, ℕ, ◌≤◌, true, List, [], ◌∷◌, ◌++◌, length, refl, sym, ap, subst, ◌∙◌, ⊎_elim, arith, Some}
+use Rattle.art_schedules.proofs.Common.{same_Some, none-some, take-length, Call, Scan, Reply, Contents, Does, Shape, Optimistic, Answers}
+use Rattle.art_schedules.proofs.Common.{reply_of, is_tree_call, Stage, Info, CheckLast, Unlock, Over, setting, reply_for, turn_at, OnKey}
+use Rattle.art_schedules.proofs.Common.{call_turn, Process, Plan, State, begun, opened_on, known_reply, At, Gives, IsIn, IsOpen, stage_of}
+use Rattle.art_schedules.proofs.Common.{next-turn, calm_of, Status, Before, Found, HasNotChanged, HasReply, Tale, IsInCall, IsToldStep, AllFit}
+use Rattle.art_schedules.proofs.Common.{Stays, FindsAt, AnswersCall, MeansAt, HasItsReply, the_plan, KnowsWay, AtWork, AtEnd, Answering, Leaving}
+use Rattle.art_schedules.proofs.Common.{WorkStep, Ghosts, IsWorld, IsFit, Seeks, Works, Finds, Walks, OptimisticFits}
 use Rattle.art_schedules.specs.scan_points.ScanPoints.{HasScanPoint}
-use Rattle.art_schedules.specs.effects.AtWork.{AtWork, AtEnd, Answering, Leaving}
 use Rattle.art_schedules.specs.effects.Outcomes as outcomes
-use Rattle.art_schedules.specs.effects.Outcomes.{WorkStep}
-use Rattle.art_schedules.specs.optimistic_runs.OptimisticFits.{Ghosts, IsWorld, IsFit, Seeks, Works, Finds, Ends, Walks, OptimisticFits}
+use Rattle.art_schedules.specs.optimistic_runs.OptimisticFits.{Ends}
 use Rattle.art_schedules.proofs.optimistic_runs.PartLaws.{LawsOfParts}
 
 -- an end is answered what it has

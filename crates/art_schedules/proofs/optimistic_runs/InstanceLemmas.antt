@@ -1,33 +1,15 @@
 -- Every run of the optimistic tree is linearizable, from the laws of the parts.
-use Rattle.std.proofs.Common.{◌≡◌, ℕ, List, [], ◌∷◌, ◌++◌, length, refl, sym, subst}
-use Rattle.std.specs.Prelude.{None}
-use Rattle.std.proofs.lemmas.Option.{none-some}
-use Rattle.events.specs.declared.event.Call.{Call}
-use Rattle.events.specs.declared.event.Call.TheVariants.{Get, Insert, Remove, Scan, Replace}
-use Rattle.events.specs.declared.event.Reply.{Reply}
-use Rattle.map_object.specs.MapObject.{Contents}
-use Rattle.art_rows.specs.declared.table.Shape.{Shape}
-use Rattle.art_steps.specs.declared.variant.Variant.{Variant}
-use Rattle.art_steps.specs.declared.variant.Variant.TheVariants.{Optimistic}
-use Rattle.art_steps.specs.declared.access.Access.{Access}
-use Rattle.art_stages.specs.declared.stage.Stage.TheVariants.{Wait}
-use Rattle.art_stages.specs.declared.stage.Target.TheVariants.{Root}
-use Rattle.art_core.specs.declared.process.Process.{Process}
-use Rattle.art_core.specs.Core.{Plan, State}
-use Rattle.art_core.specs.Claims.{OptimisticIsLinearizable}
-use Rattle.art_schedules.specs.calm.Calm.{calm_of}
-use Rattle.art_schedules.specs.stories.Laws.{StartsAreAtRest, StoriesGiveOrders}
-use Rattle.art_schedules.specs.stories.Stories.{Status, Before, Tale}
-use Rattle.art_schedules.specs.stories.Fitting.{IsToldStep, AllFit, AreLed, IsLedOn, OwnStep, BeginsCall, MakesAccess, AnswersCall}
-use Rattle.art_schedules.specs.stories.Fitting.{HasItsReply, set_at, the_plan}
+use Rattle.art_schedules.proofs.Common.{◌≡◌, ℕ, List, [], ◌∷◌, ◌++◌, length, refl, sym, subst, None, none-some, Call, Get, Insert, Remove, Scan}
+use Rattle.art_schedules.proofs.Common.{Replace, Reply, Contents, Shape, Variant, Optimistic, Access, Wait, Root, Process, Plan, State}
+use Rattle.art_schedules.proofs.Common.{OptimisticIsLinearizable, calm_of, StartsAreAtRest, StoriesGiveOrders, Status, Before, Tale, IsToldStep}
+use Rattle.art_schedules.proofs.Common.{AllFit, AreLed, IsLedOn, OwnStep, BeginsCall, MakesAccess, AnswersCall, HasItsReply, set_at, the_plan}
+use Rattle.art_schedules.proofs.Common.{Makes, Ghosts, IsWorld, IsFit, Seeks, Walks, OptimisticFits, TreeGoesOn}
 use Rattle.art_schedules.proofs.stories.ClaimLemmas.{optimistic-from-ghosts}
-use Rattle.art_schedules.specs.effects.Outcomes.{Makes}
-use Rattle.art_schedules.specs.optimistic_runs.OptimisticFits.{Ghosts, IsWorld, IsFit, Seeks, Walks, OptimisticFits, OptimisticAreLed}
+use Rattle.art_schedules.specs.optimistic_runs.OptimisticFits.{OptimisticAreLed}
 use Rattle.art_schedules.proofs.optimistic_runs.PartLaws.{LawsOfParts}
 use Rattle.art_schedules.proofs.optimistic_runs.LedLemmas as led
 use Rattle.art_schedules.proofs.optimistic_runs.OwnLemmas.{own-step}
 use Rattle.art_schedules.proofs.optimistic_runs.AnswerLemmas.{answered}
-use Rattle.art_schedules.specs.changes.Courses.{TreeGoesOn}
 use Rattle.art_schedules.proofs.calls.ScriptLemmas.{next-tree}
 use Rattle.art_schedules.proofs.stories.OpenLemmas.{set-here}
 

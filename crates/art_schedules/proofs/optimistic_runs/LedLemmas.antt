@@ -1,40 +1,15 @@
 -- What fits each call of the optimistic tree is kept by each step of another process.
-use Rattle.std.proofs.Common.{◌≡◌, ◌≢◌, ℕ, true, false, List, [], ◌∷◌, ◌++◌, length, refl, sym, ap, subst, ◌∙◌, inr, ⊎_elim, arith}
-use Rattle.std.specs.Prelude.{slice_index, Option, Some, None}
-use Rattle.std.proofs.lemmas.Option.{same_Some, none-some}
-use Rattle.events.specs.declared.event.Call.{Call}
-use Rattle.events.specs.declared.event.Reply.{Reply}
-use Rattle.map_object.specs.MapObject.{Contents}
-use Rattle.art_rows.specs.declared.table.Shape.{Shape}
-use Rattle.art_rows.specs.declared.table.Kind.{Kind}
-use Rattle.art_rows.specs.Words.{is_obsolete}
-use Rattle.art_steps.specs.declared.variant.Variant.TheVariants.{Optimistic}
-use Rattle.art_steps.specs.Rows.{is_insert}
-use Rattle.art_stages.specs.declared.stage.Stage.{Stage}
-use Rattle.art_stages.specs.Stages.{setting}
-use Rattle.art_stages.specs.Calls.{CallAt, OnKey, OnScan}
-use Rattle.art_core.specs.declared.process.Process.{Process}
-use Rattle.art_core.specs.Core.{Plan, State}
-use Rattle.art_core.specs.Meaning.{Reached}
-use Rattle.art_serial.specs.trees.Trees.{IsClaimed}
-use Rattle.art_versions.specs.versions.Effects.{IsAmong}
-use Rattle.art_versions.specs.versions.Holding.{Named, holds}
-use Rattle.art_versions.specs.versions.Versions.{IsOpen, stage_of}
-use Rattle.art_versions.proofs.versions.KnownLemmas.{each-map}
-use Rattle.art_versions.specs.versions.Locking.{held_at_stage}
-use Rattle.art_schedules.specs.calm.Calm.{calm_of}
+use Rattle.art_schedules.proofs.Common.{◌≡◌, ◌≢◌, ℕ, true, false, List, [], ◌∷◌, ◌++◌, length, refl, sym, ap, subst, ◌∙◌, inr, ⊎_elim, arith}
+use Rattle.art_schedules.proofs.Common.{slice_index, Option, Some, None, same_Some, none-some, Call, Reply, Contents, Shape, Kind, is_obsolete}
+use Rattle.art_schedules.proofs.Common.{Optimistic, is_insert, Stage, setting, CallAt, OnKey, OnScan, Process, Plan, State, Reached, IsClaimed}
+use Rattle.art_schedules.proofs.Common.{IsAmong, Named, holds, IsOpen, stage_of, each-map, held_at_stage, calm_of, Effect, IsGoneBy, TreeGoesOn}
+use Rattle.art_schedules.proofs.Common.{KeepsTree, Status, Tale, IsToldStep, AllFit, IsLedOn, set_at, the_plan, KnowsWay, AtWork, fresh_of}
+use Rattle.art_schedules.proofs.Common.{Makes, HoldsReached, IsOther, AreTwoRows, Ghosts, IsWorld, IsFit, Seeks, Works, Finds, Walks}
+use Rattle.art_schedules.proofs.Common.{OptimisticFits}
 use Rattle.art_schedules.proofs.calm.CalmLemmas.{claimed-row}
 use Rattle.art_schedules.proofs.calm.InductionLemmas.{IsStep, step-of-run}
-use Rattle.art_schedules.specs.changes.Effects.{Effect}
-use Rattle.art_schedules.specs.changes.Courses.{IsGoneBy, TreeGoesOn}
-use Rattle.art_schedules.specs.changes.Follows.{KeepsTree}
-use Rattle.art_schedules.specs.stories.Stories.{Status, Tale}
-use Rattle.art_schedules.specs.stories.Fitting.{IsToldStep, AllFit, IsLedOn, set_at, the_plan}
 use Rattle.art_schedules.proofs.stories.TreeLemmas.{tree-kept}
-use Rattle.art_schedules.specs.optimistic.Knows.{KnowsWay}
-use Rattle.art_schedules.specs.effects.AtWork.{AtWork, fresh_of}
-use Rattle.art_schedules.specs.effects.Outcomes.{Makes, HoldsReached, IsOther, AreTwoRows}
-use Rattle.art_schedules.specs.optimistic_runs.OptimisticFits.{Ghosts, IsWorld, IsFit, Seeks, Works, Finds, Ends, Walks, OptimisticFits}
+use Rattle.art_schedules.specs.optimistic_runs.OptimisticFits.{Ends}
 use Rattle.art_schedules.proofs.optimistic_runs.PartLaws.{LawsOfParts}
 use Rattle.art_schedules.proofs.optimistic_runs.SmallLemmas.{among-locks, apart-none, apart-by}
 use Rattle.art_schedules.proofs.changes.EffectLemmas.{gone-reached}

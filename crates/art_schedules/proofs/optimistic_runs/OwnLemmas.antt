@@ -1,53 +1,20 @@
 -- What a call of the optimistic tree does in a step of its own.
-use Rattle.std.proofs.Common.{◌≡◌, ◌⊎◌, ℕ, true, false, List, [], ◌∷◌, ◌++◌, length, refl, sym, ap, subst, ◌∙◌, inl, inr, ⊎_elim}
-use Rattle.std.specs.Prelude.{Option, Some, None}
-use Rattle.events.specs.declared.event.Call.{Call}
-use Rattle.events.specs.declared.event.Call.TheVariants.{Scan}
-use Rattle.events.specs.declared.event.Reply.{Reply}
+use Rattle.art_schedules.proofs.Common.{◌≡◌, ◌⊎◌, ℕ, true, false, List, [], ◌∷◌, ◌++◌, length, refl, sym, ap, subst, ◌∙◌, inl, inr, ⊎_elim}
+use Rattle.art_schedules.proofs.Common.{Option, Some, None, Call, Scan, Reply, Contents, Shape, Optimistic, Access, Point, Asks, is_tree_call}
+use Rattle.art_schedules.proofs.Common.{is_insert, is_scan, Held, Hold, Outcome, Stage, Over, Work, setting, ScanAt, turn_at, work_at, OnKey}
+use Rattle.art_schedules.proofs.Common.{OnScan, call_turn, call_after, Process, got_by, Plan, State, begun, opened_on, IsClaimed, Named, Each}
+use Rattle.art_schedules.proofs.Common.{Knows, IsKept, rows_of_hold, IsOpen, stage_of, each-map, calm_of, RowsOf, Effect, KeepsTree, Status}
+use Rattle.art_schedules.proofs.Common.{Before, Found, Changed, HasNotChanged, Tale, IsToldStep, AllFit, IsLedOn, OwnStep, Changes, Next, Stays}
+use Rattle.art_schedules.proofs.Common.{Forgets, FindsNow, MakesAccess, set_at, the_plan, KnowsWay, IsHeldReached, StepsOn, BeginsWork, AtWork}
+use Rattle.art_schedules.proofs.Common.{AtEnd, Makes, WorkStep, EndStep, Ghosts, IsWorld, IsFit, Seeks, Works, Finds, Walks, OptimisticFits}
 use Rattle.events.specs.declared.event.Reply.TheVariants.{Refused}
-use Rattle.map_object.specs.MapObject.{Contents}
-use Rattle.art_rows.specs.declared.table.Shape.{Shape}
-use Rattle.art_steps.specs.declared.variant.Variant.TheVariants.{Optimistic}
-use Rattle.art_steps.specs.declared.access.Access.{Access}
-use Rattle.art_steps.specs.declared.access.Point.{Point}
-use Rattle.art_steps.specs.Steps.{Asks}
-use Rattle.art_steps.specs.TreeCalls.{is_tree_call}
-use Rattle.art_steps.specs.Rows.{is_insert, is_scan}
-use Rattle.art_stages.specs.declared.stage.Held.{Held}
-use Rattle.art_stages.specs.declared.stage.Hold.{Hold}
-use Rattle.art_stages.specs.declared.stage.Outcome.{Outcome}
-use Rattle.art_stages.specs.declared.stage.Stage.{Stage}
-use Rattle.art_stages.specs.declared.stage.Stage.TheVariants.{Over}
-use Rattle.art_stages.specs.declared.stage.Work.{Work}
-use Rattle.art_stages.specs.Stages.{setting}
-use Rattle.art_stages.specs.Scans.{ScanAt}
-use Rattle.art_stages.specs.Automaton.{turn_at, work_at}
-use Rattle.art_stages.specs.Calls.{OnKey, OnScan, call_turn, call_after}
-use Rattle.art_core.specs.declared.process.Process.{Process}
-use Rattle.art_core.specs.Accesses.{got_by}
-use Rattle.art_core.specs.Core.{Plan, State, begun, opened_on}
-use Rattle.art_serial.specs.trees.Trees.{IsClaimed}
-use Rattle.art_versions.specs.versions.Holding.{Named, Each, Knows, IsKept}
-use Rattle.art_versions.specs.versions.Locking.{rows_of_hold}
-use Rattle.art_versions.specs.versions.Versions.{IsOpen, stage_of}
-use Rattle.art_versions.proofs.versions.KnownLemmas.{each-map}
-use Rattle.art_schedules.specs.calm.Calm.{calm_of}
 use Rattle.art_schedules.proofs.calm.CalmLemmas.{kept-live}
-use Rattle.art_schedules.specs.work.Works.{RowsOf}
 use Rattle.art_schedules.proofs.work.OwnLemmas.{rows-known}
-use Rattle.art_schedules.specs.changes.Effects.{Effect}
-use Rattle.art_schedules.specs.changes.Follows.{KeepsTree}
-use Rattle.art_schedules.specs.stories.Stories.{Status, Before, Found, Changed, HasNotChanged, Tale}
-use Rattle.art_schedules.specs.stories.Fitting.{IsToldStep, AllFit, IsLedOn, OwnStep, Keeps, Changes, Next, Stays, Forgets, FindsNow}
-use Rattle.art_schedules.specs.stories.Fitting.{MakesAccess, set_at, the_plan}
-use Rattle.art_schedules.specs.optimistic.Knows.{KnowsWay, IsHeldReached}
+use Rattle.art_schedules.specs.stories.Fitting.{Keeps}
 use Rattle.art_schedules.specs.optimistic.Goes as goes
-use Rattle.art_schedules.specs.optimistic.Steps.{StepsOn, IsQuiet}
-use Rattle.art_schedules.specs.effects.Begins.{BeginsWork}
-use Rattle.art_schedules.specs.effects.AtWork.{AtWork, AtEnd}
+use Rattle.art_schedules.specs.optimistic.Steps.{IsQuiet}
 use Rattle.art_schedules.specs.effects.Outcomes as outcomes
-use Rattle.art_schedules.specs.effects.Outcomes.{Makes, WorkStep, EndStep}
-use Rattle.art_schedules.specs.optimistic_runs.OptimisticFits.{Ghosts, IsWorld, IsFit, Seeks, Works, Finds, Ends, Walks, OptimisticFits}
+use Rattle.art_schedules.specs.optimistic_runs.OptimisticFits.{Ends}
 use Rattle.art_schedules.proofs.optimistic_runs.PartLaws.{LawsOfParts}
 use Rattle.art_schedules.proofs.optimistic_runs.SmallLemmas.{work-kept, each-both}
 use Rattle.art_schedules.proofs.optimistic_runs.LedLemmas as led

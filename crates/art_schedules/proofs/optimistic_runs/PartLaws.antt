@@ -1,11 +1,8 @@
 -- The laws of the parts of which the proof is made.
-use Rattle.art_schedules.specs.changes.Laws.{KeptTreesFollow}
-use Rattle.art_schedules.specs.effects.Laws.{WorkBegins, WorkersHoldReached, LeaversHoldReached, OthersKeepWork, OthersKeepEnds}
-use Rattle.art_schedules.specs.effects.Laws.{WorkersStep, LeaversStep}
-use Rattle.art_schedules.specs.effects.Laws.{EffectsBringTheirs, FreshIsClaimed}
-use Rattle.art_schedules.specs.optimistic.Laws.{WaysBegin}
-use Rattle.art_schedules.specs.optimistic.Steps.{OtherStepsKeepWays, OwnFindingsStay, OwnStepsGoOn, QuietStepsKeepTrees, ScansStoreNothing}
-use Rattle.art_schedules.specs.scan_points.ScanPoints.{AnsweredScansHavePoints}
+use Rattle.art_schedules.proofs.Common.{KeptTreesFollow, WorkBegins, OthersKeepWork, OthersKeepEnds, WorkersStep, LeaversStep, WaysBegin}
+use Rattle.art_schedules.proofs.Common.{OtherStepsKeepWays, OwnFindingsStay, OwnStepsGoOn, QuietStepsKeepTrees, ScansStoreNothing}
+use Rattle.art_schedules.proofs.Common.{AnsweredScansHavePoints}
+use Rattle.art_schedules.specs.effects.Laws.{WorkersHoldReached, LeaversHoldReached, EffectsBringTheirs, FreshIsClaimed}
 
 -- each of them, by the name of the function that carries it
 pub record LawsOfParts : Type 0 where

@@ -1,18 +1,8 @@
 -- Small facts of stages, of ghosts, of rows that are held, and of calls that are open.
-use Rattle.std.proofs.Common.{◌≡◌, ◌≢◌, ℕ, zero, suc, Bool, false, List, [], ◌∷◌, refl, sym, subst, inl, inr}
-use Rattle.std.specs.Prelude.{Option, Some, None}
-use Rattle.art_rows.specs.declared.table.Kind.{Kind}
-use Rattle.art_rows.specs.declared.table.Kind.TheVariants.{Four, Sixteen, FortyEight, Full}
-use Rattle.art_steps.specs.Rows.{Setting}
-use Rattle.art_stages.specs.declared.stage.Held.{Held}
-use Rattle.art_stages.specs.declared.stage.Hold.{Hold}
-use Rattle.art_stages.specs.declared.stage.Work.{Work}
+use Rattle.art_schedules.proofs.Common.{◌≡◌, ◌≢◌, ℕ, zero, suc, Bool, false, List, [], ◌∷◌, refl, sym, subst, inl, inr, Option, Some, None, Kind}
+use Rattle.art_schedules.proofs.Common.{Four, Sixteen, FortyEight, Full, Setting, Held, Hold, Work, work_at, moves_at, put_at, IsAmong, Named}
+use Rattle.art_schedules.proofs.Common.{Each, rows_kept, locks_of, rows_of_hold, AreTwoRows}
 use Rattle.art_stages.specs.declared.stage.Work.TheVariants as work
-use Rattle.art_stages.specs.Automaton.{work_at, moves_at, put_at}
-use Rattle.art_versions.specs.versions.Effects.{IsAmong}
-use Rattle.art_versions.specs.versions.Holding.{Named, Each, rows_kept}
-use Rattle.art_versions.specs.versions.Locking.{locks_of, rows_of_hold}
-use Rattle.art_schedules.specs.effects.Outcomes.{AreTwoRows}
 
 -- where work begins, the rows of the hold are those whose versions are kept
 pub work-kept : (i : Bool) (c : Setting) (h : Hold) (w : Work) → rows_kept false i (work_at c h w) ≡ rows_of_hold h

@@ -1,24 +1,22 @@
 -- Calls that have an order have points: the places in it.
-use Rattle.std.proofs.Common.{◌≡◌, ℕ, zero, suc, ◌+◌, ◌<◌, Bool, true, false, List, [], ◌∷◌, ◌++◌, length, take, drop, Option, Some, None}
-use Rattle.std.proofs.Common.{refl, sym, ap, ◌∙◌, subst}
-use Rattle.std.proofs.Common.{inr, ⊎_elim, arith}
-use Rattle.std.specs.Prelude.{◌≢◌, ◌==◌, if◌then◌else◌, slice_get, IsSome, AllPairs, Contains}
-use Rattle.std.proofs.lemmas.Bool.{false≢true, false_from_ne_true, eq-eqb, eqb-true, cases_order}
-use Rattle.std.proofs.lemmas.List.{take-append-drop, take_more}
-use Rattle.std.proofs.lemmas.List.Elements.{All-contains}
-use Rattle.std.proofs.lemmas.Option.{none-some, same_Some, slice_get_within, get_or_from_slice_get}
-use Rattle.events.specs.declared.operation.Operation.{Operation}
-use Rattle.events.specs.Precedence.{precedes, NonePrecedesItself}
-use Rattle.map_object.specs.MapObject.{Contents}
-use Rattle.orders.specs.Orders.{after_calls, IsLegal, calls_at, IsOrder}
-use Rattle.list_laws.proofs.Lists.{AllPairs-head, AllPairs-tail, Contains-at, place_of-Contains}
+use Rattle.art_schedules.proofs.Common.{◌≡◌, ℕ, zero, suc, ◌+◌, ◌<◌, Bool, true, false, List, [], ◌∷◌, ◌++◌, length, take, drop, refl, sym, ap}
+use Rattle.art_schedules.proofs.Common.{◌∙◌, subst, inr, ⊎_elim, arith, ◌==◌, if◌then◌else◌, slice_get, IsSome, AllPairs, Contains, false≢true}
+use Rattle.art_schedules.proofs.Common.{false_from_ne_true, cases_order, take-append-drop, All-contains, none-some, same_Some, slice_get_within}
+use Rattle.art_schedules.proofs.Common.{Operation, precedes, Contents, after_calls, IsLegal, calls_at, IsOrder, place_of-Contains}
+use Rattle.art_schedules.proofs.Common.{slice_get-below, after_calls-append, calls_at-append, calls_at-push, DoesCall, HasPoint, OneLeads}
+use Rattle.art_schedules.proofs.Common.{HasPoints}
+use Rattle.std.proofs.Common.{Option, Some, None}
+use Rattle.std.specs.Prelude.{◌≢◌}
+use Rattle.std.proofs.lemmas.Bool.{eq-eqb, eqb-true}
+use Rattle.std.proofs.lemmas.List.{take_more}
+use Rattle.std.proofs.lemmas.Option.{get_or_from_slice_get}
+use Rattle.events.specs.Precedence.{NonePrecedesItself}
+use Rattle.list_laws.proofs.Lists.{AllPairs-head, AllPairs-tail, Contains-at}
 use Rattle.list_laws.proofs.FilterLemmas.{AllPairs-at}
-use Rattle.list_laws.proofs.NumberLemmas.{slice_get-below}
 use Rattle.orders.proofs.CallsAtLemmas.{slice_get-calls_at}
-use Rattle.orders.proofs.OrderLemmas.{after_calls-append, IsLegal-front, IsLegal-back, calls_at-append, calls_at-push}
+use Rattle.orders.proofs.OrderLemmas.{IsLegal-front, IsLegal-back}
 use Rattle.orders.proofs.LegalLemmas.{DoesCall-from_legal}
-use Rattle.orders.specs.Leads.{DoesCall}
-use Rattle.art_schedules.specs.points.Points.{HasPoint, PointsKeepPrecedence, OneLeads, HasPoints}
+use Rattle.art_schedules.specs.points.Points.{PointsKeepPrecedence}
 use Rattle.art_schedules.specs.points.Laws.{OrdersGivePoints}
 
 -- one place later

@@ -1,29 +1,25 @@
 -- Calls with points have an order: point by point, at each those that keep the pairs before the one that does not.
-use Rattle.std.proofs.Common.{◌≡◌, ℕ, zero, suc, ◌<◌, ◌≤◌, Bool, true, false, not, List, [], ◌∷◌, ◌++◌, length, filter, Option, Some, None}
-use Rattle.std.proofs.Common.{refl, sym, ap, ◌∙◌}
-use Rattle.std.proofs.Common.{subst, inl, inr, ⊎_elim, add-one, arith}
-use Rattle.std.specs.Prelude.{◌≢◌, ◌==◌, slice_get, IsSome, All, AllPairs, Contains}
+use Rattle.art_schedules.proofs.Common.{◌≡◌, ℕ, zero, suc, ◌<◌, ◌≤◌, Bool, true, false, List, [], ◌∷◌, ◌++◌, length, refl, sym, ap, ◌∙◌, subst}
+use Rattle.art_schedules.proofs.Common.{inl, inr, ⊎_elim, arith, ◌==◌, slice_get, IsSome, All, AllPairs, Contains, false_from_ne_true, cases_eq}
+use Rattle.art_schedules.proofs.Common.{All-nil, All-cons, Contains-append_left, Contains-append_right, AllPairs-cons, none-some, same_Some}
+use Rattle.art_schedules.proofs.Common.{slice_get_within, Operation, precedes, Contents, is_just, after_calls, IsLegal, calls_at, IsOrder}
+use Rattle.art_schedules.proofs.Common.{AllPairs-nil, AllPairs-append, Contains-first, All-from_contains, slice_get-below, after_calls-append}
+use Rattle.art_schedules.proofs.Common.{calls_at-append, calls_at-push, DoesCall, legal_from_DoesCall, HasPoint, AllKeep, OneLeads, TakeEffect}
+use Rattle.art_schedules.proofs.Common.{HasPoints}
+use Rattle.std.proofs.Common.{not, filter, Option, Some, None, add-one}
+use Rattle.std.specs.Prelude.{◌≢◌}
 use Rattle.std.specs.List.{range_with_len}
-use Rattle.std.proofs.lemmas.Bool.{false_from_ne_true, eq-eqb, eqb-true, cases_eq}
-use Rattle.std.proofs.lemmas.List.Elements.{All-nil, All-cons, All-head, All-tail, Contains-append_left, Contains-append_right}
-use Rattle.std.proofs.lemmas.List.Elements.{Contains-append_cases}
-use Rattle.std.proofs.lemmas.List.Kept.{AllPairs-cons, AllPairs-from_increasing, AllPairs-filter}
+use Rattle.std.proofs.lemmas.Bool.{eq-eqb, eqb-true}
+use Rattle.std.proofs.lemmas.List.Elements.{All-head, All-tail, Contains-append_cases}
+use Rattle.std.proofs.lemmas.List.Kept.{AllPairs-from_increasing, AllPairs-filter}
 use Rattle.std.proofs.lemmas.List.FromFn.{length-range_with_len, get_or-range_with_len}
-use Rattle.std.proofs.lemmas.Option.{none-some, same_Some, slice_get_within}
-use Rattle.events.specs.declared.operation.Operation.{Operation}
-use Rattle.events.specs.Precedence.{precedes}
-use Rattle.map_object.specs.MapObject.{Contents, is_just}
-use Rattle.orders.specs.Orders.{after_calls, IsLegal, calls_at, KeepsPrecedence, IsOrder}
-use Rattle.list_laws.proofs.Lists.{AllPairs-nil, AllPairs-append, Contains-first, Contains-nil, Contains-cases, All-from_contains}
+use Rattle.orders.specs.Orders.{KeepsPrecedence}
+use Rattle.list_laws.proofs.Lists.{Contains-nil, Contains-cases, Contains-range}
 use Rattle.list_laws.proofs.FilterLemmas.{AreRelatedAs, AllPairs-weaker, AllPairs-filter_map, Contains-filter, Contains-from_filter}
 use Rattle.list_laws.proofs.FilterLemmas.{Contains-from_filter_map}
-use Rattle.list_laws.proofs.NumberLemmas.{slice_get-below}
-use Rattle.list_laws.proofs.Lists.{Contains-range}
 use Rattle.list_laws.proofs.RisingLemmas.{IsStrictlyIncreasing-range}
-use Rattle.orders.proofs.OrderLemmas.{after_calls-append, IsLegal-append, calls_at-append, calls_at-push, IsCompletedAt-below}
-use Rattle.orders.specs.Leads.{DoesCall}
-use Rattle.orders.proofs.LegalLemmas.{legal_from_DoesCall}
-use Rattle.art_schedules.specs.points.Points.{HasPoint, IsNotAfter, AllKeep, OneLeads, TakeEffect, HasPoints}
+use Rattle.orders.proofs.OrderLemmas.{IsLegal-append, IsCompletedAt-below}
+use Rattle.art_schedules.specs.points.Points.{IsNotAfter}
 use Rattle.art_schedules.specs.points.Laws.{PointsGiveOrders, PointsOrderCalls}
 
 -- a value or none is a value, as a test and as an equation

@@ -1,9 +1,6 @@
 -- Points within windows that keep precedence keep it too.
-use Rattle.std.proofs.Common.{◌≡◌, true, Option, Some, None, is_some, refl, arith}
-use Rattle.std.specs.Prelude.{IsTrue}
-use Rattle.events.specs.declared.operation.Operation.{Operation}
-use Rattle.events.specs.declared.operation.Response.{Response}
-use Rattle.events.specs.Precedence.{is_completed, is_before, precedes}
+use Rattle.art_schedules.proofs.Common.{◌≡◌, true, refl, arith, IsTrue, Operation, Response, is_completed, is_before, precedes}
+use Rattle.std.proofs.Common.{Option, Some, None, is_some}
 use Rattle.art_schedules.specs.points.Laws.{WindowsGivePrecedence}
 
 -- a call that precedes another is completed

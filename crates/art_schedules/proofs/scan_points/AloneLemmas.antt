@@ -1,47 +1,22 @@
 -- A scan of the optimistic tree that is answered alone on some words is answered so on calm too, and runs alone there to the end.
-use Rattle.std.proofs.Common.{◌≡◌, ℕ, zero, suc, ◌+◌, ◌<◌, ◌≤◌, List, [], ◌∷◌, ◌++◌, length, take, refl, ap, sym, subst, ◌∙◌, false}
-use Rattle.std.proofs.Common.{inl, inr, arith, append_assoc}
-use Rattle.std.specs.Prelude.{slice_index, Option, Some}
-use Rattle.std.proofs.lemmas.List.{length-append, append-nil, set-get_or}
-use Rattle.std.proofs.lemmas.Bool.{cases_lt}
-use Rattle.std.proofs.Math.Seq.{take-length}
-use Rattle.events.specs.declared.event.Call.{Call}
-use Rattle.events.specs.declared.event.Call.TheVariants.{Scan}
-use Rattle.events.specs.declared.event.Reply.{Reply}
+use Rattle.art_schedules.proofs.Common.{◌≡◌, ℕ, zero, suc, ◌+◌, ◌<◌, ◌≤◌, List, [], ◌∷◌, ◌++◌, length, take, refl, ap, sym, subst, ◌∙◌, false}
+use Rattle.art_schedules.proofs.Common.{inl, inr, arith, slice_index, Option, Some, length-append, append-nil, set-get_or, cases_lt, take-length}
+use Rattle.art_schedules.proofs.Common.{Call, Scan, Reply, Kind, Four, Sixteen, FortyEight, Full, kind_at, Optimistic, Access, Load, Point, Turn}
+use Rattle.art_schedules.proofs.Common.{Asks, Answers, Setting, act, asks-same, answers-asks, answers-same, ScanStep, FirstKeys, SecondKeys}
+use Rattle.art_schedules.proofs.Common.{Index, LoadChild, Release, Held, Walk, ScanAt, at, scan_start, scan_turn, keys_turn, call_turn}
+use Rattle.art_schedules.proofs.Common.{call_begun, after_all, got_by, Plan, RunsAlone, ends, goes, same-runs, is_busy, stage, turn-is}
+use Rattle.art_schedules.proofs.Common.{SameWords}
+use Rattle.std.proofs.Common.{append_assoc}
 use Rattle.events.specs.declared.event.Reply.TheVariants as replies
-use Rattle.art_rows.specs.declared.table.Kind.{Kind}
-use Rattle.art_rows.specs.declared.table.Kind.TheVariants.{Four, Sixteen, FortyEight, Full}
-use Rattle.art_rows.specs.Table.{kind_at}
-use Rattle.art_steps.specs.declared.variant.Variant.TheVariants.{Optimistic}
-use Rattle.art_steps.specs.declared.access.Access.{Access}
-use Rattle.art_steps.specs.declared.access.Access.TheVariants.{Load}
-use Rattle.art_steps.specs.declared.access.Point.{Point}
-use Rattle.art_steps.specs.Steps.{Turn, Asks, Answers}
-use Rattle.art_steps.specs.Rows.{Setting}
-use Rattle.art_steps.specs.Act.{act}
-use Rattle.art_steps.proofs.TurnLemmas.{asks-same, answers-asks, answers-same}
-use Rattle.art_stages.specs.declared.stage.ScanStep.{ScanStep}
-use Rattle.art_stages.specs.declared.stage.ScanStep.TheVariants.{Lock, Exchange, Wait, Info, Keys, FirstKeys, SecondKeys, Index}
-use Rattle.art_stages.specs.declared.stage.ScanStep.TheVariants.{Child as LoadChild}
-use Rattle.art_stages.specs.declared.stage.ScanStep.TheVariants.{Release, Over}
-use Rattle.art_stages.specs.declared.stage.Held.{Held}
-use Rattle.art_stages.specs.Scans.{Walk, ScanAt, at, scan_start, scan_turn, keys_turn}
-use Rattle.art_stages.specs.Calls.{call_turn, call_begun, after_all}
-use Rattle.art_core.specs.Accesses.{got_by}
-use Rattle.art_core.specs.Core.{Plan}
+use Rattle.art_stages.specs.declared.stage.ScanStep.TheVariants.{Lock, Exchange, Wait, Info, Keys, Over}
 use Rattle.art_core.specs.Moments.{next_word, alone, AnswersAlone, Reads}
-use Rattle.art_serial.specs.alone.Alone.{RunsAlone, ends, goes}
-use Rattle.art_serial.proofs.alone.AloneLemmas.{same-runs}
-use Rattle.art_schedules.specs.calm.Calm.{is_busy}
 use Rattle.art_schedules.proofs.calm.VersionLemmas.{unmarked-free}
 use Rattle.art_versions.proofs.moments.TimeLemmas.{take-more, index-more, index-last}
-use Rattle.art_versions.proofs.moments.AttemptLemmas.{stage}
 use Rattle.art_versions.proofs.moments.StandsLemmas.{Stands}
 use Rattle.art_versions.proofs.moments.ScanLemmas.{all-fold, all-append, at-end, attempted}
-use Rattle.art_versions.proofs.moments.ValidLemmas.{turn-is, validated}
+use Rattle.art_versions.proofs.moments.ValidLemmas.{validated}
 use Rattle.art_versions.proofs.moments.AloneLemmas.{answers-alone}
 use Rattle.art_versions.proofs.moments.MomentLemmas.{index-behind, take-behind}
-use Rattle.art_versions.specs.versions.Steady.{SameWords}
 
 module _ (plan : Plan) (call : Call) (words : List ℕ) where
   abbrev turn-of : List ℕ → Turn

@@ -1,23 +1,13 @@
 -- An answered scan of the optimistic tree made its last check behind the moment of its reads.
-use Rattle.std.proofs.Common.{◌≡◌, ℕ, suc, ◌+◌, ◌<◌, ◌≤◌, Bool, true, false, List, [], ◌∷◌, length, take, refl, ap, sym, ◌∙◌, inl, inr}
-use Rattle.std.proofs.Common.{arith}
-use Rattle.std.specs.Prelude.{◌⊎◌, if◌then◌else◌, slice_index, Option, None}
-use Rattle.events.specs.declared.event.Call.{Call}
-use Rattle.events.specs.declared.event.Call.TheVariants.{Scan}
-use Rattle.events.specs.declared.event.Reply.{Reply}
-use Rattle.art_rows.specs.Words.{is_locked}
-use Rattle.art_steps.specs.declared.variant.Variant.TheVariants.{Optimistic}
-use Rattle.art_steps.specs.declared.access.Access.{Access}
-use Rattle.art_steps.specs.declared.access.Point.{Point}
-use Rattle.art_steps.specs.Steps.{Answers, Asks}
-use Rattle.art_steps.specs.Rows.{Setting}
-use Rattle.art_steps.specs.Act.{act}
+use Rattle.art_schedules.proofs.Common.{◌≡◌, ℕ, suc, ◌+◌, ◌<◌, ◌≤◌, Bool, true, false, List, [], ◌∷◌, length, take, refl, ap, sym, ◌∙◌, inl, inr}
+use Rattle.art_schedules.proofs.Common.{arith, if◌then◌else◌, slice_index, Option, None, Call, Scan, Reply, is_locked, Optimistic, Access, Point}
+use Rattle.art_schedules.proofs.Common.{Answers, Asks, Setting, act, ScanAt, entry_base, scan_start, scan_after, scan_turn, Plan, State}
+use Rattle.art_schedules.proofs.Common.{turn-is}
+use Rattle.std.specs.Prelude.{◌⊎◌}
 use Rattle.art_stages.specs.declared.stage.Entry.TheVariants.{Root}
-use Rattle.art_stages.specs.Scans.{ScanAt, entry_base, scan_start, scan_after, scan_turn}
-use Rattle.art_core.specs.Core.{Plan, State}
 use Rattle.art_core.specs.Moments.{Reads, HasMoment}
-use Rattle.art_versions.proofs.moments.AttemptLemmas.{fold, stage, Loads}
-use Rattle.art_versions.proofs.moments.ValidLemmas.{turn-is, from-load}
+use Rattle.art_versions.proofs.moments.AttemptLemmas.{fold, Loads}
+use Rattle.art_versions.proofs.moments.ValidLemmas.{from-load}
 
 module _ (plan : Plan) (lo hi : ℕ) (v : plan.variant ≡ Optimistic) (some : 1 ≤ plan.shape.rows256) where
   abbrev scan : Call

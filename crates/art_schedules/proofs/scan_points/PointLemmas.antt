@@ -1,27 +1,11 @@
 -- An answered scan of the optimistic tree has its point at the one moment of its reads.
-use Rattle.std.proofs.Common.{◌≡◌, ℕ, ◌+◌, ◌<◌, ◌≤◌, List, length, take, refl, ap, sym, subst, ◌∙◌, inl, inr, arith}
-use Rattle.std.specs.Prelude.{min, slice_get}
-use Rattle.std.proofs.lemmas.Bool.{cases_lt}
-use Rattle.std.proofs.lemmas.List.{length-append}
-use Rattle.std.proofs.lemmas.Option.{same_Some}
-use Rattle.list_laws.proofs.NumberLemmas.{slice_get-below}
-use Rattle.events.specs.declared.event.Call.{Call}
-use Rattle.events.specs.declared.event.Call.TheVariants.{Scan}
-use Rattle.events.specs.declared.event.Reply.{Reply}
-use Rattle.events.specs.Operations.{operations}
-use Rattle.map_object.specs.MapObject.{Contents, Does, reply_to}
-use Rattle.art_steps.specs.Act.{act}
+use Rattle.art_schedules.proofs.Common.{◌≡◌, ℕ, ◌+◌, ◌<◌, ◌≤◌, List, length, take, refl, ap, sym, subst, ◌∙◌, inl, inr, arith, min, slice_get}
+use Rattle.art_schedules.proofs.Common.{cases_lt, length-append, same_Some, slice_get-below, Call, Scan, Reply, operations, Contents, Does}
+use Rattle.art_schedules.proofs.Common.{reply_to, act, Plan, State, begun, history_of, known_reply, opened_on, At, runs-once, IsIn, HasCalls}
+use Rattle.art_schedules.proofs.Common.{FrontsHaveMoments, MomentsEndRuns, RunsHaveCalls, ScansAreTheMaps, calm_of, AnsweredScansHavePoints}
 use Rattle.art_steps.proofs.TurnLemmas.{answers-of}
-use Rattle.art_core.specs.Core.{Plan, State, begun, history_of, known_reply, opened_on}
-use Rattle.art_core.specs.Runs.{At}
 use Rattle.art_versions.proofs.moments.MomentLemmas.{scan-has-moment}
-use Rattle.art_serial.proofs.alone.AloneLemmas.{runs-once}
-use Rattle.art_schedules.specs.calls.RunCalls.{IsIn, HasCalls}
-use Rattle.art_schedules.specs.calls.Laws.{FrontsHaveMoments, MomentsEndRuns, RunsHaveCalls}
-use Rattle.art_serial.specs.walks.Walks.{ScansAreTheMaps}
-use Rattle.art_schedules.specs.calm.Calm.{calm_of}
 use Rattle.art_schedules.proofs.calm.RunLemmas.{calm-at}
-use Rattle.art_schedules.specs.scan_points.ScanPoints.{AnsweredScansHavePoints}
 use Rattle.art_schedules.proofs.scan_points.CheckLemmas.{has-more}
 use Rattle.art_schedules.proofs.scan_points.AloneLemmas.{moves, runs, unrefused}
 

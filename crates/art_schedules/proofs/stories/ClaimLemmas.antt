@@ -1,13 +1,6 @@
 -- What is claimed of every schedule, from what is led on by each step of the runs of a tree.
-use Rattle.std.proofs.Common.{◌≡◌, List, ℕ, inr}
-use Rattle.map_object.specs.MapObject.{Contents}
-use Rattle.art_steps.specs.declared.variant.Variant.TheVariants.{Optimistic}
-use Rattle.art_core.specs.Claims.{OptimisticIsLinearizable}
-use Rattle.art_core.specs.Core.{Plan, State}
-use Rattle.art_core.specs.Plans.{IsRun}
-use Rattle.art_schedules.specs.changes.Laws.{KeptTreesFollow}
-use Rattle.art_schedules.specs.stories.Fitting.{OfState, OfCall, AreLed}
-use Rattle.art_schedules.specs.stories.Laws.{StartsAreAtRest, StoriesGiveOrders}
+use Rattle.art_schedules.proofs.Common.{◌≡◌, List, ℕ, inr, Contents, Optimistic, OptimisticIsLinearizable, Plan, State, IsRun, KeptTreesFollow}
+use Rattle.art_schedules.proofs.Common.{OfState, OfCall, AreLed, StartsAreAtRest, StoriesGiveOrders}
 use Rattle.art_schedules.proofs.stories.GhostLemmas.{orders-of-ghosts}
 
 module _ (starts : StartsAreAtRest) (trees : KeptTreesFollow) (orders : StoriesGiveOrders) (Ghost : Type 0)

@@ -1,63 +1,28 @@
 -- A story is made along a schedule of a full tree, where a ghost, something of the state, and what fits each open call are led on by each
 -- step.
-use Rattle.std.proofs.Common.{◌≡◌, ◌≢◌, ℕ, ◌+◌, ◌<◌, ◌≤◌, Bool, true, false, List, [], ◌∷◌, ◌++◌, length, take, refl, sym, ap, ◌∙◌, subst}
-use Rattle.std.proofs.Common.{⊎_elim, arith}
-use Rattle.std.specs.Prelude.{slice_get, slice_index, Option, Some, None}
-use Rattle.std.proofs.lemmas.Bool.{false≢true, cases_lt}
-use Rattle.std.proofs.lemmas.List.{take-append-le, length-append}
-use Rattle.std.proofs.lemmas.Option.{same_Some, none-some}
-use Rattle.std.proofs.Math.Seq.{take-length}
-use Rattle.events.specs.declared.event.Call.{Call}
-use Rattle.events.specs.declared.event.Event.TheVariants.{Invoke}
-use Rattle.events.specs.declared.event.Reply.{Reply}
-use Rattle.events.specs.Limits.{pair_limit}
-use Rattle.events.specs.Operations.{operations}
-use Rattle.map_object.specs.MapObject.{Contents}
+use Rattle.art_schedules.proofs.Common.{◌≡◌, ◌≢◌, ℕ, ◌+◌, ◌<◌, ◌≤◌, Bool, true, false, List, [], ◌∷◌, ◌++◌, length, take, refl, sym, ap, ◌∙◌}
+use Rattle.art_schedules.proofs.Common.{subst, ⊎_elim, arith, slice_get, slice_index, Option, Some, None, false≢true, cases_lt, take-append-le}
+use Rattle.art_schedules.proofs.Common.{length-append, same_Some, none-some, take-length, Call, Invoke, Reply, pair_limit, operations, Contents}
+use Rattle.art_schedules.proofs.Common.{Kind, Four, Sixteen, FortyEight, Full, claims_of, Access, Point, Turn, Asks, Answers, reply_of, act}
+use Rattle.art_schedules.proofs.Common.{asks-answers, call_turn, call_begun, setting, Process, got_by, Plan, State, Move, Invokes, Responds}
+use Rattle.art_schedules.proofs.Common.{after_move, begun, history_of, invocation, known_reply, move_from, move_of, moved, next_call, next_move}
+use Rattle.art_schedules.proofs.Common.{opened_on, step, word_of_move, IsRun, changed-at, is-moved, begun-more, IsInCallAt, Means, IsAtRest}
+use Rattle.art_schedules.proofs.Common.{set-here, IsFull, IsOpen, stage_of, index-other, idle-idle, after-more, next-turn, calm_of, AsksFor}
+use Rattle.art_schedules.proofs.Common.{CalmChange, CalmStays, CalmFilled, CalmReleased, Effect, KeptTreesFollow, Status, Before, Changed}
+use Rattle.art_schedules.proofs.Common.{HasReply, Tale, HasStatus, IsStory, MeansAt, IsToldStep, Next, OwnStep, Changes, MakesAccess}
+use Rattle.art_schedules.proofs.Common.{AnswersCall, AllFit, OfState, OfCall, IsLedOn, AreLed, HasItsReply, StartsAreAtRest, StoriesGiveOrders}
+use Rattle.art_schedules.proofs.Common.{pairs_by, TreeGoesOn}
 use Rattle.orders.specs.Orders.{IsLinearizable}
-use Rattle.art_rows.specs.declared.table.Kind.{Kind}
-use Rattle.art_rows.specs.declared.table.Kind.TheVariants.{Four, Sixteen, FortyEight, Full}
-use Rattle.art_rows.specs.Table.{claims_of}
-use Rattle.art_steps.specs.declared.access.Access.{Access}
-use Rattle.art_steps.specs.declared.access.Point.{Point}
-use Rattle.art_steps.specs.Steps.{Turn, Asks, Answers, reply_of}
-use Rattle.art_steps.specs.Act.{act}
-use Rattle.art_steps.proofs.TurnLemmas.{asks-answers}
-use Rattle.art_stages.specs.Calls.{call_turn, call_begun}
-use Rattle.art_stages.specs.Stages.{setting}
-use Rattle.art_core.specs.declared.process.Process.{Process}
-use Rattle.art_core.specs.Accesses.{got_by}
-use Rattle.art_core.specs.Core.{Plan, State, Move, Invokes, Makes, Responds, after_move, begun, history_of, invocation, known_reply}
-use Rattle.art_core.specs.Core.{move_from, move_of, moved}
-use Rattle.art_core.specs.Core.{next_call, next_move, opened_on, step, word_of_move}
-use Rattle.art_core.specs.Plans.{IsRun}
-use Rattle.art_core.proofs.HistoryLemmas.{changed-at, is-moved}
-use Rattle.art_core.proofs.RunLemmas.{begun-more}
-use Rattle.art_schedules.specs.calls.Effects.{IsInCallAt}
+use Rattle.art_core.specs.Core.{Makes}
 use Rattle.art_schedules.proofs.calls.MomentLemmas.{invokes-next, responds-next}
-use Rattle.art_core.specs.Meaning.{Means}
-use Rattle.art_serial.specs.trees.Trees.{IsAtRest}
-use Rattle.art_serial.proofs.serial.OrderlyLemmas.{set-here}
-use Rattle.art_versions.specs.versions.Laws.{IsFull}
-use Rattle.art_versions.specs.versions.Versions.{IsOpen, stage_of}
-use Rattle.art_versions.proofs.versions.ChangeLemmas.{index-other}
-use Rattle.art_versions.proofs.versions.RunLemmas.{idle-idle}
-use Rattle.art_versions.proofs.versions.StepLemmas.{after-more, next-turn}
-use Rattle.art_schedules.specs.calm.Calm.{calm_of}
-use Rattle.art_schedules.specs.calm.Changes.{AsksFor, CalmChange, CalmStays, CalmFilled, CalmReleased}
 use Rattle.art_schedules.proofs.calm.InductionLemmas.{along, run-begins}
 use Rattle.art_schedules.proofs.calm.RunLemmas.{calm-at, calm-goes, step-at}
-use Rattle.art_schedules.specs.changes.Effects.{Effect}
-use Rattle.art_schedules.specs.changes.Laws.{KeptTreesFollow}
 use Rattle.art_schedules.proofs.changes.FollowLemmas.{low-words-keep}
-use Rattle.art_schedules.specs.stories.Stories.{Status, Before, Changed, HasReply, Tale, HasStatus, IsStory, HasStory}
-use Rattle.art_schedules.specs.stories.Fitting.{MeansAt, IsToldStep, Next, OwnStep, Keeps, Changes, MakesAccess, AnswersCall, AllFit}
-use Rattle.art_schedules.specs.stories.Fitting.{turn_of, OfState, OfCall, IsLedOn, AreLed, HasItsReply}
-use Rattle.art_schedules.specs.stories.Laws.{StartsAreAtRest, StoriesGiveOrders}
+use Rattle.art_schedules.specs.stories.Stories.{HasStory}
+use Rattle.art_schedules.specs.stories.Fitting.{Keeps, turn_of}
 use Rattle.art_schedules.proofs.stories.GrowthLemmas.{Continues, continued, continues, story-more, status-next, status-goes, status-changed}
-use Rattle.art_schedules.proofs.stories.GrowthLemmas.{status-begun}
-use Rattle.art_schedules.proofs.stories.GrowthLemmas.{kept-so-far, in-now}
+use Rattle.art_schedules.proofs.stories.GrowthLemmas.{status-begun, kept-so-far, in-now}
 use Rattle.art_schedules.proofs.stories.StoryLemmas.{story-few}
-use Rattle.art_schedules.specs.changes.Courses.{pairs_by, TreeGoesOn}
 
 -- an open call whose reply is known answers it, and one that asks for an access has none
 answers-known : (plan : Plan) (got : List ℕ) (call : Call) (reply : Reply) → known_reply plan got (Some call) ≡ Some reply

@@ -1,27 +1,15 @@
 -- A story of a run, one step more.
-use Rattle.std.proofs.Common.{◌≡◌, ◌≢◌, ℕ, ◌+◌, ◌<◌, ◌≤◌, Bool, true, false, cond, List, [], ◌∷◌, ◌++◌, length, take, Some, None, refl, sym}
-use Rattle.std.proofs.Common.{ap, ◌∙◌, subst}
-use Rattle.std.proofs.Common.{inl, inr, ⊎_elim, arith}
-use Rattle.std.specs.Prelude.{◌⊎◌, slice_get, nat_lt}
-use Rattle.std.proofs.lemmas.Bool.{false≢true, cases_lt, le-ltb, lt-ltb}
-use Rattle.std.proofs.lemmas.List.{take-append-le, length-append}
-use Rattle.std.proofs.lemmas.Option.{same_Some, slice_get_within}
-use Rattle.std.proofs.Math.Seq.{take-length}
+use Rattle.art_schedules.proofs.Common.{◌≡◌, ◌≢◌, ℕ, ◌+◌, ◌<◌, ◌≤◌, Bool, true, false, cond, List, [], ◌∷◌, ◌++◌, length, take, refl, sym, ap}
+use Rattle.art_schedules.proofs.Common.{◌∙◌, subst, inl, inr, ⊎_elim, arith, slice_get, nat_lt, false≢true, cases_lt, le-ltb, lt-ltb}
+use Rattle.art_schedules.proofs.Common.{take-append-le, length-append, same_Some, slice_get_within, take-length, Call, Reply, Contents, Does}
+use Rattle.art_schedules.proofs.Common.{Process, Plan, State, begun, known_reply, Gives, At, run_on, IsIn, EndsAt, IsInCallAt, IsOpen, Status}
+use Rattle.art_schedules.proofs.Common.{Before, Found, Changed, HasNotChanged, HasReply, Tale, IsInCall, HasKept, HasStatus, IsStory, IsOwnStep}
+use Rattle.art_schedules.proofs.Common.{Next, Stays, Forgets, FindsNow, FindsAt}
+use Rattle.std.proofs.Common.{Some, None}
+use Rattle.std.specs.Prelude.{◌⊎◌}
 use Rattle.list_laws.proofs.Lists.{slice_get-append_left, slice_get-middle}
-use Rattle.events.specs.declared.event.Call.{Call}
-use Rattle.events.specs.declared.event.Reply.{Reply}
 use Rattle.events.specs.declared.event.Reply.TheVariants as replies
-use Rattle.map_object.specs.MapObject.{Contents, Does}
-use Rattle.art_core.specs.declared.process.Process.{Process}
-use Rattle.art_core.specs.Core.{Plan, State, begun, known_reply}
-use Rattle.art_core.specs.Runs.{Gives, At, run_on}
-use Rattle.art_schedules.specs.calls.RunCalls.{IsIn, EndsAt}
-use Rattle.art_schedules.specs.calls.Effects.{IsInCallAt}
 use Rattle.art_schedules.proofs.calls.MomentLemmas.{stage-rises, stage-open, stage-idle}
-use Rattle.art_versions.specs.versions.Versions.{IsOpen}
-use Rattle.art_schedules.specs.stories.Stories.{Status, Before, Found, Changed, HasNotChanged, HasReply, Tale, IsInCall, HasKept, HasStatus}
-use Rattle.art_schedules.specs.stories.Stories.{IsStory, IsOwnStep}
-use Rattle.art_schedules.specs.stories.Fitting.{Next, Stays, Forgets, FindsNow, FindsAt}
 
 -- The later tale is the same up to moment n, where this is told of step n and of the pairs behind it.
 pub record Continues (n : ℕ) (tale later : Tale) (change : Bool) (next : Contents) : Type 0 where

@@ -1,15 +1,8 @@
 -- Values at one number, and the stage of an open call.
-use Rattle.std.specs.Prelude.{if◌then◌else◌}
-use Rattle.std.proofs.Common.{◌≡◌, ◌≢◌, ◌⊎◌, ℕ, ap, inl, inr, ⊎_elim, refl, ◌∙◌}
+use Rattle.art_schedules.proofs.Common.{if◌then◌else◌, ◌≡◌, ◌≢◌, ◌⊎◌, ℕ, ap, inl, inr, ⊎_elim, refl, ◌∙◌, Call, Shape, Variant, Process, State}
+use Rattle.art_schedules.proofs.Common.{IsOpen, stage_of, same-call, set_at}
 use Rattle.std.proofs.lemmas.Bool.Decides.{eqb_tells}
-use Rattle.events.specs.declared.event.Call.{Call}
-use Rattle.art_rows.specs.declared.table.Shape.{Shape}
-use Rattle.art_steps.specs.declared.variant.Variant.{Variant}
-use Rattle.art_core.specs.declared.process.Process.{Process}
-use Rattle.art_core.specs.Core.{State}
-use Rattle.art_versions.specs.versions.Versions.{IsOpen, stage_of}
-use Rattle.art_versions.proofs.versions.KnownLemmas.{same-process, same-call}
-use Rattle.art_schedules.specs.stories.Fitting.{set_at}
+use Rattle.art_versions.proofs.versions.KnownLemmas.{same-process}
 
 pub set-cases : {A : Type 0} (f : ℕ → A) (p : ℕ) (a : A) (r : ℕ) → ((r ≡ p) × (set_at f p a r ≡ a)) ⊎ ((r ≢ p) × (set_at f p a r ≡ f r))
 set-cases f p a r = ⊎_elim (λ x. inl (x.1, ap (λ b. if b then a else f r) x.0))

@@ -1,28 +1,16 @@
 -- In a run with a story each call has its effect within itself.
-use Rattle.std.proofs.Common.{◌≡◌, ℕ, ◌+◌, ◌<◌, ◌≤◌, false, List, length, Option, Some, None, refl, sym, ◌∙◌, subst, inl, inr, ⊎_elim}
-use Rattle.std.proofs.Common.{arith}
-use Rattle.std.specs.Prelude.{◌⊎◌, IfSome}
-use Rattle.std.proofs.lemmas.Bool.{cases_lt}
-use Rattle.std.proofs.Math.Seq.{take-length}
-use Rattle.std.proofs.lemmas.Bool.{false≢true}
-use Rattle.std.proofs.lemmas.Option.{slice_get_within}
-use Rattle.events.specs.declared.event.Reply.{Reply}
-use Rattle.events.specs.declared.operation.Operation.{Operation}
-use Rattle.events.specs.declared.operation.Response.{Response}
-use Rattle.events.specs.Limits.{pair_limit}
-use Rattle.map_object.specs.MapObject.{Contents, Does}
-use Rattle.orders.specs.Leads.{DoesCall}
-use Rattle.art_core.specs.Core.{Plan, State, opened_on}
-use Rattle.art_core.specs.Runs.{Gives, At}
-use Rattle.art_schedules.specs.calls.RunCalls.{EndsWith, IsWithin, RunCall, IsRunCall}
-use Rattle.art_schedules.specs.calls.Effects.{IsStepOf, ChangesNothing, Changes, Finds, Pends, HasOwnEffect}
-use Rattle.art_schedules.specs.calls.Laws.{EffectsGiveOrders}
-use Rattle.art_core.specs.Plans.{IsRun}
+use Rattle.art_schedules.proofs.Common.{◌≡◌, ℕ, ◌+◌, ◌<◌, ◌≤◌, false, List, length, refl, sym, ◌∙◌, subst, inl, inr, ⊎_elim, arith, IfSome}
+use Rattle.art_schedules.proofs.Common.{cases_lt, take-length, false≢true, slice_get_within, Reply, Operation, Response, pair_limit, Contents}
+use Rattle.art_schedules.proofs.Common.{Does, DoesCall, Plan, State, opened_on, Gives, At, EndsWith, IsWithin, RunCall, IsRunCall, IsStepOf}
+use Rattle.art_schedules.proofs.Common.{ChangesNothing, Pends, HasOwnEffect, EffectsGiveOrders, IsRun, Status, Before, Found, Changed, HasReply}
+use Rattle.art_schedules.proofs.Common.{Tale, IsInCall, HasKept, HasStatus, IsStory, IsOwnStep, StoriesGiveOrders}
+use Rattle.std.proofs.Common.{Option, Some, None}
+use Rattle.std.specs.Prelude.{◌⊎◌}
+use Rattle.art_schedules.specs.calls.Effects.{Changes, Finds}
 use Rattle.art_schedules.proofs.calls.FewLemmas.{effects-few}
 use Rattle.art_schedules.proofs.calls.MomentLemmas.{earlier-moment}
-use Rattle.art_schedules.specs.stories.Stories.{Status, Before, Found, Changed, HasReply, Tale, IsInCall, HasKept, HasChanged, HasStatus}
-use Rattle.art_schedules.specs.stories.Stories.{IsStory, IsOwnStep}
-use Rattle.art_schedules.specs.stories.Laws.{StoriesGiveEffects, StoriesGiveOrders}
+use Rattle.art_schedules.specs.stories.Stories.{HasChanged}
+use Rattle.art_schedules.specs.stories.Laws.{StoriesGiveEffects}
 
 module _ (plan : Plan) (start : Contents) (first s : State) (schedule : List ℕ) (tale : Tale)
     (gives : At plan first schedule (length schedule) s)

@@ -1,15 +1,6 @@
 -- How calm's tree goes on in a step of a run of which something is told.
-use Rattle.std.proofs.Common.{ℕ, ◌+◌, List, length, arith}
-use Rattle.std.specs.Prelude.{slice_index, None}
-use Rattle.map_object.specs.MapObject.{Contents}
-use Rattle.art_rows.specs.declared.table.Kind.TheVariants.{Four, Sixteen, FortyEight, Full}
-use Rattle.art_core.specs.Core.{Plan, State}
-use Rattle.art_versions.specs.versions.Laws.{IsFull}
-use Rattle.art_schedules.specs.changes.Follows.{HasFewClaims, KeepsTree}
-use Rattle.art_schedules.specs.changes.Laws.{KeptTreesFollow}
-use Rattle.art_schedules.specs.stories.Stories.{Tale}
-use Rattle.art_schedules.specs.stories.Fitting.{IsToldStep}
-use Rattle.art_schedules.specs.changes.Courses.{TreeGoesOn}
+use Rattle.art_schedules.proofs.Common.{ℕ, ◌+◌, List, length, arith, slice_index, None, Contents, Four, Sixteen, FortyEight, Full, Plan, State}
+use Rattle.art_schedules.proofs.Common.{IsFull, HasFewClaims, KeepsTree, KeptTreesFollow, Tale, IsToldStep, TreeGoesOn}
 
 -- so many claims of each kind were made at most
 abbrev pub all_claims : List ℕ → ℕ

@@ -1,24 +1,10 @@
 -- Calls on a key: what they are and what they leave; and stages, those of calls on a key and those of scans.
-use Rattle.std.specs.Prelude.{if◌then◌else◌}
-use Rattle.std.proofs.Common.{◌≡◌, true, refl, arith, false, sym, ◌<◌, ℕ, ◌==◌, Some, None, Bool, ap, ◌∙◌, List}
-use Rattle.std.proofs.lemmas.Bool.{false≢true}
-use Rattle.std.proofs.lemmas.Option.{none-some}
-use Rattle.events.specs.declared.event.Call.{Call}
-use Rattle.events.specs.declared.event.Call.TheVariants.{Get, Insert, Remove, Scan, Replace}
-use Rattle.map_object.specs.MapObject.{Contents, value_at, put, is_just, after}
-use Rattle.art_rows.specs.declared.table.Child.TheVariants.{Leaf}
-use Rattle.art_rows.specs.Words.{child_word}
-use Rattle.art_rows.specs.declared.table.Kind.{Kind}
-use Rattle.art_rows.specs.declared.table.Kind.TheVariants.{Full}
-use Rattle.art_steps.specs.TreeCalls.{is_tree_call}
-use Rattle.art_steps.specs.Rows.{is_insert, is_scan, key_of}
-use Rattle.art_steps.specs.Updates.{overwriting}
-use Rattle.art_stages.specs.declared.stage.Stage.{Stage}
-use Rattle.art_stages.specs.Calls.{OnKey, OnScan}
-use Rattle.art_stages.specs.Scans.{ScanAt}
-use Rattle.art_core.specs.Meaning.{slot_of}
-use Rattle.art_serial.specs.alone.Laws.{is_seek}
-use Rattle.art_schedules.specs.work.Works.{IsInsert}
+use Rattle.art_schedules.proofs.Common.{if◌then◌else◌, ◌≡◌, true, refl, arith, false, sym, ◌<◌, ℕ, Bool, ap, ◌∙◌, List, false≢true, none-some}
+use Rattle.art_schedules.proofs.Common.{Call, Get, Insert, Remove, Scan, Replace, Contents, value_at, put, is_just, Leaf, child_word, Kind, Full}
+use Rattle.art_schedules.proofs.Common.{is_tree_call, is_insert, is_scan, key_of, overwriting, Stage, OnKey, OnScan, ScanAt, slot_of, is_seek}
+use Rattle.art_schedules.proofs.Common.{IsInsert}
+use Rattle.std.proofs.Common.{◌==◌, Some, None}
+use Rattle.map_object.specs.MapObject.{after}
 
 pub insert-of : (call : Call) → is_tree_call call ≡ true → is_insert call ≡ true → IsInsert call
 insert-of (Insert key value) tree e = record { key = key; value = value; is = refl; small = grind (arith, tree) }

@@ -1,44 +1,20 @@
 -- Work that begins with a claim.
-use Rattle.std.proofs.Common.{◌≡◌, ℕ, ◌+◌, ◌%◌, ◌^◌, ◌<◌, ◌≤◌, List, ◌∷◌, length, refl, ap, sym, subst, ◌∙◌, Bool, true, false, inl, inr}
-use Rattle.std.proofs.Common.{arith}
-use Rattle.std.specs.Prelude.{◌≢◌, ◌⊎◌, nat_lt, slice_index, slice_set, Option, Some, None, if◌then◌else◌}
-use Rattle.std.proofs.lemmas.Bool.{cases_lt, true≢false, lt-ltb, le-ltb}
-use Rattle.events.specs.declared.event.Reply.{Reply}
-use Rattle.art_rows.specs.declared.table.Shape.{Shape}
-use Rattle.art_rows.specs.declared.table.Kind.{Kind}
-use Rattle.art_rows.specs.declared.table.Child.{Child}
-use Rattle.art_rows.specs.declared.table.Child.TheVariants.{Empty}
-use Rattle.art_rows.specs.Table.{row_words, rows_of, table_words, claims_of, base_of, kind_at}
-use Rattle.art_rows.specs.Words.{child_of}
-use Rattle.art_rows.proofs.KindLemmas.{claims-once, claims-few}
-use Rattle.art_steps.specs.declared.access.Access.TheVariants.{Add}
-use Rattle.art_steps.specs.declared.access.Point.{Point}
-use Rattle.art_steps.specs.Steps.{Asks}
-use Rattle.art_steps.specs.Rows.{Setting, is_scan}
-use Rattle.art_steps.proofs.TurnLemmas.{load-add, store-add, add-word}
-use Rattle.art_stages.specs.declared.stage.Held.{Held}
-use Rattle.art_stages.specs.declared.stage.Hold.{Hold}
-use Rattle.art_stages.specs.declared.stage.Outcome.TheVariants.{Refused}
-use Rattle.art_stages.specs.declared.stage.Stage.{Stage}
-use Rattle.art_stages.specs.declared.stage.Stage.TheVariants.{Unlock}
-use Rattle.art_stages.specs.Stages.{rest_in}
-use Rattle.art_stages.specs.Automaton.{turn_at, stage_after}
-use Rattle.art_stages.specs.Calls.{CallAt, OnKey, call_turn, call_after}
-use Rattle.art_serial.specs.alone.Alone.{RunsAlone}
-use Rattle.art_serial.proofs.words.TableLemmas.{row_ends}
-use Rattle.art_serial.specs.writes.Writes.{IsOutside}
-use Rattle.art_serial.proofs.writes.StoreLemmas.{stored-at, stored-other, stored-long}
-use Rattle.art_serial.specs.trees.Trees.{IsUnused}
-use Rattle.art_versions.specs.versions.Locking.{all_of}
-use Rattle.art_versions.specs.versions.Holding.{Each, IsKept, IsSlot, HasSlot, HangsIn, KnowsKey}
-use Rattle.art_versions.specs.versions.Laws.{IsFull}
-use Rattle.art_versions.proofs.versions.KeyLemmas.{slot-behind}
-use Rattle.art_schedules.specs.work.Solo.{Step, loads, stores, claims, Solo, here, further}
-use Rattle.art_schedules.specs.work.Works.{RowsOf, IsRelease, IsRefusal}
+use Rattle.art_schedules.proofs.Common.{◌≡◌, ℕ, ◌+◌, ◌%◌, ◌^◌, ◌<◌, ◌≤◌, List, ◌∷◌, length, refl, ap, sym, subst, ◌∙◌, Bool, true, false, inl}
+use Rattle.art_schedules.proofs.Common.{inr, arith, nat_lt, slice_index, slice_set, Option, Some, None, if◌then◌else◌, cases_lt, true≢false}
+use Rattle.art_schedules.proofs.Common.{lt-ltb, le-ltb, Reply, Shape, Kind, Child, Empty, row_words, rows_of, table_words, claims_of, base_of}
+use Rattle.art_schedules.proofs.Common.{kind_at, child_of, claims-few, Add, Point, Asks, Setting, is_scan, load-add, store-add, Held, Hold}
+use Rattle.art_schedules.proofs.Common.{Refused, Stage, Unlock, rest_in, turn_at, stage_after, CallAt, OnKey, call_turn, call_after, RunsAlone}
+use Rattle.art_schedules.proofs.Common.{row_ends, IsOutside, stored-at, stored-other, stored-long, IsUnused, all_of, Each, IsKept, IsSlot}
+use Rattle.art_schedules.proofs.Common.{HangsIn, KnowsKey, IsFull, slot-behind, Step, loads, stores, claims, Solo, RowsOf, IsRelease}
+use Rattle.std.specs.Prelude.{◌≢◌, ◌⊎◌}
+use Rattle.art_rows.proofs.KindLemmas.{claims-once}
+use Rattle.art_steps.proofs.TurnLemmas.{add-word}
+use Rattle.art_versions.specs.versions.Holding.{HasSlot}
+use Rattle.art_schedules.specs.work.Works.{IsRefusal}
 use Rattle.art_schedules.proofs.work.SoloLemmas.{runs-behind, solos-keep}
 use Rattle.art_schedules.proofs.work.WorkLemmas.{IsPlain, behind-plain, is_release, Next, IsEnd}
-use Rattle.art_schedules.proofs.work.GoingLemmas.{IsBehind, Going, IsAlong, going-first, going-ends, along-on, at-end, behind-on}
-use Rattle.art_schedules.proofs.work.EndLemmas.{releases, behind-no, end-releases, at-release}
+use Rattle.art_schedules.proofs.work.GoingLemmas.{IsBehind, Going, IsAlong, going-first, along-on, at-end, behind-on}
+use Rattle.art_schedules.proofs.work.EndLemmas.{releases, behind-no, at-release}
 use Rattle.art_schedules.proofs.work.CallLemmas.{key-same}
 
 pub step-claim : (c : Setting) {at next : CallAt} {words later : List ℕ} (kind : Kind) (mark : Option Point)
@@ -206,32 +182,3 @@ module _ (c : Setting) (full : IsFull c.variant) (some : 1 ≤ c.shape.rows256) 
       (after number ∙ ap (λ x. if x then a1 number else Unlock h (Some Refused)) (lt-ltb number (rows_of c.shape kind) room))
       (runs-behind c (OnKey claim) key (Add (claims_of kind)) None asks (with_number w0 kind number) number (more number) last reply told
       (ap (λ n. slice_set (with_number w0 kind number) (claims_of kind) ((n + 1) % 2 ^ 64)) told) run)
-
-  -- It comes to a first release, with any number of an unused row, where a run from behind the claim has an end.
-  pub claim-comes : (number : ℕ) → IsUnused c.shape w0 kind number
-      → (IsClaim c.shape w0 kind number → (last : List ℕ) × (reply : Reply) × RunsAlone (rest_in c (a1 number)) (more number) last reply)
-      → (at : Stage) × (words : List ℕ) × Solo c (OnKey claim) w0 (OnKey at) words × IsRelease h at × EndsBy number at words
-  claim-comes number unused run = elim (cases_lt number (rows_of c.shape kind)) [
-    | inl l ↦
-        let claim-made : IsClaim c.shape w0 kind number = record { room = l; unused = unused } in
-        let begin = begins number l in
-        let r = run claim-made in
-        let first : Solo c (OnKey claim) w0 (OnKey (a1 number)) w0 =
-        subst (λ x. Solo c (OnKey claim) w0 (OnKey x) w0)
-        (after number ∙ ap (λ x. if x then a1 number else Unlock h (Some Refused)) (lt-ltb number (rows_of c.shape kind) l)) made in
-        let going = going-first c full some key h b (a1 number) w0 (more number) begin.0 begin.1 (more-long c.shape w0 kind number)
-        (λ word plain. more-other c.shape w0 kind number word plain.behind) in
-        let end = going-ends c full some key h b (a1 number) w0 (more number) r.2 (a1 number) w0 first going (λ got. refl) refl begin.0 in
-        (end.0, end.1, end.2, end-releases h b end.0 end.4, inr (claim-made, end.3, end.4))
-    | inr l ↦ (
-      Unlock h (Some Refused),
-      w0,
-      subst (λ x. Solo c (OnKey claim) w0 (OnKey x) w0)
-          (after number ∙ ap (λ x. if x then a1 number else Unlock h (Some Refused)) (le-ltb number (rows_of c.shape kind) l)) made,
-      inl (Some Refused, refl),
-      inl (record { full = l; is = refl; same = refl }),
-    )
-  ]
-    where
-      made : Solo c (OnKey claim) w0 (OnKey (stage_after c claim number)) w0
-      made = further here (claims kind number None asks unused)

@@ -1,49 +1,25 @@
 -- What is left where a slot was overwritten, and where a byte was put into a row.
-use Rattle.std.proofs.Common.{◌≡◌, ℕ, zero, suc, ◌+◌, ◌<◌, ◌≤◌, List, length, refl, ap, sym, subst, ◌∙◌, Bool, false, inl, inr, arith}
-use Rattle.std.specs.Prelude.{slice_set, Option, Some}
-use Rattle.std.proofs.lemmas.Bool.{cases_lt}
+use Rattle.art_schedules.proofs.Common.{◌≡◌, ℕ, zero, suc, ◌+◌, ◌<◌, ◌≤◌, List, length, refl, ap, sym, subst, ◌∙◌, Bool, false, inl, inr, arith}
+use Rattle.art_schedules.proofs.Common.{slice_set, Option, Some, cases_lt, Shape, Kind, Four, Sixteen, FortyEight, Full, row_words, table_words}
+use Rattle.art_schedules.proofs.Common.{kind_at, Rest, ◌>>◌, give, Setting, is_scan, unlock_all, new_leaf, act, stores-same, load-store, Held}
+use Rattle.art_schedules.proofs.Common.{Keys, Hold, Stage, Write, Unlock, row_at, rows_at, rows_held, held, byte_in, keys_in, count_in}
+use Rattle.art_schedules.proofs.Common.{value_reply, finish, part_of, rest_in, no_value, moves_at, put_at, OnKey, RunsAlone, Comes}
+use Rattle.art_schedules.proofs.Common.{unlocked_rows, same-runs, give-comes, then-comes, unlock_all-comes, row_ends, HasPut, stored-other}
+use Rattle.art_schedules.proofs.Common.{stored-long, byte_at-small, keys_in_row, lock_of, KnowsKey, IsAmong, held-is-kept, IsFull, Solo, RowsOf}
+use Rattle.art_schedules.proofs.Common.{FitsWords, IsRelease, IsDoneBy}
 use Rattle.events.specs.declared.event.Reply.TheVariants as reply
-use Rattle.art_rows.specs.declared.table.Shape.{Shape}
-use Rattle.art_rows.specs.declared.table.Kind.{Kind}
-use Rattle.art_rows.specs.declared.table.Kind.TheVariants.{Four, Sixteen, FortyEight, Full}
-use Rattle.art_rows.specs.Table.{row_words, table_words, kind_at}
-use Rattle.art_steps.specs.Steps.{Rest, ◌>>◌, give, store}
-use Rattle.art_steps.specs.Rows.{Setting, is_scan, unlock_all, row_of}
-use Rattle.art_steps.specs.Updates.{new_leaf, put, put_in, make_room}
-use Rattle.art_steps.specs.Act.{act}
-use Rattle.art_steps.proofs.TurnLemmas.{stores-same, load-store}
-use Rattle.art_stages.specs.declared.stage.Held.{Held}
-use Rattle.art_stages.specs.declared.stage.Keys.{Keys}
-use Rattle.art_stages.specs.declared.stage.Hold.{Hold}
+use Rattle.art_steps.specs.Steps.{store}
+use Rattle.art_steps.specs.Rows.{row_of}
+use Rattle.art_steps.specs.Updates.{put, put_in, make_room}
 use Rattle.art_stages.specs.declared.stage.Work.TheVariants as work
-use Rattle.art_stages.specs.declared.stage.Stage.{Stage}
-use Rattle.art_stages.specs.declared.stage.Stage.TheVariants.{Write, Unlock}
-use Rattle.art_stages.specs.Stages.{row_at, rows_at, rows_held, held, byte_in, keys_in, count_in, value_reply, finish, ends, work_in}
-use Rattle.art_stages.specs.Stages.{put_moves, part_of}
-use Rattle.art_stages.specs.Stages.{rest_in}
-use Rattle.art_stages.specs.Automaton.{no_value, moves_at, put_at}
-use Rattle.art_stages.specs.Calls.{OnKey}
-use Rattle.art_serial.specs.alone.Alone.{RunsAlone, Comes, unlocked_rows}
-use Rattle.art_serial.proofs.alone.AloneLemmas.{same-runs, give-comes, then-comes, store-comes}
-use Rattle.art_serial.proofs.alone.RowRunLemmas.{unlock_all-comes}
-use Rattle.art_serial.proofs.words.TableLemmas.{row_ends}
-use Rattle.art_serial.specs.writes.Writes.{HasPut, IsBeside}
-use Rattle.art_serial.proofs.writes.StoreLemmas.{stored-other, stored-long}
-use Rattle.art_serial.proofs.writes.PairLemmas.{byte_at-small}
+use Rattle.art_stages.specs.Stages.{ends, work_in, put_moves}
+use Rattle.art_serial.proofs.alone.AloneLemmas.{store-comes}
+use Rattle.art_serial.specs.writes.Writes.{IsBeside}
 use Rattle.art_serial.proofs.writes.PutLemmas.{leaf_put}
-use Rattle.art_serial.specs.alone.Finding.{keys_in_row}
-use Rattle.art_versions.specs.versions.Locking.{lock_of}
-use Rattle.art_versions.specs.versions.Holding.{KnowsKey}
-use Rattle.art_versions.specs.versions.Effects.{IsAmong}
-use Rattle.art_versions.proofs.versions.KnownLemmas.{held-is-kept}
-use Rattle.art_versions.specs.versions.Laws.{IsFull}
-use Rattle.art_schedules.specs.work.Solo.{Solo, here}
-use Rattle.art_schedules.specs.work.Works.{RowsOf, FitsWords, IsRelease, IsDoneBy}
-use Rattle.art_schedules.proofs.work.WorkLemmas.{IsPlain, behind-plain, Next, writes, put_leaf, moves-next, holds-next, Acts, Loading}
-use Rattle.art_schedules.proofs.work.WorkLemmas.{Storing, acts}
-use Rattle.art_schedules.proofs.work.GoingLemmas.{IsAlong, going-first, going-ends, solo-along}
-use Rattle.art_schedules.proofs.work.EndLemmas.{comes-run, finish-comes, none-outcome, value-outcome, words-by, end-releases, at-release}
-use Rattle.art_schedules.proofs.work.EndLemmas.{unlock-end}
+use Rattle.art_schedules.proofs.work.WorkLemmas.{IsPlain, behind-plain, Next, writes, put_leaf, moves-next, holds-next, Acts, Loading, Storing}
+use Rattle.art_schedules.proofs.work.WorkLemmas.{acts}
+use Rattle.art_schedules.proofs.work.GoingLemmas.{IsAlong, going-first, solo-along}
+use Rattle.art_schedules.proofs.work.EndLemmas.{comes-run, finish-comes, none-outcome, value-outcome, words-by, at-release, unlock-end}
 
 module _ (c : Setting) (full : IsFull c.variant) (some : 1 ≤ c.shape.rows256) (key : is_scan c.call ≡ false) (h : Hold) where
   -- ---- a slot is overwritten
@@ -57,15 +33,6 @@ module _ (c : Setting) (full : IsFull c.variant) (some : 1 ≤ c.shape.rows256) 
       (then-comes {n = unlock_all (rows_held h) >> give (value_reply value)} (store-comes slot word words)
       (then-comes {n = give (value_reply value)} (unlock_all-comes (rows_held h) (slice_set words slot word))
       (give-comes (value_reply value) (unlocked_rows (rows_held h) (slice_set words slot word)))))
-
-  pub write-comes : (slot word : ℕ) (value : Option ℕ) (w0 : List ℕ) → KnowsKey (RowsOf c.shape) c (Write h slot word value)
-      → (at : Stage) × (words : List ℕ) × Solo c (OnKey (Write h slot word value)) w0 (OnKey at) words × IsRelease h at
-  write-comes slot word value w0 k =
-      let first = Write h slot word value in
-      let going = going-first c full some key h false first w0 w0 (inl (writes slot word value)) k refl (λ w p. refl) in
-      let end = going-ends c full some key h false first w0 w0 (write-runs slot word value w0) first w0 here going (λ got. refl) refl
-      (inl (writes slot word value)) in
-      (end.0, end.1, end.2, end-releases h false end.0 end.4)
 
   write-plain : (slot word : ℕ) (value : Option ℕ) → KnowsKey (RowsOf c.shape) c (Write h slot word value) → IsPlain c.shape slot
   write-plain slot word value k = go (acts c full some (writes slot word value) k)
@@ -186,14 +153,3 @@ module _ (c : Setting) (full : IsFull c.variant) (some : 1 ≤ c.shape.rows256) 
         end.1 ∙ ap (λ o. Unlock h (Some o)) (none-outcome end.0 end.2),
         subst (λ ws. HasPut c.shape w0 ws h.row.base h.row.kind (byte_in c h.row) (new_leaf c.call)) (sym same) run.2,
       )
-
-  pub put-comes : (keys : Keys) (w0 : List ℕ) → table_words c.shape ≤ length w0 → KnowsKey (RowsOf c.shape) c (put_at h.row.kind c h keys)
-      → FitsWords c h (work.Put keys) w0
-      → (at : Stage) × (words : List ℕ) × Solo c (OnKey (put_at h.row.kind c h keys)) w0 (OnKey at) words × IsRelease h at
-  put-comes keys w0 fits k found =
-      let first = put_at h.row.kind c h keys in
-      let begin = put-first c h h.row.kind keys in
-      let run = put-runs keys w0 fits (work-row false first begin k) found in
-      let going = going-first c full some key h false first w0 w0 begin k refl (λ w p. refl) in
-      let end = going-ends c full some key h false first w0 w0 run.1 first w0 here going (λ got. refl) refl begin in
-      (end.0, end.1, end.2, end-releases h false end.0 end.4)

@@ -1,34 +1,18 @@
 -- Work at its first release: what its words are there.
-use Rattle.std.proofs.Common.{◌≡◌, ℕ, ◌≤◌, List, length, refl, ap, sym, subst, ◌∙◌, Bool, true, false, inl, inr}
-use Rattle.std.specs.Prelude.{◌⊎◌, slice_index, slice_set, Option, Some, None}
+use Rattle.art_schedules.proofs.Common.{◌≡◌, ℕ, ◌≤◌, List, length, refl, ap, sym, subst, ◌∙◌, Bool, true, false, inl, inr, slice_index}
+use Rattle.art_schedules.proofs.Common.{slice_set, Option, Some, None, none-some, true≢false, Reply, Shape, obsolete_word, Rest, ◌>>◌, give}
+use Rattle.art_schedules.proofs.Common.{Setting, is_scan, locks, unlock_all, act, Held, Hold, Outcome, Value, Refused, Stage, Obsolete, Unlock}
+use Rattle.art_schedules.proofs.Common.{Over, row_at, rows_at, rows_held, value_reply, reply_for, finish, part_of, rest_in, no_value, OnKey}
+use Rattle.art_schedules.proofs.Common.{RunsAlone, Comes, unlocked_rows, runs-once, give-comes, then-comes, unlock_all-comes, stored-other}
+use Rattle.art_schedules.proofs.Common.{all_of, rows_of_hold, Each, IsKept, KnowsKey, IsFull, RowsOf, IsRelease}
+use Rattle.std.specs.Prelude.{◌⊎◌}
 use Rattle.std.proofs.lemmas.List.{ext_get_or}
-use Rattle.std.proofs.lemmas.Option.{none-some}
-use Rattle.std.proofs.lemmas.Bool.{true≢false}
-use Rattle.events.specs.declared.event.Reply.{Reply}
 use Rattle.events.specs.declared.event.Reply.TheVariants as reply
-use Rattle.art_rows.specs.declared.table.Shape.{Shape}
-use Rattle.art_rows.specs.Words.{obsolete_word}
-use Rattle.art_steps.specs.Steps.{Rest, Part, ◌>>◌, give}
-use Rattle.art_steps.specs.Rows.{Setting, Row, is_scan, locks, unlock_all, unlock_obsolete}
-use Rattle.art_steps.specs.Act.{act}
-use Rattle.art_stages.specs.declared.stage.Held.{Held}
-use Rattle.art_stages.specs.declared.stage.Hold.{Hold}
-use Rattle.art_stages.specs.declared.stage.Outcome.{Outcome}
-use Rattle.art_stages.specs.declared.stage.Outcome.TheVariants.{Value, Refused}
-use Rattle.art_stages.specs.declared.stage.Stage.{Stage}
-use Rattle.art_stages.specs.declared.stage.Stage.TheVariants.{Obsolete, Unlock, Over}
-use Rattle.art_stages.specs.Stages.{row_at, rows_at, rows_held, value_reply, reply_for, finish, ends, part_of, rest_in}
-use Rattle.art_stages.specs.Automaton.{no_value}
-use Rattle.art_stages.specs.Calls.{OnKey}
-use Rattle.art_serial.specs.alone.Alone.{RunsAlone, Comes, unlocked_rows}
+use Rattle.art_steps.specs.Steps.{Part}
+use Rattle.art_steps.specs.Rows.{Row, unlock_obsolete}
+use Rattle.art_stages.specs.Stages.{ends}
 use Rattle.art_serial.specs.alone.Alone as alone
-use Rattle.art_serial.proofs.alone.AloneLemmas.{runs-once, give-comes, then-comes}
-use Rattle.art_serial.proofs.alone.RowRunLemmas.{unlock_all-comes, unlock_obsolete-comes}
-use Rattle.art_serial.proofs.writes.StoreLemmas.{stored-other}
-use Rattle.art_versions.specs.versions.Locking.{all_of, rows_of_hold}
-use Rattle.art_versions.specs.versions.Holding.{Each, IsKept, KnowsKey}
-use Rattle.art_versions.specs.versions.Laws.{IsFull}
-use Rattle.art_schedules.specs.work.Works.{RowsOf, IsRelease}
+use Rattle.art_serial.proofs.alone.RowRunLemmas.{unlock_obsolete-comes}
 use Rattle.art_schedules.proofs.work.WorkLemmas.{IsPlain, plain-or, not-plain, IsEnd, Next, is_release, at-work}
 use Rattle.art_schedules.proofs.work.GoingLemmas.{AreRows, unlocked-plain, IsBehind, Going, IsAlong}
 use Rattle.art_schedules.proofs.work.CallLemmas.{key-same}

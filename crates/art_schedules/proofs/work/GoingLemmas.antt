@@ -1,38 +1,14 @@
 -- Work that goes on by itself from a stage behind its claim: where it is, what its words are, and that it runs alone.
-use Rattle.std.proofs.Common.{◌≡◌, ℕ, ◌≤◌, List, [], ◌∷◌, length, refl, ap, sym, subst, ◌∙◌, Bool, true, false, inl, inr, arith}
-use Rattle.std.specs.Prelude.{◌⊎◌, slice_index, slice_set, Option, Some, None}
-use Rattle.std.proofs.lemmas.List.{get_or_past}
-use Rattle.std.proofs.lemmas.Bool.{cases_eq, cases_lt}
-use Rattle.events.specs.declared.event.Reply.{Reply}
-use Rattle.art_rows.specs.declared.table.Shape.{Shape}
-use Rattle.art_rows.specs.Table.{kind_at}
-use Rattle.art_rows.specs.Words.{released_word}
-use Rattle.art_steps.specs.declared.access.Access.{Access}
-use Rattle.art_steps.specs.declared.access.Access.TheVariants.{Load, Store}
-use Rattle.art_steps.specs.declared.access.Point.{Point}
-use Rattle.art_steps.specs.Steps.{Rest, Asks, Answers}
-use Rattle.art_steps.specs.Rows.{Setting, Row, is_scan, locks}
-use Rattle.art_steps.proofs.TurnLemmas.{asks-answers, load-word, stores-same, load-store, load-add, store-add, asks-same}
-use Rattle.art_stages.specs.declared.stage.Held.{Held}
-use Rattle.art_stages.specs.declared.stage.Hold.{Hold}
-use Rattle.art_stages.specs.declared.stage.Outcome.{Outcome}
-use Rattle.art_stages.specs.declared.stage.Stage.{Stage}
-use Rattle.art_stages.specs.declared.stage.Stage.TheVariants.{Obsolete, Unlock, Over}
-use Rattle.art_stages.specs.Stages.{reply_for, rest_in}
-use Rattle.art_stages.specs.Automaton.{turn_at, stage_after, hold_alone, release_at, no_value}
-use Rattle.art_stages.specs.Calls.{CallAt, OnKey, call_turn, call_after}
-use Rattle.art_serial.specs.alone.Alone.{RunsAlone, unlocked_rows}
-use Rattle.art_serial.specs.alone.Alone as alone
-use Rattle.art_serial.proofs.alone.AloneLemmas.{load-same}
-use Rattle.art_serial.proofs.writes.StoreLemmas.{stored-at, stored-other, stored-long}
-use Rattle.art_versions.specs.versions.Holding.{KnowsKey}
-use Rattle.art_versions.specs.versions.Laws.{IsFull}
-use Rattle.art_schedules.specs.work.Solo.{Step, loads, stores, claims, Solo, further}
-use Rattle.art_schedules.specs.work.Works.{RowsOf}
+use Rattle.art_schedules.proofs.Common.{◌≡◌, ℕ, ◌≤◌, List, [], ◌∷◌, length, refl, ap, sym, subst, ◌∙◌, Bool, true, false, inl, inr, arith}
+use Rattle.art_schedules.proofs.Common.{slice_index, slice_set, Option, Some, None, get_or_past, cases_eq, cases_lt, Reply, Shape, kind_at}
+use Rattle.art_schedules.proofs.Common.{released_word, Load, Store, Point, Asks, Answers, Setting, is_scan, locks, asks-answers, load-word}
+use Rattle.art_schedules.proofs.Common.{stores-same, load-store, load-add, store-add, Held, Hold, Outcome, Stage, Obsolete, Unlock, Over}
+use Rattle.art_schedules.proofs.Common.{reply_for, rest_in, turn_at, stage_after, hold_alone, release_at, no_value, CallAt, OnKey, call_turn}
+use Rattle.art_schedules.proofs.Common.{call_after, RunsAlone, unlocked_rows, load-same, stored-at, stored-other, stored-long, KnowsKey, IsFull}
+use Rattle.art_schedules.proofs.Common.{Step, loads, stores, claims, Solo, RowsOf}
+use Rattle.std.specs.Prelude.{◌⊎◌}
+use Rattle.art_steps.specs.Rows.{Row}
 use Rattle.art_schedules.proofs.work.SoloLemmas.{runs-before, solos-keep}
-use Rattle.art_stages.proofs.StepLemmas.{goes_on}
-use Rattle.art_stages.proofs.BehindLemmas.{call_next}
-use Rattle.art_core.specs.Accesses.{got_by, words_after}
 use Rattle.art_schedules.proofs.work.WorkLemmas.{IsPlain, AtWork, IsEnd, Next, next-work, Acts, Loading, Storing, acts}
 
 -- ---- a step, by what the stage asks
@@ -222,53 +198,3 @@ module _ (c : Setting) (full : IsFull c.variant) (some : 1 ≤ c.shape.rows256) 
     pub solo-along : {at0 at : CallAt} {start words : List ℕ} → Solo c at0 start at words → IsAlong b a1 w0 other at0 start
         → IsAlong b a1 w0 other at words
     solo-along solo i = solos-keep c (IsAlong b a1 w0 other) along-on solo i
-
-    -- It comes to its first release: a run from here has an end.
-    abbrev Comes-to : (at0 : CallAt) (start : List ℕ) → Type 0
-    Comes-to at0 start = (at : Stage) × (later : List ℕ) × Solo c at0 start (OnKey at) later × Going b a1 w0 other at later × IsEnd h b at
-
-    pub going-ends : {at0 : CallAt} {start : List ℕ} {rest : Rest} {ws last : List ℕ} {reply : Reply} → RunsAlone rest ws last reply
-        → (stage : Stage) (words : List ℕ)
-        → Solo c at0 start (OnKey stage) words → (g : Going b a1 w0 other stage words)
-        → ((got : List ℕ) → rest got ≡ rest_in c stage got) → ws ≡ g.now
-        → Next h b stage → Comes-to at0 start
-    going-ends run stage words solo g same is (inr e) = (stage, words, solo, g, e)
-    going-ends {at0} {start} (alone.ends {rest = rest} {words = ws} {reply = reply} e) stage words solo g same is (inl work) = go
-        (acts c full some work g.knows)
-      where
-        asked : {a : Access} {mark : Option Point} → turn_at c stage ≡ Asks a mark → ⊥
-        asked f = asks-answers (sym f ∙ (sym (call_next c (OnKey stage)) ∙ (sym (same []) ∙ e)))
-
-        go : Acts c stage → Comes-to at0 start
-        go (Loading word mark asks plain knows) = absurd (asked asks)
-        go (Storing word value mark asks plain knows) = absurd (asked asks)
-    going-ends {at0} {start} (alone.goes {rest = rest} {words = ws} {last = last} {reply = reply} a p e run) stage words solo g
-        same is (inl work) =
-        go (λ stage words solo g same is next. going-ends run stage words solo g same is next) (acts c full some work g.knows)
-      where
-        asked : {x : Access} {mark : Option Point} → turn_at c stage ≡ Asks x mark → a ≡ x
-        asked f = asks-same (sym e ∙ (same [] ∙ (call_next c (OnKey stage) ∙ f)))
-
-        on : (x : Access) (got : ℕ) → a ≡ x → got_by x g.now ≡ got → (more : List ℕ)
-            → rest (got_by a ws ∷ more) ≡ rest_in c (stage_after c stage got) more
-        on x got f told more =
-            ap (λ y. rest (got_by y ws ∷ more)) f ∙ (ap (λ l. rest (got_by x l ∷ more)) is ∙ (ap (λ n. rest (n ∷ more)) told
-            ∙ (same (got ∷ more) ∙ sym (goes_on c stage got more key))))
-
-        words-on : (x : Access) (later : List ℕ) → a ≡ x → words_after x g.now ≡ later → words_after a ws ≡ later
-        words-on x later f left = ap (λ y. words_after y ws) f ∙ (ap (words_after x) is ∙ left)
-
-        go : ((stage : Stage) (words : List ℕ) → Solo c at0 start (OnKey stage) words → (g : Going b a1 w0 other stage words)
-            → ((got : List ℕ) → rest (got_by a ws ∷ got) ≡ rest_in c stage got) → words_after a ws ≡ g.now → Next h b stage
-            → Comes-to at0 start)
-            → Acts c stage → Comes-to at0 start
-        go again (Loading word mark asks plain knows) =
-            let value = slice_index words word in
-            let after = load-on stage words g work word mark asks plain (knows value) in
-            again (stage_after c stage value) words (further solo (loads word mark asks)) after.0
-            (on (Load word) value (asked asks) (g.alike word plain)) (words-on (Load word) after.0.now (asked asks) (load-same word g.now
-            ∙ sym after.1)) after.0.place
-        go again (Storing word value mark asks plain knows) =
-            let after = store-on stage words g work word value mark asks plain knows in
-            again (stage_after c stage 0) (slice_set words word value) (further solo (stores word value mark asks)) after.0
-            (on (Store word value) 0 (asked asks) refl) (words-on (Store word value) after.0.now (asked asks) (sym after.1)) after.0.place

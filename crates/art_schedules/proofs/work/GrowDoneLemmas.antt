@@ -1,47 +1,25 @@
 -- What is left where a grown row was hung.
-use Rattle.std.proofs.Common.{◌≡◌, ℕ, ◌+◌, ◌<◌, ◌≤◌, List, length, refl, ap, sym, subst, ◌∙◌, true, false, inl, inr, arith}
-use Rattle.std.specs.Prelude.{◌≢◌, slice_index, slice_set, Some}
+use Rattle.art_schedules.proofs.Common.{◌≡◌, ℕ, ◌+◌, ◌<◌, ◌≤◌, List, length, refl, ap, sym, subst, ◌∙◌, true, false, inl, inr, arith}
+use Rattle.art_schedules.proofs.Common.{slice_index, slice_set, Some, Kind, Four, Sixteen, FortyEight, Full, Empty, ChildRow, row_words, rows_of}
+use Rattle.art_schedules.proofs.Common.{table_words, claims_of, base_of, info_at, kind_at, info_word, row_word, obsolete_word, two-words, ◌>>◌}
+use Rattle.art_schedules.proofs.Common.{give, Setting, is_scan, locks, new_leaf, next_kind, act, Keys, Hold, Growing, Stage, ClaimGrow, GrowInfo}
+use Rattle.art_schedules.proofs.Common.{row_at, rows_at, byte_in, keys_in, count_in, part_of, rest_in, OnKey, RunsAlone, Comes, unlocked_rows}
+use Rattle.art_schedules.proofs.Common.{give-comes, then-comes, row_begins, kind_at-base_of, HasSameFields, IsOutside, stored-at, stored-other}
+use Rattle.art_schedules.proofs.Common.{stored-long, byte_at-small, keys_in_row, KnowsKey, IsFull, Solo, RowsOf, FitsWords, GrownHangs}
+use Rattle.art_schedules.proofs.Common.{IsRelease, IsDoneBy, IsWorkDone}
+use Rattle.std.specs.Prelude.{◌≢◌}
 use Rattle.events.specs.declared.event.Reply.TheVariants as reply
-use Rattle.art_rows.specs.declared.table.Kind.{Kind}
-use Rattle.art_rows.specs.declared.table.Kind.TheVariants.{Four, Sixteen, FortyEight, Full}
-use Rattle.art_rows.specs.declared.table.Child.TheVariants.{Empty, Row as ChildRow}
-use Rattle.art_rows.specs.Table.{row_words, rows_of, table_words, claims_of, base_of, info_at, kind_at}
-use Rattle.art_rows.specs.Words.{info_word, row_word, obsolete_word}
-use Rattle.art_rows.proofs.KindLemmas.{two-words}
-use Rattle.art_steps.specs.Steps.{◌>>◌, give}
-use Rattle.art_steps.specs.Rows.{Setting, is_scan, locks}
-use Rattle.art_steps.specs.Updates.{grow, new_leaf, next_kind}
-use Rattle.art_steps.specs.Act.{act}
-use Rattle.art_stages.specs.declared.stage.Keys.{Keys}
-use Rattle.art_stages.specs.declared.stage.Hold.{Hold}
-use Rattle.art_stages.specs.declared.stage.Growing.{Growing}
+use Rattle.art_steps.specs.Updates.{grow}
 use Rattle.art_stages.specs.declared.stage.Work.TheVariants as work
-use Rattle.art_stages.specs.declared.stage.Stage.{Stage}
-use Rattle.art_stages.specs.declared.stage.Stage.TheVariants.{ClaimGrow, GrowInfo}
-use Rattle.art_stages.specs.Stages.{row_at, rows_at, byte_in, keys_in, count_in, part_of, rest_in}
-use Rattle.art_stages.specs.Calls.{OnKey}
-use Rattle.art_serial.specs.alone.Alone.{RunsAlone, Comes, unlocked_rows}
-use Rattle.art_serial.proofs.alone.AloneLemmas.{give-comes, then-comes}
-use Rattle.art_serial.proofs.words.TableLemmas.{row_begins, kind_at-base_of}
-use Rattle.art_serial.specs.writes.Writes.{HasSameFields, HasFresh, IsOutside}
-use Rattle.art_serial.proofs.writes.StoreLemmas.{stored-at, stored-other, stored-long}
-use Rattle.art_serial.proofs.writes.PairLemmas.{byte_at-small}
+use Rattle.art_serial.specs.writes.Writes.{HasFresh}
 use Rattle.art_serial.proofs.writes.SameLemmas.{keys-same, count-same, slot-same, child-same, form-same}
 use Rattle.art_serial.proofs.writes.GrowWholeLemmas.{row_grown}
-use Rattle.art_serial.specs.trees.Trees.{IsUnused}
-use Rattle.art_serial.specs.alone.Finding.{keys_in_row}
-use Rattle.art_versions.specs.versions.Holding.{KnowsKey}
-use Rattle.art_versions.specs.versions.Laws.{IsFull}
-use Rattle.art_schedules.specs.work.Solo.{Solo}
-use Rattle.art_schedules.specs.work.Works.{RowsOf, FitsWords, GrownHangs, IsRelease, IsDoneBy, IsWorkDone}
 use Rattle.art_schedules.proofs.work.WorkLemmas.{IsPlain, behind-plain, plain-or, not-plain, Next, grow_info}
 use Rattle.art_schedules.proofs.work.GoingLemmas.{Going}
 use Rattle.art_schedules.proofs.work.EndLemmas.{comes-run, obsolete-end}
 use Rattle.art_schedules.proofs.work.DoneLemmas.{field-plain}
-use Rattle.art_schedules.proofs.work.ClaimLemmas.{with_number, with_more, number-other, outside-fresh, hangs-row, slot-plain, IsClaim}
-use Rattle.art_schedules.proofs.work.ClaimLemmas.{EndsBy, claim-end}
-use Rattle.art_schedules.proofs.work.ClaimLemmas.{claim-runs}
-use Rattle.art_schedules.proofs.work.ClaimLemmas.{claim-comes}
+use Rattle.art_schedules.proofs.work.ClaimLemmas.{with_number, with_more, number-other, outside-fresh, hangs-row, slot-plain, IsClaim, EndsBy}
+use Rattle.art_schedules.proofs.work.ClaimLemmas.{claim-end, claim-runs}
 
 empty-row : {base : ℕ} {kind : Kind} → ChildRow base kind ≡ Empty → ⊥
 empty-row e = cc
@@ -219,11 +197,3 @@ module _ (c : Setting) (full : IsFull c.variant) (some : 1 ≤ c.shape.rows256) 
   grow-done words at solo r =
       let end = claim-end c full some key h next true (ClaimGrow h slot keys) behind w0 refl (λ number. refl) begins refl at words solo r in
       (end.0, end.1, done-by end.0 at words end.2)
-
-  pub grow-comes : (number : ℕ) → IsUnused c.shape w0 next number
-      → (at : Stage) × (words : List ℕ) × Solo c (OnKey (ClaimGrow h slot keys)) w0 (OnKey at) words × IsRelease h at
-      × IsDoneBy c h (work.Grow slot keys) number w0 at words
-  grow-comes number unused =
-      let end = claim-comes c full some key h next true (ClaimGrow h slot keys) behind w0 refl (λ number. refl) begins refl number unused
-      (λ claim. (unlocked_rows (rows_at h.above) (last number claim), reply.None, run-of number claim)) in
-      (end.0, end.1, end.2, end.3, done-by number end.0 end.1 end.4)

@@ -1,36 +1,15 @@
 -- A call that locks what it reads touches only words of rows that it holds or fills, but for its locks.
-use Rattle.std.proofs.Common.{◌≡◌, ℕ, ◌*◌, ◌≤◌, List, [], ◌∷◌, ◌++◌, refl, ap, sym, subst, ◌∙◌, Bool, true, false, inl, inr, arith}
-use Rattle.std.specs.Prelude.{Option, None}
-use Rattle.std.proofs.lemmas.Bool.{false≢true}
-use Rattle.std.proofs.lemmas.Option.{same_Some}
-use Rattle.events.specs.declared.event.Call.{Call}
-use Rattle.art_rows.specs.declared.table.Shape.{Shape}
-use Rattle.art_rows.specs.declared.table.Kind.{Kind}
-use Rattle.art_rows.specs.declared.table.Kind.TheVariants.{Four, Sixteen, FortyEight, Full}
-use Rattle.art_rows.specs.Table.{kind_at, info_at, keys_at, more_keys_at, index_at, count_at, child_at}
-use Rattle.art_rows.proofs.KindLemmas.{seven-words}
-use Rattle.art_rows.proofs.ByteLemmas.{key_byte-small}
-use Rattle.art_steps.specs.declared.variant.Variant.TheVariants.{Coupled}
-use Rattle.art_steps.specs.Rows.{Setting, is_insert, key_of}
-use Rattle.art_stages.specs.declared.stage.Held.{Held}
-use Rattle.art_stages.specs.declared.stage.Position.{Position}
-use Rattle.art_stages.specs.declared.stage.Down.{Down}
-use Rattle.art_stages.specs.declared.stage.ScanStep.{ScanStep}
+use Rattle.art_schedules.proofs.Common.{◌≡◌, ℕ, ◌*◌, ◌≤◌, List, [], ◌∷◌, ◌++◌, refl, ap, sym, subst, ◌∙◌, Bool, true, false, inl, inr, arith}
+use Rattle.art_schedules.proofs.Common.{Option, None, false≢true, same_Some, Call, Shape, Kind, Four, Sixteen, FortyEight, Full, kind_at}
+use Rattle.art_schedules.proofs.Common.{info_at, keys_at, more_keys_at, index_at, count_at, child_at, seven-words, key_byte-small, Coupled}
+use Rattle.art_schedules.proofs.Common.{Setting, is_insert, key_of, Held, Position, Down, ScanStep, Stage, Lock, Exchange, Wait, Leave, Between}
+use Rattle.art_schedules.proofs.Common.{Info, Find, FindKeys, FindMore, FindCount, Slot, Check, CheckLast, LetGo, Take, setting, held, row_at}
+use Rattle.art_schedules.proofs.Common.{byte_in, Walk, at, CallAt, OnKey, OnScan, lock_of, locks_of, held_at_place, scan_locked, Each, IsKept}
+use Rattle.art_schedules.proofs.Common.{Knows, KnowsKey, IsAmong, IsBehindVersion, slot-behind, among-each, IsHeldWord, TouchesOwn, LoadsHeld}
+use Rattle.art_schedules.proofs.Common.{ReleasesHeld, Replies, is_lock, IsWalked, ReadsHeld, RowsOf}
 use Rattle.art_stages.specs.declared.stage.ScanStep.TheVariants as scan
-use Rattle.art_stages.specs.declared.stage.Stage.{Stage}
-use Rattle.art_stages.specs.declared.stage.Stage.TheVariants.{Lock, Exchange, Wait, Leave, Between, Info, Find, FindKeys, FindMore}
-use Rattle.art_stages.specs.declared.stage.Stage.TheVariants.{FindCount, Slot}
-use Rattle.art_stages.specs.declared.stage.Stage.TheVariants.{Check, CheckLast, LetGo, Take}
-use Rattle.art_stages.specs.Stages.{setting, held, row_at, byte_in}
-use Rattle.art_stages.specs.Scans.{Walk, at}
-use Rattle.art_stages.specs.Calls.{CallAt, OnKey, OnScan}
-use Rattle.art_versions.specs.versions.Locking.{lock_of, locks_of, held_at_place, held_below, scan_locked}
-use Rattle.art_versions.specs.versions.Holding.{Each, IsKept, Knows, KnowsKey, KnowsScanRows}
-use Rattle.art_versions.specs.versions.Effects.{IsAmong, IsBehindVersion}
-use Rattle.art_versions.proofs.versions.KeyLemmas.{slot-behind}
-use Rattle.art_versions.proofs.versions.KnownLemmas.{among-each}
-use Rattle.art_schedules.specs.work.Own.{IsHeldWord, TouchesOwn, LoadsHeld, ReleasesHeld, Replies, is_lock, IsWalked, ReadsHeld}
-use Rattle.art_schedules.specs.work.Works.{RowsOf}
+use Rattle.art_versions.specs.versions.Locking.{held_below}
+use Rattle.art_versions.specs.versions.Holding.{KnowsScanRows}
 use Rattle.art_schedules.proofs.work.TouchLemmas.{work-own}
 
 pub lock-last : (rows : List Held) (n : Held) → IsAmong (lock_of n) (locks_of (rows ++ n ∷ []))

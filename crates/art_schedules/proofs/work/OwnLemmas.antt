@@ -1,50 +1,17 @@
 -- A call at work touches only words of the rows that it holds or fills.
-use Rattle.std.proofs.Common.{◌≡◌, ℕ, ◌+◌, ◌-◌, ◌*◌, ◌≤◌, refl, sym, subst, Bool, true, false, inl, arith}
-use Rattle.std.specs.Prelude.{◌==◌, if◌then◌else◌, slice_index}
-use Rattle.std.proofs.lemmas.Bool.{false≢true}
-use Rattle.events.specs.declared.event.Call.{Call}
-use Rattle.art_rows.specs.declared.table.Shape.{Shape}
-use Rattle.art_rows.specs.declared.table.Kind.{Kind}
-use Rattle.art_rows.specs.declared.table.Kind.TheVariants.{Four, Sixteen, FortyEight, Full}
-use Rattle.art_rows.specs.Table.{root_base, keys_at, more_keys_at, index_at, child_at}
-use Rattle.art_rows.specs.Words.{entries_of, keys16_word, more_keys16_word}
-use Rattle.art_steps.specs.declared.access.Access.TheVariants.{Load, Store, Exchange as Swap, Add}
-use Rattle.art_steps.specs.declared.variant.Variant.{Variant}
-use Rattle.art_steps.specs.Steps.{Turn, Asks, Answers}
-use Rattle.art_steps.specs.Rows.{Setting}
-use Rattle.art_stages.specs.declared.stage.Keys.{Keys}
-use Rattle.art_stages.specs.declared.stage.Hold.{Hold}
-use Rattle.art_stages.specs.declared.stage.Pair.{Pair}
-use Rattle.art_stages.specs.declared.stage.PairWord.{PairWord}
+use Rattle.art_schedules.proofs.Common.{◌≡◌, ℕ, ◌+◌, ◌-◌, ◌*◌, ◌≤◌, refl, sym, subst, Bool, true, false, inl, arith, ◌==◌, if◌then◌else◌}
+use Rattle.art_schedules.proofs.Common.{slice_index, false≢true, Call, Shape, Kind, Four, Sixteen, FortyEight, Full, root_base, keys_at}
+use Rattle.art_schedules.proofs.Common.{more_keys_at, index_at, child_at, entries_of, keys16_word, more_keys16_word, Load, Store, Swap, Add}
+use Rattle.art_schedules.proofs.Common.{Variant, Turn, Asks, Answers, Setting, Keys, Hold, Pair, PairWord, Growing, Stage, Lock, Exchange, Wait}
+use Rattle.art_schedules.proofs.Common.{Leave, Between, Info, Find, FindKeys, FindMore, FindCount, Slot, Check, CheckLast, LetGo, Take, Write}
+use Rattle.art_schedules.proofs.Common.{ClaimPair, StorePair, PutLoad, PutStore, PutLeaf, PutKeys, PutMore, PutCount, ClaimGrow, GrowInfo}
+use Rattle.art_schedules.proofs.Common.{GrowLoad, GrowStore, SpreadIndex, SpreadLoad, SpreadStore, GrowLeaf, GrowKeys, GrowCount, Hang, Obsolete}
+use Rattle.art_schedules.proofs.Common.{Unlock, Over, setting, place_in, keys_after, turn_at, pair_turn, put_keys_turn, grow_keys_turn}
+use Rattle.art_schedules.proofs.Common.{grow_leaf_turn, grow_count_turn, store_of, CallAt, OnKey, Process, State, kind_at-base_of, IsOpen}
+use Rattle.art_schedules.proofs.Common.{IsSettled, IsSound, stage_of, knows-more, settled-row, RowsOf, lock_of, OfRows, Knows, KnowsKey}
+use Rattle.art_schedules.proofs.Common.{IsBehindVersion, AccessDoes, IsFull, slot-behind, does, IsHeldWord, is_claim, is_work}
 use Rattle.art_stages.specs.declared.stage.PairWord.TheVariants as pair_word
-use Rattle.art_stages.specs.declared.stage.Growing.{Growing}
-use Rattle.art_stages.specs.declared.stage.Stage.{Stage}
-use Rattle.art_stages.specs.declared.stage.Stage.TheVariants.{Lock, Exchange, Wait, Leave, Between, Info, Find, FindKeys, FindMore}
-use Rattle.art_stages.specs.declared.stage.Stage.TheVariants.{FindCount, Slot}
-use Rattle.art_stages.specs.declared.stage.Stage.TheVariants.{Check, CheckLast, LetGo, Take, Write, ClaimPair, StorePair, PutLoad, PutStore}
-use Rattle.art_stages.specs.declared.stage.Stage.TheVariants.{PutLeaf}
-use Rattle.art_stages.specs.declared.stage.Stage.TheVariants.{PutKeys, PutMore, PutCount, ClaimGrow, GrowInfo, GrowLoad, GrowStore}
-use Rattle.art_stages.specs.declared.stage.Stage.TheVariants.{SpreadIndex}
-use Rattle.art_stages.specs.declared.stage.Stage.TheVariants.{SpreadLoad, SpreadStore, GrowLeaf, GrowKeys, GrowCount, Hang, Obsolete}
-use Rattle.art_stages.specs.declared.stage.Stage.TheVariants.{Unlock, Over}
-use Rattle.art_stages.specs.Stages.{setting, place_in, keys_after}
-use Rattle.art_stages.specs.Automaton.{turn_at, pair_turn, put_keys_turn, grow_keys_turn, grow_leaf_turn, grow_count_turn, store_of}
-use Rattle.art_stages.specs.Calls.{CallAt, OnKey}
-use Rattle.art_core.specs.declared.process.Process.{Process}
-use Rattle.art_core.specs.Core.{State}
-use Rattle.art_serial.proofs.words.TableLemmas.{kind_at-base_of}
-use Rattle.art_versions.specs.versions.Versions.{IsOpen, IsSettled, IsSound, stage_of}
-use Rattle.art_versions.proofs.versions.KnownLemmas.{knows-more}
-use Rattle.art_versions.proofs.versions.MoveLemmas.{settled-row}
-use Rattle.art_schedules.specs.work.Works.{RowsOf}
-use Rattle.art_versions.specs.versions.Locking.{lock_of}
-use Rattle.art_versions.specs.versions.Holding.{OfRows, Knows, KnowsKey}
-use Rattle.art_versions.specs.versions.Effects.{IsBehindVersion, AccessDoes}
-use Rattle.art_versions.specs.versions.Laws.{IsFull}
-use Rattle.art_versions.proofs.versions.KeyLemmas.{slot-behind}
 use Rattle.art_versions.proofs.versions.WordFacts.{entry-fits}
-use Rattle.art_versions.proofs.versions.StepLemmas.{does}
-use Rattle.art_schedules.specs.work.Own.{IsHeldWord, is_claim, is_work}
 
 -- the stage that is over
 abbrev pub is_over : Stage → Bool

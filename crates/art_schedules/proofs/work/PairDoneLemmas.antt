@@ -1,45 +1,24 @@
 -- What is left where a pair was hung.
-use Rattle.std.proofs.Common.{◌≡◌, ℕ, ◌<◌, ◌≤◌, List, length, refl, ap, sym, subst, ◌∙◌, false, inl, inr, arith}
-use Rattle.std.specs.Prelude.{take, slice_index, Some}
+use Rattle.art_schedules.proofs.Common.{◌≡◌, ℕ, ◌<◌, ◌≤◌, List, length, refl, ap, sym, subst, ◌∙◌, false, inl, inr, arith, slice_index, Some}
+use Rattle.art_schedules.proofs.Common.{Shape, Four, rows_of, table_words, claims_of, base_of, info_at, kind_at, key_bytes, ◌>>◌, Setting}
+use Rattle.art_schedules.proofs.Common.{key_of, is_scan, locks, byte_at, new_leaf, act, Hold, Pair, Stage, ClaimPair, StorePair, Unlock}
+use Rattle.art_schedules.proofs.Common.{rows_held, old_child, new_child, finish, part_of, rest_in, OnKey, RunsAlone, Comes, unlocked_rows}
+use Rattle.art_schedules.proofs.Common.{then-comes, IsStored, child_of-stored, kind_at-base_of, HasSameFields, IsOutside, stored-at, stored-long}
+use Rattle.art_schedules.proofs.Common.{byte_at-small, KnowsKey, IsFull, Solo, RowsOf, FitsWords, PairHangs, IsRelease, IsDoneBy, IsWorkDone}
+use Rattle.std.specs.Prelude.{take}
 use Rattle.events.specs.declared.event.Reply.TheVariants as reply
-use Rattle.art_rows.specs.declared.table.Shape.{Shape}
-use Rattle.art_rows.specs.declared.table.Kind.TheVariants.{Four}
-use Rattle.art_rows.specs.Table.{rows_of, table_words, claims_of, base_of, info_at, kind_at}
-use Rattle.art_rows.specs.Words.{key_bytes}
-use Rattle.art_steps.specs.Steps.{◌>>◌}
-use Rattle.art_steps.specs.Rows.{Setting, key_of, is_scan, locks, byte_at}
-use Rattle.art_steps.specs.Updates.{pair_in, new_leaf}
-use Rattle.art_steps.specs.Act.{act}
-use Rattle.art_stages.specs.declared.stage.Hold.{Hold}
-use Rattle.art_stages.specs.declared.stage.Pair.{Pair}
+use Rattle.art_steps.specs.Updates.{pair_in}
 use Rattle.art_stages.specs.declared.stage.PairWord.TheVariants as pair_word
 use Rattle.art_stages.specs.declared.stage.Work.TheVariants as work
-use Rattle.art_stages.specs.declared.stage.Stage.{Stage}
-use Rattle.art_stages.specs.declared.stage.Stage.TheVariants.{ClaimPair, StorePair, Unlock}
-use Rattle.art_stages.specs.Stages.{rows_held, old_child, new_child, finish, part_of, rest_in}
-use Rattle.art_stages.specs.Calls.{OnKey}
-use Rattle.art_serial.specs.alone.Alone.{RunsAlone, Comes, unlocked_rows}
-use Rattle.art_serial.proofs.alone.AloneLemmas.{then-comes}
-use Rattle.art_serial.specs.words.Stored.{IsStored}
-use Rattle.art_serial.proofs.words.WordLemmas.{child_of-stored}
-use Rattle.art_serial.proofs.words.TableLemmas.{kind_at-base_of}
-use Rattle.art_serial.specs.writes.Writes.{HasSameFields, HasPair, IsOutside}
-use Rattle.art_serial.proofs.writes.StoreLemmas.{stored-at, stored-long}
-use Rattle.art_serial.proofs.writes.PairLemmas.{byte_at-small, pair_is_hung}
+use Rattle.art_serial.specs.writes.Writes.{HasPair}
+use Rattle.art_serial.proofs.writes.PairLemmas.{pair_is_hung}
 use Rattle.art_serial.proofs.writes.SameLemmas.{child-same, form-same}
-use Rattle.art_serial.specs.trees.Trees.{IsUnused}
-use Rattle.art_versions.specs.versions.Holding.{KnowsKey}
-use Rattle.art_versions.specs.versions.Laws.{IsFull}
-use Rattle.art_schedules.specs.work.Solo.{Solo}
-use Rattle.art_schedules.specs.work.Works.{RowsOf, FitsWords, PairHangs, IsRelease, IsDoneBy, IsWorkDone}
 use Rattle.art_schedules.proofs.work.WorkLemmas.{IsPlain, behind-plain, plain-or, not-plain, Next, pairs}
 use Rattle.art_schedules.proofs.work.GoingLemmas.{Going}
 use Rattle.art_schedules.proofs.work.EndLemmas.{comes-run, finish-comes, none-outcome, unlock-end}
 use Rattle.art_schedules.proofs.work.DoneLemmas.{field-plain}
-use Rattle.art_schedules.proofs.work.ClaimLemmas.{with_number, with_more, number-other, outside-fresh, slot-row, slot-plain, IsClaim}
-use Rattle.art_schedules.proofs.work.ClaimLemmas.{EndsBy, claim-end}
-use Rattle.art_schedules.proofs.work.ClaimLemmas.{claim-runs}
-use Rattle.art_schedules.proofs.work.ClaimLemmas.{claim-comes}
+use Rattle.art_schedules.proofs.work.ClaimLemmas.{with_number, with_more, number-other, outside-fresh, slot-row, slot-plain, IsClaim, EndsBy}
+use Rattle.art_schedules.proofs.work.ClaimLemmas.{claim-end, claim-runs}
 
 -- a word that no row has is no word of the row; the bounds of a table's words
 five-words : (s : Shape) (words : List ℕ) → table_words s ≤ length words → 5 ≤ length words
@@ -158,11 +137,3 @@ module _ (c : Setting) (full : IsFull c.variant) (some : 1 ≤ c.shape.rows256) 
   pair-done words at solo r =
       let end = claim-end c full some key h Four false (ClaimPair h p) behind w0 refl (λ number. refl) begins refl at words solo r in
       (end.0, end.1, done-by end.0 at words end.2)
-
-  pub pair-comes : (number : ℕ) → IsUnused c.shape w0 Four number
-      → (at : Stage) × (words : List ℕ) × Solo c (OnKey (ClaimPair h p)) w0 (OnKey at) words × IsRelease h at
-      × IsDoneBy c h (work.Pair p) number w0 at words
-  pair-comes number unused =
-      let end = claim-comes c full some key h Four false (ClaimPair h p) behind w0 refl (λ number. refl) begins refl number unused
-      (λ claim. (unlocked_rows (rows_held h) (hung number claim).0, reply.None, run-of number claim)) in
-      (end.0, end.1, end.2, end.3, done-by number end.0 end.1 end.4)

@@ -1,52 +1,20 @@
 -- Where a call that locks what it reads has come to, it reads rows that it holds.
-use Rattle.std.proofs.Common.{◌≡◌, ℕ, zero, suc, ◌+◌, ◌-◌, refl, Bool, true, false}
-use Rattle.std.specs.Prelude.{◌==◌, nat_lt, if◌then◌else◌, slice_index, Option, Some, None}
-use Rattle.events.specs.declared.event.Call.{Call}
-use Rattle.art_rows.specs.declared.table.Shape.{Shape}
-use Rattle.art_rows.specs.declared.table.Kind.{Kind}
-use Rattle.art_rows.specs.declared.table.Kind.TheVariants.{Four, Sixteen, FortyEight, Full}
-use Rattle.art_rows.specs.declared.table.Child.TheVariants.{Empty, Row as ChildRow, Leaf}
-use Rattle.art_rows.specs.Table.{rows_of, base_of, child_at}
-use Rattle.art_rows.specs.Words.{is_locked, is_obsolete, entries_of, child_of, child_word}
-use Rattle.art_steps.specs.declared.variant.Variant.TheVariants.{Coupled}
-use Rattle.art_steps.specs.Rows.{Setting, is_insert, is_full, key_of}
-use Rattle.art_steps.specs.Updates.{overwriting, new_leaf, next_kind}
-use Rattle.art_stages.specs.declared.stage.Held.{Held}
-use Rattle.art_stages.specs.declared.stage.Keys.{Keys}
-use Rattle.art_stages.specs.declared.stage.Finding.{Finding}
+use Rattle.art_schedules.proofs.Common.{◌≡◌, ℕ, zero, suc, ◌+◌, ◌-◌, refl, Bool, true, false, ◌==◌, nat_lt, if◌then◌else◌, slice_index, Option}
+use Rattle.art_schedules.proofs.Common.{Some, None, Call, Shape, Kind, Four, Sixteen, FortyEight, Full, Empty, ChildRow, Leaf, rows_of, base_of}
+use Rattle.art_schedules.proofs.Common.{child_at, is_locked, is_obsolete, entries_of, child_of, child_word, Coupled, Setting, is_insert, is_full}
+use Rattle.art_schedules.proofs.Common.{key_of, overwriting, new_leaf, next_kind, Held, Keys, Finding, Position, Hold, Work, Target, Root, Below}
+use Rattle.art_schedules.proofs.Common.{Taken, PairWord, Pair, Growing, Spread, Outcome, Down, Stage, Lock, Exchange, Wait, Leave, Between, Info}
+use Rattle.art_schedules.proofs.Common.{Find, FindKeys, FindMore, FindCount, Slot, Check, CheckLast, LetGo, Take, Write, ClaimPair, StorePair}
+use Rattle.art_schedules.proofs.Common.{PutLoad, PutStore, PutLeaf, PutKeys, PutMore, PutCount, ClaimGrow, GrowInfo, GrowLoad, GrowStore}
+use Rattle.art_schedules.proofs.Common.{SpreadIndex, SpreadLoad, SpreadStore, GrowLeaf, GrowKeys, GrowCount, Hang, Obsolete, Unlock, Over}
+use Rattle.art_schedules.proofs.Common.{setting, held, row_at, count_in, byte_in, start_at, hold_alone, end_at, release_at, no_value, moves_at}
+use Rattle.art_schedules.proofs.Common.{put_at, work_at, taken_at, pair_work, overwrite_at, seek_coupled, insert_coupled, let_go_at}
+use Rattle.art_schedules.proofs.Common.{place_coupled, found_at, checked_at, among_at, keys_one, indexed_at, find_at, arrived_at, entered_at}
+use Rattle.art_schedules.proofs.Common.{below_at, pair_after, put_keys_after, copies_at, spreads_at, entries_at, fill_at, leaf_after}
+use Rattle.art_schedules.proofs.Common.{keys_at_after, after_with, OnKey, ReadsHeld}
 use Rattle.art_stages.specs.declared.stage.Finding.TheVariants as seen
-use Rattle.art_stages.specs.declared.stage.Position.{Position}
-use Rattle.art_stages.specs.declared.stage.Hold.{Hold}
-use Rattle.art_stages.specs.declared.stage.Work.{Work}
 use Rattle.art_stages.specs.declared.stage.Work.TheVariants as work
-use Rattle.art_stages.specs.declared.stage.Target.{Target}
-use Rattle.art_stages.specs.declared.stage.Target.TheVariants.{Root, Below, Taken}
-use Rattle.art_stages.specs.declared.stage.PairWord.{PairWord}
 use Rattle.art_stages.specs.declared.stage.PairWord.TheVariants as pair_word
-use Rattle.art_stages.specs.declared.stage.Pair.{Pair}
-use Rattle.art_stages.specs.declared.stage.Growing.{Growing}
-use Rattle.art_stages.specs.declared.stage.Spread.{Spread}
-use Rattle.art_stages.specs.declared.stage.Outcome.{Outcome}
-use Rattle.art_stages.specs.declared.stage.Down.{Down}
-use Rattle.art_stages.specs.declared.stage.Stage.{Stage}
-use Rattle.art_stages.specs.declared.stage.Stage.TheVariants.{Lock, Exchange, Wait, Leave, Between, Info, Find, FindKeys, FindMore}
-use Rattle.art_stages.specs.declared.stage.Stage.TheVariants.{FindCount, Slot}
-use Rattle.art_stages.specs.declared.stage.Stage.TheVariants.{Check, CheckLast, LetGo, Take, Write, ClaimPair, StorePair, PutLoad, PutStore}
-use Rattle.art_stages.specs.declared.stage.Stage.TheVariants.{PutLeaf}
-use Rattle.art_stages.specs.declared.stage.Stage.TheVariants.{PutKeys, PutMore, PutCount, ClaimGrow, GrowInfo, GrowLoad, GrowStore}
-use Rattle.art_stages.specs.declared.stage.Stage.TheVariants.{SpreadIndex}
-use Rattle.art_stages.specs.declared.stage.Stage.TheVariants.{SpreadLoad, SpreadStore, GrowLeaf, GrowKeys, GrowCount, Hang, Obsolete}
-use Rattle.art_stages.specs.declared.stage.Stage.TheVariants.{Unlock, Over}
-use Rattle.art_stages.specs.Stages.{setting, held, row_at, count_in, byte_in}
-use Rattle.art_stages.specs.Automaton.{start_at, hold_alone, end_at, release_at, no_value, moves_at, put_at, work_at, taken_at, pair_work}
-use Rattle.art_stages.specs.Automaton.{overwrite_at, seek_coupled, insert_coupled, let_go_at, place_coupled, found_at, checked_at, among_at}
-use Rattle.art_stages.specs.Automaton.{keys_one}
-use Rattle.art_stages.specs.Automaton.{indexed_at, find_at, arrived_at, entered_at, below_at, pair_after, put_keys_after, copies_at}
-use Rattle.art_stages.specs.Automaton.{spreads_at, entries_at}
-use Rattle.art_stages.specs.Automaton.{fill_at}
-use Rattle.art_stages.specs.Automaton.{leaf_after, keys_at_after, after_with}
-use Rattle.art_stages.specs.Calls.{OnKey}
-use Rattle.art_schedules.specs.work.Own.{ReadsHeld}
 
 -- ---- calls on a key
 

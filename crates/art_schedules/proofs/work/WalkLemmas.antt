@@ -1,38 +1,20 @@
 -- A scan that locks what it reads holds each row that it reads, or that is on its way.
-use Rattle.std.proofs.Common.{◌≡◌, ℕ, zero, suc, ◌+◌, List, [], ◌∷◌, ◌++◌, map, refl, Bool, true, false, inl, inr}
-use Rattle.std.specs.Prelude.{◌==◌, filter, Option, Some, None, if◌then◌else◌}
-use Rattle.events.specs.declared.event.Call.{Call}
-use Rattle.events.specs.declared.event.Call.TheVariants.{Get, Insert, Remove, Scan, Replace}
-use Rattle.art_rows.specs.declared.table.Shape.{Shape}
-use Rattle.art_rows.specs.declared.table.Kind.{Kind}
-use Rattle.art_rows.specs.declared.table.Kind.TheVariants.{Four, Sixteen, FortyEight, Full}
-use Rattle.art_rows.specs.declared.table.Child.{Child}
-use Rattle.art_rows.specs.declared.table.Child.TheVariants.{Empty, Row as ChildRow, Leaf}
-use Rattle.art_rows.specs.Table.{root_base, child_at}
-use Rattle.art_rows.specs.Words.{is_locked, is_obsolete, place_of, child_of}
-use Rattle.art_steps.specs.declared.variant.Variant.TheVariants.{Coupled}
-use Rattle.art_steps.specs.Rows.{Setting, is_insert}
-use Rattle.art_steps.specs.Scan.{bytes_of, with_leaf, has_row}
-use Rattle.art_stages.specs.declared.stage.Held.{Held}
-use Rattle.art_stages.specs.declared.stage.Entry.{Entry}
+use Rattle.art_schedules.proofs.Common.{◌≡◌, ℕ, zero, suc, ◌+◌, List, [], ◌∷◌, ◌++◌, refl, Bool, true, false, inl, inr, ◌==◌, filter, Option}
+use Rattle.art_schedules.proofs.Common.{Some, None, if◌then◌else◌, Call, Get, Insert, Remove, Scan, Replace, Shape, Kind, Four, Sixteen}
+use Rattle.art_schedules.proofs.Common.{FortyEight, Full, Child, Empty, ChildRow, Leaf, root_base, child_at, is_locked, is_obsolete, place_of}
+use Rattle.art_schedules.proofs.Common.{child_of, Coupled, Setting, is_insert, bytes_of, with_leaf, has_row, Held, Entry, Frame, ScanStep}
+use Rattle.art_schedules.proofs.Common.{FirstKeys, SecondKeys, Index, LoadChild, Release, setting, row_at, held, keys_among, keys_one, Walk}
+use Rattle.art_schedules.proofs.Common.{ScanAt, at, walked, on_way, lies, in_word, frame_of, keys16, release_rows, slot_at, bytes_at}
+use Rattle.art_schedules.proofs.Common.{index_at_list, words_at, place_slot, child_from, word_test, frame_at, way_at, resume_at, with_frame}
+use Rattle.art_schedules.proofs.Common.{visit_list, visit_at, entry_at, child_after, keys_after_word, scan_start, step_after, CallAt, OnKey}
+use Rattle.art_schedules.proofs.Common.{OnScan, call_after, begun_as, call_begun, after_all, call_behind, Each, IsAmong, IsWalked, ReadsWalked}
+use Rattle.art_schedules.proofs.Common.{ReadsHeld}
+use Rattle.std.proofs.Common.{map}
 use Rattle.art_stages.specs.declared.stage.Entry.TheVariants.{Root, Below}
-use Rattle.art_stages.specs.declared.stage.Frame.{Frame}
-use Rattle.art_stages.specs.declared.stage.ScanStep.{ScanStep}
-use Rattle.art_stages.specs.declared.stage.ScanStep.TheVariants.{Lock, Exchange, Wait, Info, Keys, FirstKeys, SecondKeys, Index}
-use Rattle.art_stages.specs.declared.stage.ScanStep.TheVariants.{Child as LoadChild, Release}
-use Rattle.art_stages.specs.declared.stage.ScanStep.TheVariants.{Over}
-use Rattle.art_stages.specs.Stages.{setting, row_at, held, keys_among}
-use Rattle.art_stages.specs.Automaton.{keys_one}
-use Rattle.art_stages.specs.Scans.{Walk, ScanAt, at, walked, on_way, lies, in_word, frame_of, keys16, release_rows, slot_at, bytes_at}
-use Rattle.art_stages.specs.Scans.{index_at_list, words_at, entry_slot, place_slot, child_from, word_test, frame_at, way_at, resume_at}
-use Rattle.art_stages.specs.Scans.{with_frame}
-use Rattle.art_stages.specs.Scans.{row_begins, visit_list, visit_at, entry_at, child_after, keys_after_word, scan_start, step_after}
-use Rattle.art_stages.specs.Calls.{CallAt, OnKey, OnScan, call_after, begun_as, call_begun, after_all, call_behind}
-use Rattle.art_versions.specs.versions.Holding.{Each}
-use Rattle.art_versions.specs.versions.Effects.{IsAmong}
+use Rattle.art_stages.specs.declared.stage.ScanStep.TheVariants.{Lock, Exchange, Wait, Info, Keys, Over}
+use Rattle.art_stages.specs.Scans.{entry_slot, row_begins}
 use Rattle.art_versions.proofs.versions.KeyLemmas.{each-weaker}
 use Rattle.art_versions.proofs.versions.KnownLemmas.{among-last, found-row}
-use Rattle.art_schedules.specs.work.Own.{IsWalked, ReadsWalked, ReadsHeld}
 use Rattle.art_schedules.proofs.work.ReadLemmas.{key-reads}
 
 abbrev Good : ScanAt → Type 0

@@ -1,52 +1,19 @@
 -- The stages of work between its claim and its first release: what comes next, and what is touched there.
-use Rattle.std.proofs.Common.{◌≡◌, ℕ, zero, suc, ◌+◌, ◌<◌, ◌≤◌, List, [], ◌∷◌, length, refl, ap, sym, subst, ◌∙◌, Bool, true, false, inl}
-use Rattle.std.proofs.Common.{inr, arith}
-use Rattle.std.specs.Prelude.{◌≢◌, ◌⊎◌, ◌==◌, slice_index, Option, Some, None, if◌then◌else◌}
-use Rattle.std.proofs.lemmas.Option.{none-some}
-use Rattle.std.proofs.lemmas.Bool.{cases_lt, true≢false}
-use Rattle.art_rows.specs.declared.table.Shape.{Shape}
-use Rattle.art_rows.specs.declared.table.Kind.{Kind}
-use Rattle.art_rows.specs.declared.table.Kind.TheVariants.{Four, Sixteen, FortyEight, Full}
-use Rattle.art_rows.specs.declared.table.Child.{Child}
-use Rattle.art_rows.specs.declared.table.Child.TheVariants.{Empty, Row as ChildRow, Leaf}
-use Rattle.art_rows.specs.Table.{kind_at}
-use Rattle.art_rows.specs.Words.{entries_of, child_of}
-use Rattle.art_rows.proofs.KindLemmas.{two-words}
-use Rattle.art_steps.specs.declared.access.Access.TheVariants.{Load, Store}
-use Rattle.art_steps.specs.declared.access.Point.{Point}
-use Rattle.art_steps.specs.Steps.{Asks}
-use Rattle.art_steps.specs.Rows.{Setting, locks}
-use Rattle.art_stages.specs.declared.stage.Held.{Held}
-use Rattle.art_stages.specs.declared.stage.Keys.{Keys}
-use Rattle.art_stages.specs.declared.stage.Hold.{Hold}
-use Rattle.art_stages.specs.declared.stage.Pair.{Pair}
-use Rattle.art_stages.specs.declared.stage.PairWord.{PairWord}
+use Rattle.art_schedules.proofs.Common.{◌≡◌, ℕ, zero, suc, ◌+◌, ◌<◌, ◌≤◌, List, [], ◌∷◌, length, refl, ap, sym, subst, ◌∙◌, Bool, true, false}
+use Rattle.art_schedules.proofs.Common.{inl, inr, arith, ◌==◌, slice_index, Option, Some, None, if◌then◌else◌, none-some, cases_lt, true≢false}
+use Rattle.art_schedules.proofs.Common.{Shape, Kind, Four, Sixteen, FortyEight, Full, Child, Empty, ChildRow, Leaf, kind_at, entries_of}
+use Rattle.art_schedules.proofs.Common.{child_of, two-words, Load, Store, Point, Asks, Setting, locks, Held, Keys, Hold, Pair, PairWord, Growing}
+use Rattle.art_schedules.proofs.Common.{Spread, Outcome, Value, Stage, Write, StorePair, PutLoad, PutStore, PutLeaf, PutKeys, PutMore, PutCount}
+use Rattle.art_schedules.proofs.Common.{GrowInfo, GrowLoad, GrowStore, SpreadIndex, SpreadLoad, SpreadStore, GrowLeaf, GrowKeys, GrowCount, Hang}
+use Rattle.art_schedules.proofs.Common.{Obsolete, Unlock, no_value, turn_at, stage_after, moves_at, pair_after, put_keys_after, copies_at}
+use Rattle.art_schedules.proofs.Common.{spreads_at, entries_at, fill_at, leaf_after, keys_at_after, OnKey, IsStored, row_begins, rows_apart}
+use Rattle.art_schedules.proofs.Common.{child_of-stored, locks_of, rows_of_hold, Each, IsNamed, KnowsKey, child_rows, holds, IsGoodAt, IsWith}
+use Rattle.art_schedules.proofs.Common.{IsBehindVersion, Reads, Writes, Ends, Releases, Takes, Claims, Answered, AccessDoes, IsFull, knows-more}
+use Rattle.art_schedules.proofs.Common.{held-is-kept, IsHeldWord, is_claim, is_work, RowsOf}
+use Rattle.std.specs.Prelude.{◌≢◌, ◌⊎◌}
 use Rattle.art_stages.specs.declared.stage.PairWord.TheVariants as pair_word
-use Rattle.art_stages.specs.declared.stage.Growing.{Growing}
-use Rattle.art_stages.specs.declared.stage.Spread.{Spread}
-use Rattle.art_stages.specs.declared.stage.Outcome.{Outcome}
-use Rattle.art_stages.specs.declared.stage.Outcome.TheVariants.{Value}
-use Rattle.art_stages.specs.declared.stage.Stage.{Stage}
-use Rattle.art_stages.specs.declared.stage.Stage.TheVariants.{Write, StorePair, PutLoad, PutStore, PutLeaf, PutKeys, PutMore, PutCount}
-use Rattle.art_stages.specs.declared.stage.Stage.TheVariants.{GrowInfo, GrowLoad}
-use Rattle.art_stages.specs.declared.stage.Stage.TheVariants.{GrowStore}
-use Rattle.art_stages.specs.declared.stage.Stage.TheVariants.{SpreadIndex, SpreadLoad, SpreadStore, GrowLeaf, GrowKeys, GrowCount, Hang}
-use Rattle.art_stages.specs.declared.stage.Stage.TheVariants.{Obsolete, Unlock}
-use Rattle.art_stages.specs.Automaton.{no_value, turn_at, stage_after, moves_at, pair_after, put_keys_after, copies_at, spreads_at}
-use Rattle.art_stages.specs.Automaton.{entries_at, fill_at}
-use Rattle.art_stages.specs.Automaton.{leaf_after, keys_at_after}
-use Rattle.art_stages.specs.Calls.{OnKey}
-use Rattle.art_serial.specs.words.Stored.{IsStored}
-use Rattle.art_serial.proofs.words.TableLemmas.{row_begins, rows_apart}
-use Rattle.art_serial.proofs.words.WordLemmas.{child_of-stored}
-use Rattle.art_versions.specs.versions.Locking.{locks_of, rows_of_hold}
-use Rattle.art_versions.specs.versions.Holding.{Each, IsNamed, HasPlace, KnowsKey, child_rows, holds}
-use Rattle.art_versions.specs.versions.Effects.{IsGoodAt, IsWith, IsBehindVersion, With, Reads, Writes, Fills, Ends, Releases, Takes}
-use Rattle.art_versions.specs.versions.Effects.{Claims, Answered, AccessDoes}
-use Rattle.art_versions.specs.versions.Laws.{IsFull}
-use Rattle.art_versions.proofs.versions.KnownLemmas.{knows-more, held-is-kept}
-use Rattle.art_schedules.specs.work.Own.{IsHeldWord, is_claim, is_work}
-use Rattle.art_schedules.specs.work.Works.{RowsOf}
+use Rattle.art_versions.specs.versions.Holding.{HasPlace}
+use Rattle.art_versions.specs.versions.Effects.{With, Fills}
 use Rattle.art_schedules.proofs.work.OwnLemmas.{IsAllowed, allowed, is_over, rows-do}
 
 -- ---- plain words

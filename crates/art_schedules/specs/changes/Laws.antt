@@ -8,12 +8,12 @@ use Rattle.art_rows.specs.Table.{row_words, claims_of, kind_at}
 use Rattle.art_rows.specs.Words.{key_bytes, first_difference, child_of, child_word, is_locked, is_obsolete}
 use Rattle.art_core.specs.Meaning.{Reached, Means, slot_of, child_on}
 use Rattle.art_core.specs.Forms.{IsTree, level_in, path_in}
-use Rattle.art_serial.specs.trees.Trees.{IsAtRest, SameRow, LeadsTo}
+use Rattle.art_serial.specs.trees.Trees.{IsAtRest, LeadsTo}
 use Rattle.art_serial.specs.trees.Children.{IsWritable}
 use Rattle.art_schedules.specs.changes.Rows.{OneRow, SameOutside, HasNewChild}
 use Rattle.art_schedules.specs.changes.Effects.{Effect, base_of_effect, kind_of_effect, pairs_after, IsGone, HasEffect, ComesIn}
 use Rattle.art_schedules.specs.changes.Follows.{HasFewClaims, Follows, KeepsTree}
-use Rattle.art_schedules.specs.changes.Sayings.{IsSaidBy, SaysTheSame}
+use Rattle.art_schedules.specs.changes.Sayings.{IsSaidBy}
 use Rattle.art_schedules.specs.changes.Courses.{IsGoneBy, ComesInBy}
 
 -- A change of one row that has an effect leaves a tree at rest, which means the map after the effect.
@@ -66,8 +66,3 @@ abbrev pub WaysArePaths : Type 0
 WaysArePaths = (s : Shape) (words : List ℕ) (key base : ℕ) (kind : Kind) → IsTree s words → Reached s words base kind
     → first_difference (path_in words base kind) (key_bytes key) ≡ None
     → LeadsTo s words key base kind (slice_index (key_bytes key) (level_in words base kind))
-
--- Rows whose words but the version are the same say the same.
-abbrev pub SameRowsSayTheSame : Type 0
-SameRowsSayTheSame = (s : Shape) (words later : List ℕ) (base : ℕ) (kind : Kind) → SameRow words later base kind
-    → SaysTheSame s words later base kind

@@ -8,7 +8,6 @@ use Rattle.art_rows.specs.Words.{key_bytes, info_word, row_word, leaf_word}
 use Rattle.art_core.specs.Meaning.{child_on}
 use Rattle.art_core.specs.Forms.{level_in, path_in}
 use Rattle.art_serial.specs.trees.Trees.{IsAtRest, SameRow, LeadsTo, IsFree, Parts}
-use Rattle.art_serial.specs.writes.Writes.{HasPut}
 use Rattle.art_schedules.specs.changes.Rows.{OneRow, IsFilled}
 use Rattle.art_schedules.specs.changes.Effects.{PutsLeaf, RemovesLeaf, HangsPair, HangsGrown, HasEffect}
 use Rattle.art_schedules.specs.changes.Written.{IsUnreached, IsPairRow, IsCopy, HasWordAt}
@@ -25,14 +24,6 @@ StoredZerosRemove = (s : Shape) (n : ℕ) (calm later : List ℕ) (base : ℕ) (
     → OneRow s calm later base kind → LeadsTo s calm key base kind x → IsFree s calm key base kind x
     → HasWordAt calm later base kind x slot 0
     → HasEffect s calm later (RemovesLeaf base kind x key)
-
--- A leaf that was put beside the other children is put.
-abbrev pub WrittenLeavesArePut : Type 0
-WrittenLeavesArePut = (s : Shape) (calm later words written : List ℕ) (base : ℕ) (kind : Kind) (x key value : ℕ)
-    → LeadsTo s calm key base kind x
-    → IsFree s calm key base kind x → HasPut s words written base kind x (Leaf key value) → SameRow words calm base kind
-    → SameRow written later base kind
-    → HasEffect s calm later (PutsLeaf base kind x key value)
 
 -- A pair that was written, and hung in the slot of the byte, is hung.
 abbrev pub WrittenPairsAreHung : Type 0

@@ -13,7 +13,7 @@ use Rattle.art_steps.specs.Updates.{Under}
 use Rattle.art_core.specs.Meaning.{Reached, slot_of, child_on}
 use Rattle.art_core.specs.Forms.{HasForm, level_in, path_in}
 use Rattle.art_serial.specs.trees.Trees.{IsAtRest, SameRow, IsPair, IsGrown, IsClaimed}
-use Rattle.art_serial.specs.writes.Writes.{HasPut, IsOutside, HasPair, HasFresh}
+use Rattle.art_serial.specs.writes.Writes.{HasPut, IsOutside}
 use Rattle.art_schedules.specs.changes.Rows.{HasNewChild}
 
 -- no row of the tree begins there
@@ -94,14 +94,3 @@ CopiesAreFresh = (s : Shape) (words written calm : List ℕ) (key value full : �
     → SameRow words calm full kind → SameRow written calm fresh larger → y < 256 → child_on s calm full kind y ≡ Empty
     → IsUnreached s calm fresh
     → IsGrown s calm calm key value full kind fresh larger y
-
--- What inserts that run alone write are such rows.
-abbrev pub WrittenPairsAreRows : Type 0
-WrittenPairsAreRows = (s : Shape) (words written : List ℕ) (fresh slot level : ℕ) (path : List ℕ) (a b : Under)
-    → HasPair s words written fresh slot level path a b → IsPairRow s written fresh level path a b × IsHungIn words written fresh Four slot
-
-abbrev pub WrittenRowsAreCopies : Type 0
-WrittenRowsAreCopies = (s : Shape) (words written : List ℕ) (full : ℕ) (kind : Kind) (fresh : ℕ) (larger : Kind)
-    (word_of_info y : ℕ) (child : Child)
-    → HasFresh s words written full kind fresh larger word_of_info y child
-    → IsCopy s words written full kind fresh larger word_of_info y child

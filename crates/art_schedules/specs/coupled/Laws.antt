@@ -10,11 +10,9 @@ use Rattle.art_steps.specs.Rows.{is_insert, is_scan}
 use Rattle.art_stages.specs.declared.stage.Stage.{Stage}
 use Rattle.art_stages.specs.Stages.{setting}
 use Rattle.art_stages.specs.Automaton.{turn_at, stage_after}
-use Rattle.art_core.specs.Meaning.{Reached, Means}
+use Rattle.art_core.specs.Meaning.{Means}
 use Rattle.art_serial.specs.trees.Trees.{IsAtRest}
-use Rattle.art_stages.specs.declared.stage.Held.{Held}
-use Rattle.art_versions.specs.versions.Holding.{holds, FitsStage}
-use Rattle.art_versions.specs.versions.Effects.{IsAmong}
+use Rattle.art_versions.specs.versions.Holding.{FitsStage}
 use Rattle.art_versions.specs.versions.Versions.{IsAtStage}
 use Rattle.art_steps.specs.declared.access.Access.{Access}
 use Rattle.art_steps.specs.declared.access.Point.{Point}
@@ -89,12 +87,6 @@ OthersLeaveWays = (plan : Plan) (start : Contents) (words schedule : List ℕ) (
     → IsAtStage Coupled plan.shape t r call (OnKey stage)
     × KnowsWay (setting plan.shape Coupled call) (calm_of plan words (schedule ++ p ∷ [])) t.words found stage
 
--- A call on its way holds rows of the calm tree alone.
-abbrev pub WaysHoldReached : Type 0
-WaysHoldReached = (shape : Shape) (call : Call) (calm words : List ℕ) (stage : Stage) (found : Option Reply)
-    → KnowsWay (setting shape Coupled call) calm words found stage
-    → (h : Held) → IsAmong h (holds (setting shape Coupled call) (OnKey stage)) → Reached shape calm h.base h.kind
-
 -- ---- rows that are obsolete
 
 -- A call on its way takes no row that is obsolete.
@@ -110,12 +102,6 @@ WorkTakesLive = (plan : Plan) (start : Contents) (words schedule : List ℕ) (p 
     (call : Call) (stage : Stage)
     → IsCoupledStep plan start words schedule p s t claims m → IsAtStage Coupled plan.shape s p call (OnKey stage) → is_work stage ≡ true
     → TakesLive plan.shape s p
-
--- Where no row that is taken is obsolete, none is that is held.
-abbrev pub HeldRowsLive : Type 0
-HeldRowsLive = (plan : Plan) (start : Contents) (words schedule : List ℕ) (p : ℕ) (s t : State) (claims : ℕ) (m : Contents)
-    → IsCoupledStep plan start words schedule p s t claims m → HeldAreLive plan.shape s → TakesLive plan.shape s p
-    → HeldAreLive plan.shape t
 
 -- A row of the calm tree that is obsolete is about to leave it, in each state.
 abbrev pub ObsoleteRowsLeave : Type 0

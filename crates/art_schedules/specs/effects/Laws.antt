@@ -1,16 +1,14 @@
 -- Laws of the work of a call in a run.
-use Rattle.std.specs.Prelude.{◌≡◌, ◌≢◌, ℕ, List, [], ◌∷◌, ◌++◌, length, false, Option, None, Some, ◌<◌}
+use Rattle.std.specs.Prelude.{◌≡◌, ◌≢◌, ℕ, List, [], ◌∷◌, ◌++◌, length, Option, None, Some}
 use Rattle.events.specs.declared.event.Call.{Call}
 use Rattle.events.specs.declared.event.Reply.{Reply}
 use Rattle.map_object.specs.MapObject.{Contents}
 use Rattle.art_rows.specs.Table.{table_words}
-use Rattle.art_rows.specs.declared.table.Child.TheVariants.{Row}
-use Rattle.art_rows.specs.declared.table.Kind.{Kind}
-use Rattle.art_steps.specs.declared.access.Access.{Access}
 use Rattle.art_steps.specs.declared.access.Access.TheVariants.{Exchange as Swap}
+use Rattle.art_steps.specs.declared.access.Access.{Access}
 use Rattle.art_steps.specs.declared.access.Point.{Point}
 use Rattle.art_steps.specs.Steps.{Asks, Answers}
-use Rattle.art_steps.specs.Rows.{Setting, is_scan}
+use Rattle.art_steps.specs.Rows.{Setting}
 use Rattle.art_stages.specs.declared.stage.Held.{Held}
 use Rattle.art_stages.specs.declared.stage.Hold.{Hold}
 use Rattle.art_stages.specs.declared.stage.Stage.{Stage}
@@ -20,25 +18,21 @@ use Rattle.art_stages.specs.Stages.{setting}
 use Rattle.art_stages.specs.Automaton.{turn_at, work_at}
 use Rattle.art_stages.specs.Calls.{OnKey}
 use Rattle.art_core.specs.Core.{Plan, State}
-use Rattle.art_core.specs.Meaning.{Reached, Means, child_on}
+use Rattle.art_core.specs.Meaning.{Reached, Means}
 use Rattle.art_serial.specs.trees.Trees.{IsAtRest, IsClaimed}
-use Rattle.art_versions.specs.versions.Locking.{rows_of_hold, lock_of}
+use Rattle.art_versions.specs.versions.Locking.{rows_of_hold}
 use Rattle.art_versions.specs.versions.Holding.{Named, Each, Knows, holds}
 use Rattle.art_versions.specs.versions.Effects.{IsAmong}
 use Rattle.art_versions.specs.versions.Versions.{IsAtStage}
 use Rattle.art_schedules.specs.calm.Calm.{calm_of}
-use Rattle.art_schedules.specs.changes.Effects.{Effect, IsGone}
+use Rattle.art_schedules.specs.changes.Effects.{Effect}
 use Rattle.art_schedules.specs.work.Works.{RowsOf}
 use Rattle.art_schedules.specs.effects.Begins.{BeginsWork}
-use Rattle.art_schedules.specs.effects.AtWork.{fresh_of, AtWork, AtEnd, IsHanging}
-use Rattle.art_schedules.specs.effects.Outcomes.{Makes, HoldsReached, IsOther, WorkStep, EndStep, FreshGoesOn, AreTwoRows}
+use Rattle.art_schedules.specs.effects.AtWork.{fresh_of, AtWork, AtEnd}
+use Rattle.art_schedules.specs.effects.Outcomes.{Makes, HoldsReached, IsOther, WorkStep, EndStep, AreTwoRows}
 use Rattle.art_schedules.specs.effects.Marks.{IsMarked, WorkerStep, HangsOnAbove, EnderStep}
 use Rattle.art_schedules.specs.calm.Changes.{IsRunStep}
 use Rattle.art_schedules.specs.work.Ways.{IsInTree, IsSame}
-
--- A call whose work begins is none that scans.
-abbrev pub WorkersDoNotScan : Type 0
-WorkersDoNotScan = (c : Setting) (calm : List ℕ) (h : Hold) (work : Work) → BeginsWork c calm h work → is_scan c.call ≡ false
 
 -- Where work begins in rows of calm's tree that are as calm has them, the call is at work.
 abbrev pub WorkBegins : Type 0
@@ -108,23 +102,9 @@ abbrev pub FreshIsClaimed : Type 0
 FreshIsClaimed = (c : Setting) (real calm : List ℕ) (stage : Stage) (row : Named) → AtWork c real calm (Some row) stage
     → IsClaimed c.shape real row.0 row.1
 
--- So two calls that have fresh rows have two, whichever of them steps,
-abbrev pub FreshRowsStayApart : Type 0
-FreshRowsStayApart = (c : Setting) (s : State) (calm : List ℕ) (stage : Stage) (fresh later other : Option Named)
-    → AtWork c s.words calm other stage → FreshGoesOn c.shape s fresh later → AreTwoRows fresh other → AreTwoRows later other
-    × AreTwoRows other later
-
 -- and the row that an effect brings is none of another call.
 abbrev pub EffectsBringTheirs : Type 0
 EffectsBringTheirs = (e : Effect) (other : Option Named) → AreTwoRows (fresh_of e) other → IsOther (Some e) other
-
--- Where a row is to go by the effect of a call, the call holds the row above it: so no call that holds a row of which calm has another row
--- finds that one gone.
-abbrev pub HangersHoldAbove : Type 0
-HangersHoldAbove = (c : Setting) (real calm : List ℕ) (n : ℕ) (stage : Stage) (fresh : Option Named) → IsAtRest c.shape n calm
-    → (g : IsHanging c real calm fresh stage) → (b : ℕ) → IsGone g.effect b → (a y : ℕ) (above l : Kind)
-    → Reached c.shape calm a above → y < 256
-    → child_on c.shape calm a above y ≡ Row b l → IsAmong (lock_of g.row) (holds c (OnKey stage)) × (g.row.base ≡ a)
 
 -- ---- rows that are made obsolete
 

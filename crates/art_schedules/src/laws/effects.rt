@@ -1,19 +1,13 @@
 // Laws of the work of a call in a run: each function only carries its clause.
 ghost use Rattle.art_schedules.specs.effects.Laws.{LeaversHoldReached, LeaversStep, OthersKeepEnds, OthersKeepWork, WorkBegins};
-ghost use Rattle.art_schedules.specs.effects.Laws.{WorkersDoNotScan};
 ghost use Rattle.art_schedules.specs.effects.Laws.{WorkersHoldReached};
-ghost use Rattle.art_schedules.specs.effects.Laws.{EffectsBringTheirs, FreshIsClaimed, FreshRowsStayApart, HangersHoldAbove, WorkersStep};
+ghost use Rattle.art_schedules.specs.effects.Laws.{EffectsBringTheirs, FreshIsClaimed, WorkersStep};
 ghost use Rattle.art_schedules.specs.effects.Laws.{EndersGoOn, ObsoleteRowsHang, OthersKeepMarked, WorkersGoOn, WorkersMayHaveNoMark};
 ghost use Rattle.art_schedules.specs.effects.Laws.{WorkersOnlyWork};
 
 use crate::laws::changes::{effects_follow, kept_trees_follow, ways_say_values};
 use crate::laws::work::work_is_done;
 use art_serial::children_are_read;
-
-/// A call whose work begins is no scan.
-pub fn workers_do_not_scan()
-    ensures { WorkersDoNotScan }
-{}
 
 /// A call whose work begins is at work.
 pub fn work_begins()
@@ -70,19 +64,9 @@ pub fn fresh_is_claimed()
     ensures { FreshIsClaimed }
 {}
 
-/// The fresh rows of two calls at work stay two rows.
-pub fn fresh_rows_stay_apart()
-    ensures { FreshRowsStayApart }
-{}
-
 /// An effect brings no row into the tree that is another call's fresh one.
 pub fn effects_bring_theirs()
     ensures { EffectsBringTheirs }
-{}
-
-/// A call by whose effect a row is to go holds the row above it.
-pub fn hangers_hold_above()
-    ensures { HangersHoldAbove }
 {}
 
 /// A call at work may have no mark.

@@ -1,5 +1,5 @@
 // Laws of scans under lock coupling: each function only carries its clause.
-ghost use Rattle.art_schedules.specs.locked_scans.Laws.{FoundScansAnswer, FoundScansStay, OthersLeaveScans, ScansBegin, ScansGoOn};
+ghost use Rattle.art_schedules.specs.locked_scans.Laws.{FoundScansAnswer, FoundScansStay, OthersLeaveScans, ScansBegin};
 ghost use Rattle.art_schedules.specs.locked_scans.Laws.{WalkedScansFind};
 ghost use Rattle.art_schedules.specs.locked_scans.Laws.{OthersLeaveTrees, ScansComeOn, ScansTakeLive, ScansTakeReached, WalkingScansAsk};
 
@@ -9,12 +9,6 @@ use crate::laws::coupled::walks_are_the_maps;
 /// A scan begins where it has walked nothing yet.
 pub fn scans_begin()
     ensures { ScansBegin }
-{}
-
-/// A step of a scan that has not come to the end of its walk: the calm tree stays, and alone on calm the scan comes to where it is
-/// then.
-pub fn scans_go_on()
-    ensures { ScansGoOn }
 {}
 
 /// A scan that has come to the end of its walk has the pairs of the map of that moment.

@@ -1,5 +1,5 @@
 // Laws of calls of the optimistic tree: each function only carries its clause.
-ghost use Rattle.art_schedules.specs.optimistic.Laws.{CalmAgrees, FindingsStay, InfosStayInRuns, WaysAreKept, WaysBegin, WaysGoOn};
+ghost use Rattle.art_schedules.specs.optimistic.Laws.{WaysBegin};
 ghost use Rattle.art_schedules.specs.optimistic.Steps.{OtherStepsKeepWays, OwnFindingsStay, OwnStepsGoOn, QuietStepsKeepTrees};
 ghost use Rattle.art_schedules.specs.optimistic.Steps.{ScansStoreNothing};
 
@@ -8,36 +8,6 @@ use art_serial::{leaves_are_small, ways_lead_to_values};
 /// Before its first access a call knows its way.
 pub fn ways_begin()
     ensures { WaysBegin }
-{}
-
-/// A step of a call that knows its way: it knows its way then, or starts again, or its work begins, or it has found what it will
-/// answer.
-pub fn optimistic_ways_go_on()
-    ensures { WaysGoOn }
-{
-    ways_lead_to_values();
-    leaves_are_small();
-}
-
-/// A call that has found what it will answer has it behind a step of its own, or starts again.
-pub fn optimistic_findings_stay()
-    ensures { FindingsStay }
-{}
-
-/// What a call knows on its way stays so in a step of any process.
-pub fn optimistic_ways_are_kept()
-    ensures { WaysAreKept }
-{}
-
-/// In each step of the optimistic tree the info word of each row that was claimed and that nobody fills stays.
-pub fn infos_stay()
-    ensures { InfosStayInRuns }
-{}
-
-/// In every state of the optimistic tree calm has the words of each row that is neither locked nor obsolete, and the info word
-/// of each row of its tree.
-pub fn calm_agrees()
-    ensures { CalmAgrees }
 {}
 
 /// In a run, what a call knows on its way stays so in a step of another process.

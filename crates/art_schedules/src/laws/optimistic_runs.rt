@@ -1,5 +1,5 @@
 // Every schedule of the optimistic tree is linearizable: each function only carries its clause.
-ghost use Rattle.art_core.specs.Claims.{OptimisticIsLinearizable, OptimisticIsLinearizableWithoutScans};
+ghost use Rattle.art_core.specs.Claims.{OptimisticIsLinearizable};
 
 use crate::laws::changes::kept_trees_follow;
 use crate::laws::effects::{
@@ -36,11 +36,4 @@ pub fn optimistic_is_linearizable()
     answered_scans_have_points();
     starts_are_at_rest();
     stories_give_orders();
-}
-
-/// So has every schedule of scripts that hold no scan.
-pub fn optimistic_is_linearizable_without_scans()
-    ensures { OptimisticIsLinearizableWithoutScans }
-{
-    optimistic_is_linearizable();
 }

@@ -1,23 +1,14 @@
 -- Parts that run alone: one rule for each way to make a part.
-use Rattle.std.proofs.Common.{◌≡◌, ℕ, ◌+◌, ◌%◌, ◌^◌, List, [], ◌∷◌, refl, ap, sym, subst, Bool, true, false, ◌∙◌, arith}
-use Rattle.std.specs.Prelude.{Option, Some, slice_index, slice_set, ◌==◌, if◌then◌else◌}
+use Rattle.art_serial.proofs.Common.{◌≡◌, ℕ, ◌+◌, ◌%◌, ◌^◌, List, [], ◌∷◌, refl, ap, sym, subst, Bool, true, false, ◌∙◌, arith, Option}
+use Rattle.art_serial.proofs.Common.{slice_set, eq-eqb, Call, Reply, Shape, Variant, Access, Point, Rest, Part, Answers, ◌>>=◌, ◌>>◌, give}
+use Rattle.art_serial.proofs.Common.{answer, access, load, load_at, store, store_at, exchange, add, marked, first_at, each, over, procedure, act}
+use Rattle.art_serial.proofs.Common.{got_by, words_after, RunsAlone, ends, goes, accesses, Comes, Ends}
+use Rattle.std.specs.Prelude.{Some, slice_index, ◌==◌, if◌then◌else◌}
 use Rattle.std.proofs.lemmas.List.{set-get_or}
-use Rattle.std.proofs.Common.{eq-eqb}
-use Rattle.events.specs.declared.event.Call.{Call}
-use Rattle.events.specs.declared.event.Reply.{Reply}
 use Rattle.events.specs.declared.event.Reply.TheVariants as replies
-use Rattle.art_rows.specs.declared.table.Shape.{Shape}
-use Rattle.art_steps.specs.declared.variant.Variant.{Variant}
-use Rattle.art_steps.specs.declared.access.Access.{Access}
 use Rattle.art_steps.specs.declared.access.Access.TheVariants.{Load, Exchange}
-use Rattle.art_steps.specs.declared.access.Point.{Point}
-use Rattle.art_steps.specs.Steps.{Rest, Part, Answers, ◌>>=◌, ◌>>◌, give, answer, access, load, load_at, store, store_at, exchange, add}
-use Rattle.art_steps.specs.Steps.{marked, first_at, each, over}
-use Rattle.art_steps.specs.Act.{procedure, act}
 use Rattle.art_steps.proofs.GuardLemmas.{act-body}
 use Rattle.art_steps.proofs.TurnLemmas.{asks-same, answers-same, asks-answers}
-use Rattle.art_core.specs.Accesses.{got_by, words_after}
-use Rattle.art_serial.specs.alone.Alone.{RunsAlone, ends, goes, accesses, Comes, Ends}
 
 -- ---- what is left of a call
 

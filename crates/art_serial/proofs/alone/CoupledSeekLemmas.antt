@@ -1,27 +1,15 @@
 -- A get, a remove or a replace under lock coupling, run alone on a table at rest, goes its key's way.
-use Rattle.std.proofs.Common.{◌≡◌, ◌⊎◌, inl, inr, ℕ, zero, suc, ◌+◌, ◌<◌, ◌≤◌, ◌==◌, List, slice_index, slice_set, Option, Some, None}
-use Rattle.std.proofs.Common.{Bool, true, false, refl, sym, ap, subst, arith, eqb-true, if◌then◌else◌}
-use Rattle.std.proofs.lemmas.Bool.{eqb-false}
+use Rattle.art_serial.proofs.Common.{◌≡◌, ◌⊎◌, inl, inr, ℕ, zero, suc, ◌+◌, ◌<◌, ◌≤◌, ◌==◌, List, slice_index, Some, None, Bool, true, false}
+use Rattle.art_serial.proofs.Common.{refl, sym, ap, subst, arith, eqb-true, if◌then◌else◌, eqb-false, Kind, Full, Child, Empty, ChildRow, Leaf}
+use Rattle.art_serial.proofs.Common.{root_base, info_at, is_locked, is_obsolete, locked_word, released_word, key_bytes, child_of, two-words}
+use Rattle.art_serial.proofs.Common.{key_byte-small, Part, ◌>>=◌, ◌>>◌, give, load, Setting, Row, key_of, byte_at, row_of, root_row}
+use Rattle.art_serial.proofs.Common.{path_differs_at, lock, unlock, find, Has, Lacks, overwriting, Reached, root, below, child_in, child_on}
+use Rattle.art_serial.proofs.Common.{slot_of, level_in, IsAtRest, LeadsTo, Comes, keys_in_row, count_in_row, found_of_slot}
+use Rattle.std.proofs.Common.{slice_set, Option}
 use Rattle.events.specs.declared.event.Reply.TheVariants as reply
-use Rattle.art_rows.specs.declared.table.Kind.{Kind}
-use Rattle.art_rows.specs.declared.table.Kind.TheVariants.{Full}
-use Rattle.art_rows.specs.declared.table.Child.{Child}
-use Rattle.art_rows.specs.declared.table.Child.TheVariants.{Empty, Row as ChildRow, Leaf}
-use Rattle.art_rows.specs.Table.{root_base, info_at}
-use Rattle.art_rows.specs.Words.{is_locked, is_obsolete, locked_word, released_word, key_bytes, child_of}
-use Rattle.art_rows.proofs.KindLemmas.{two-words}
-use Rattle.art_rows.proofs.ByteLemmas.{key_byte-small}
-use Rattle.art_steps.specs.Steps.{Part, ◌>>=◌, ◌>>◌, give, load}
-use Rattle.art_steps.specs.Rows.{Setting, Row, key_of, byte_at, releases_early, row_of, root_row, path_differs_at, lock, unlock, find, Has}
-use Rattle.art_steps.specs.Rows.{Lacks}
-use Rattle.art_steps.specs.Updates.{overwriting}
+use Rattle.art_steps.specs.Rows.{releases_early}
 use Rattle.art_steps.specs.Coupled.{overwrite, seek_below, step_down, seek_at, seek_from, seek}
 use Rattle.art_steps.proofs.GuardLemmas.{seek_from-body}
-use Rattle.art_core.specs.Meaning.{Reached, root, below, child_in, child_on, slot_of}
-use Rattle.art_core.specs.Forms.{level_in}
-use Rattle.art_serial.specs.trees.Trees.{IsAtRest, LeadsTo}
-use Rattle.art_serial.specs.alone.Alone.{Comes}
-use Rattle.art_serial.specs.alone.Finding.{keys_in_row, count_in_row, found_of_slot}
 use Rattle.art_serial.proofs.alone.AloneLemmas.{give-comes, bind-comes, then-comes, if_true-comes, if_false-comes, same-comes, load-comes}
 use Rattle.art_serial.proofs.alone.AloneLemmas.{store-comes}
 use Rattle.art_serial.proofs.alone.RowRunLemmas.{with_lock, lock-comes, unlock-comes}

@@ -1,9 +1,7 @@
 -- Where a key parts from what hangs on its way: behind the level of the row.
-use Rattle.std.proofs.Common.{◌≡◌, ◌≢◌, ℕ, ◌/◌, ◌%◌, ◌<◌, List, ◌∷◌, Option, Some, None}
-use Rattle.std.proofs.Common.{refl, sym, ap, ◌∙◌, arith}
-use Rattle.std.specs.Prelude.{unwrap_or}
-use Rattle.art_rows.specs.Words.{key_bytes, first_difference}
-use Rattle.art_steps.specs.Updates.{keys_differ_at}
+use Rattle.art_serial.proofs.Common.{◌≡◌, ℕ, ◌/◌, ◌%◌, ◌<◌, List, ◌∷◌, Some, None, refl, sym, ap, ◌∙◌, arith, unwrap_or, key_bytes}
+use Rattle.art_serial.proofs.Common.{first_difference, keys_differ_at}
+use Rattle.std.proofs.Common.{◌≢◌, Option}
 use Rattle.art_serial.proofs.alone.WayLemmas.{same-beginning}
 
 pub heads : {x y : ℕ} {xs ys : List ℕ} → x ∷ xs ≡ y ∷ ys → x ≡ y

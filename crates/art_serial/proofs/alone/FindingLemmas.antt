@@ -1,16 +1,10 @@
 -- What FIND gives where a call runs alone.
-use Rattle.std.proofs.Common.{ℕ, ◌-◌, ◌%◌, List, length, Bool, true, false}
-use Rattle.std.specs.Prelude.{slice_index, if◌then◌else◌, ◌==◌, Option, Some, None, option_map}
-use Rattle.art_rows.specs.declared.table.Kind.{Kind}
-use Rattle.art_rows.specs.declared.table.Kind.TheVariants.{Four, Sixteen, FortyEight, Full}
-use Rattle.art_rows.specs.Table.{keys_at, more_keys_at, index_at, count_at, child_at}
-use Rattle.art_rows.specs.Words.{keys4_of, count_of, place_of, entries_of, child_of}
+use Rattle.art_serial.proofs.Common.{ℕ, ◌-◌, ◌%◌, List, length, Bool, true, false, Option, option_map, Kind, Four, Sixteen, FortyEight, Full}
+use Rattle.art_serial.proofs.Common.{keys_at, more_keys_at, index_at, count_at, child_at, keys4_of, count_of, place_of, entries_of, child_of}
+use Rattle.art_serial.proofs.Common.{◌>>=◌, give, load, Setting, Row, is_insert, Has, Lacks, find_child, find_among, find_indexed, find_in, find}
+use Rattle.art_serial.proofs.Common.{byte_at, entry_slot, Comes, found_in, keys_in_row, found_of_slot}
+use Rattle.std.specs.Prelude.{slice_index, if◌then◌else◌, ◌==◌, Some, None}
 use Rattle.art_steps.specs.declared.access.Point.TheVariants as point
-use Rattle.art_steps.specs.Steps.{◌>>=◌, give, load}
-use Rattle.art_steps.specs.Rows.{Setting, Row, is_insert, Has, Lacks, find_child, find_among, find_indexed, find_in, find, byte_at}
-use Rattle.art_core.specs.Meaning.{entry_slot}
-use Rattle.art_serial.specs.alone.Alone.{Comes}
-use Rattle.art_serial.specs.alone.Finding.{found_in, keys_in_row, found_of_slot}
 use Rattle.art_serial.proofs.alone.AloneLemmas.{give-comes, bind-comes, load-comes, load_at-comes}
 
 find_child-comes : (c : Setting) (slot : ℕ) (words : List ℕ)

@@ -1,18 +1,9 @@
 -- Words that differ from those of a table at rest by versions of its rows and by one slot.
-use Rattle.std.proofs.Common.{◌≡◌, ◌⊎◌, inl, inr, ℕ, ◌+◌, ◌<◌, ◌≤◌, ◌==◌, List, length, slice_index, slice_set, Option, Some, None, All}
-use Rattle.std.proofs.Common.{Bool, true, false, refl, sym, ap, ◌∙◌, subst, arith, eqb-true}
-use Rattle.std.proofs.lemmas.Bool.{eqb-false}
-use Rattle.std.proofs.lemmas.List.{length-set, get_or-set_same, get_or-set_other}
-use Rattle.std.proofs.lemmas.List.Elements.{All-set}
-use Rattle.art_rows.specs.declared.table.Shape.{Shape}
-use Rattle.art_rows.specs.declared.table.Kind.{Kind}
-use Rattle.art_rows.specs.declared.table.Child.{Child}
-use Rattle.art_rows.specs.Table.{row_words, table_words}
-use Rattle.art_rows.specs.Words.{is_locked, is_obsolete, child_of}
-use Rattle.art_rows.proofs.KindLemmas.{first-two, two-words, keys-within}
-use Rattle.art_core.specs.Meaning.{Reached, child_in, slot_of}
-use Rattle.art_core.specs.Forms.{HasForm}
-use Rattle.art_serial.specs.trees.Trees.{IsAtRest, SameRow, ChangesAt}
+use Rattle.art_serial.proofs.Common.{◌≡◌, ◌⊎◌, inl, inr, ℕ, ◌+◌, ◌<◌, ◌≤◌, ◌==◌, List, length, slice_index, Some, None, Bool, true, false, refl}
+use Rattle.art_serial.proofs.Common.{sym, ap, ◌∙◌, subst, arith, eqb-true, eqb-false, length-set, get_or-set_same, get_or-set_other, All-set}
+use Rattle.art_serial.proofs.Common.{Shape, Kind, Child, row_words, table_words, is_locked, is_obsolete, child_of, first-two, two-words}
+use Rattle.art_serial.proofs.Common.{keys-within, Reached, child_in, slot_of, HasForm, IsAtRest, SameRow, ChangesAt}
+use Rattle.std.proofs.Common.{slice_set, Option, All}
 use Rattle.art_serial.proofs.alone.PlaceLemmas.{Sits, sits-part, sits-inside, sits-kind_at}
 use Rattle.art_serial.proofs.alone.SlotLemmas.{slot-is, slot-same, form-same, SameKeys, IsChildWord}
 use Rattle.art_serial.proofs.trees.RowSlots.{one_slot}

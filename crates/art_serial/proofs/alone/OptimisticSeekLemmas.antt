@@ -1,25 +1,14 @@
 -- A get, a remove or a replace under optimistic lock coupling, run alone on a table at rest, goes its key's way.
-use Rattle.std.proofs.Common.{◌≡◌, inl, inr, ℕ, zero, suc, ◌+◌, ◌<◌, ◌≤◌, ◌==◌, List, [], slice_index, slice_set, Option, Some, None}
-use Rattle.std.proofs.Common.{Bool, true, false, refl, sym, ap, ◌∙◌, subst, arith, eqb-true, if◌then◌else◌}
-use Rattle.std.proofs.lemmas.Bool.{eqb-false}
+use Rattle.art_serial.proofs.Common.{◌≡◌, inl, inr, ℕ, zero, suc, ◌+◌, ◌<◌, ◌≤◌, ◌==◌, List, [], slice_index, Some, None, Bool, true, false}
+use Rattle.art_serial.proofs.Common.{refl, sym, ap, ◌∙◌, subst, arith, eqb-true, if◌then◌else◌, eqb-false, Kind, Full, Child, Empty, ChildRow}
+use Rattle.art_serial.proofs.Common.{Leaf, root_base, info_at, is_locked, is_obsolete, locked_word, released_word, key_bytes, child_of}
+use Rattle.art_serial.proofs.Common.{key_byte-small, ◌>>=◌, ◌>>◌, give, load, store, Setting, Row, key_of, byte_at, row_of, root_row}
+use Rattle.art_serial.proofs.Common.{path_differs_at, check_of, unlock, Has, Lacks, overwriting, step_down, Reached, root, below, child_in}
+use Rattle.art_serial.proofs.Common.{child_on, slot_of, level_in, IsAtRest, LeadsTo, Comes, keys_in_row, count_in_row, found_of_slot}
+use Rattle.std.proofs.Common.{slice_set, Option}
 use Rattle.events.specs.declared.event.Reply.TheVariants as reply
-use Rattle.art_rows.specs.declared.table.Kind.{Kind}
-use Rattle.art_rows.specs.declared.table.Kind.TheVariants.{Full}
-use Rattle.art_rows.specs.declared.table.Child.{Child}
-use Rattle.art_rows.specs.declared.table.Child.TheVariants.{Empty, Row as ChildRow, Leaf}
-use Rattle.art_rows.specs.Table.{root_base, info_at}
-use Rattle.art_rows.specs.Words.{is_locked, is_obsolete, locked_word, released_word, key_bytes, child_of}
-use Rattle.art_rows.proofs.ByteLemmas.{key_byte-small}
-use Rattle.art_steps.specs.Steps.{◌>>=◌, ◌>>◌, give, load, store}
-use Rattle.art_steps.specs.Rows.{Setting, Row, key_of, byte_at, row_of, root_row, path_differs_at, check_of, unlock, Has, Lacks}
-use Rattle.art_steps.specs.Updates.{overwriting}
-use Rattle.art_steps.specs.Optimistic.{overwrite, seek_below, step_down, seek_at, seek_from, seek}
+use Rattle.art_steps.specs.Optimistic.{overwrite, seek_below, seek_at, seek_from, seek}
 use Rattle.art_steps.proofs.GuardLemmas.{seek_from_optimistic-body}
-use Rattle.art_core.specs.Meaning.{Reached, root, below, child_in, child_on, slot_of}
-use Rattle.art_core.specs.Forms.{level_in}
-use Rattle.art_serial.specs.trees.Trees.{IsAtRest, LeadsTo}
-use Rattle.art_serial.specs.alone.Alone.{Comes}
-use Rattle.art_serial.specs.alone.Finding.{keys_in_row, count_in_row, found_of_slot}
 use Rattle.art_serial.proofs.alone.AloneLemmas.{give-comes, bind-comes, then-comes, same-comes, load-comes, store-comes}
 use Rattle.art_serial.proofs.alone.RowRunLemmas.{unlock-comes, wait-comes, check_of-comes, take_row-comes}
 use Rattle.art_serial.proofs.alone.FindingLemmas.{find-comes}

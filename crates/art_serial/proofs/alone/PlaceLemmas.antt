@@ -1,10 +1,7 @@
 -- Rows of a table lie apart from one another and from the words before them.
-use Rattle.std.proofs.Common.{◌≡◌, ℕ, ◌+◌, ◌-◌, ◌*◌, ◌/◌, ◌<◌, ◌≤◌, Some, None, Bool, true, false, refl, sym, ap, ◌∙◌, subst, arith}
-use Rattle.std.proofs.Common.{if◌then◌else◌}
-use Rattle.art_rows.specs.declared.table.Shape.{Shape}
-use Rattle.art_rows.specs.declared.table.Kind.{Kind}
-use Rattle.art_rows.specs.declared.table.Kind.TheVariants.{Four, Sixteen, FortyEight, Full}
-use Rattle.art_rows.specs.Table.{row_words, rows_of, table_words, base_of, is_base_of, kind_at}
+use Rattle.art_serial.proofs.Common.{◌≡◌, ℕ, ◌+◌, ◌-◌, ◌*◌, ◌/◌, ◌<◌, ◌≤◌, Some, None, Bool, true, false, refl, sym, ap, ◌∙◌, subst, arith}
+use Rattle.art_serial.proofs.Common.{if◌then◌else◌, Shape, Kind, Four, Sixteen, FortyEight, Full, row_words, rows_of, table_words, base_of}
+use Rattle.art_serial.proofs.Common.{is_base_of, kind_at}
 use Rattle.art_rows.proofs.KindLemmas.{kind_at-is_base}
 use Rattle.art_serial.proofs.words.TableLemmas.{is_base}
 

@@ -1,17 +1,9 @@
 -- Words that differ from those at rest by versions of unlocked live rows and inside of rows are at rest again, if their rows are the same.
-use Rattle.std.proofs.Common.{length, All, Bool, true, ◌==◌, eqb-true}
-use Rattle.std.proofs.lemmas.Bool.{eqb-false}
-use Rattle.std.proofs.Common.{◌≡◌, ◌⊎◌, inl, inr, ℕ, ◌+◌, ◌-◌, ◌<◌, ◌≤◌, List, slice_index, slice_set, Some, false, refl, sym, ap, ◌∙◌}
-use Rattle.std.proofs.Common.{subst, arith}
-use Rattle.std.proofs.lemmas.List.{get_or-set_other}
-use Rattle.map_object.specs.MapObject.{Contents}
-use Rattle.art_rows.specs.declared.table.Shape.{Shape}
-use Rattle.art_rows.specs.declared.table.Kind.{Kind}
-use Rattle.art_rows.specs.Table.{table_words, row_words, rows_of, claims_of, base_of, kind_at, first_child}
-use Rattle.art_rows.specs.Words.{is_locked, is_obsolete}
-use Rattle.art_rows.proofs.KindLemmas.{claims-few, two-words}
-use Rattle.art_core.specs.Meaning.{Reached}
-use Rattle.art_serial.specs.trees.Trees.{IsAtRest, HasRows}
+use Rattle.art_serial.proofs.Common.{length, Bool, true, ◌==◌, eqb-true, eqb-false, ◌≡◌, ◌⊎◌, inl, inr, ℕ, ◌+◌, ◌-◌, ◌<◌, ◌≤◌, List, slice_index}
+use Rattle.art_serial.proofs.Common.{Some, false, refl, sym, ap, ◌∙◌, subst, arith, get_or-set_other, Contents, Shape, Kind, table_words}
+use Rattle.art_serial.proofs.Common.{row_words, rows_of, claims_of, base_of, kind_at, first_child, is_locked, is_obsolete, claims-few, two-words}
+use Rattle.art_serial.proofs.Common.{Reached, IsAtRest, HasRows}
+use Rattle.std.proofs.Common.{All, slice_set}
 use Rattle.art_serial.proofs.alone.PlaceLemmas.{Sits, sits-part, sits-inside, kind_at-sits}
 use Rattle.art_serial.proofs.alone.LikeLemmas.{Like, IsVersion, Nothing, sits}
 use Rattle.art_serial.proofs.alone.SlotLemmas.{IsChildWord}

@@ -1,25 +1,17 @@
 -- What finding, locking and claiming rows does where a call runs alone.
-use Rattle.std.proofs.Common.{◌≡◌, ℕ, ◌+◌, ◌%◌, ◌^◌, List, [], ◌∷◌, refl, ap, subst, Bool, true, false, ◌∙◌, eq-eqb}
-use Rattle.std.specs.Prelude.{slice_index, slice_set, nat_lt, if◌then◌else◌, ◌==◌}
+use Rattle.art_serial.proofs.Common.{◌≡◌, ℕ, ◌+◌, ◌%◌, ◌^◌, List, [], ◌∷◌, refl, ap, subst, Bool, true, false, ◌∙◌, eq-eqb, slice_set, nat_lt}
+use Rattle.art_serial.proofs.Common.{Shape, Kind, rows_of, claims_of, base_of, is_locked, is_obsolete, locked_word, released_word, obsolete_word}
+use Rattle.art_serial.proofs.Common.{Part, ◌>>=◌, ◌>>◌, give, start_again, answer, exchange, first_at, Setting, Row, leaves_out_check}
+use Rattle.art_serial.proofs.Common.{takes_unchecked, lock_point, lock, unlock, unlock_obsolete, unlock_all, wait, check, check_of, take_row}
+use Rattle.art_serial.proofs.Common.{claim, Comes, Ends, unlocked_rows}
+use Rattle.std.specs.Prelude.{slice_index, if◌then◌else◌, ◌==◌}
 use Rattle.events.specs.declared.event.Reply.TheVariants as reply
-use Rattle.art_rows.specs.declared.table.Shape.{Shape}
-use Rattle.art_rows.specs.declared.table.Kind.{Kind}
-use Rattle.art_rows.specs.Table.{rows_of, claims_of, base_of}
-use Rattle.art_rows.specs.Words.{is_locked, is_obsolete, locked_word, released_word, obsolete_word}
 use Rattle.art_steps.specs.declared.access.Point.TheVariants as point
-use Rattle.art_steps.specs.Steps.{Part, ◌>>=◌, ◌>>◌, give, start_again, answer, exchange, first_at}
-use Rattle.art_steps.specs.Rows.{Setting, Row, leaves_out_check, takes_unchecked, lock_point, lock_again, lock, unlock, unlock_obsolete}
-use Rattle.art_steps.specs.Rows.{unlock_all, wait}
-use Rattle.art_steps.specs.Rows.{check}
-use Rattle.art_steps.specs.Rows.{check_of, take_row, claim}
+use Rattle.art_steps.specs.Rows.{lock_again}
 use Rattle.art_steps.proofs.GuardLemmas.{lock_turn, lock_again-body, wait_turn, wait-body}
-use Rattle.art_serial.specs.alone.Alone.{Comes, Ends, unlocked_rows}
 use Rattle.art_serial.proofs.alone.AloneLemmas.{give-comes, answer-ends, bind-comes, bind-ends, then-ends, if_true-comes, if_false-comes}
-use Rattle.art_serial.proofs.alone.AloneLemmas.{if_false-ends}
-use Rattle.art_serial.proofs.alone.AloneLemmas.{same-comes}
-use Rattle.art_serial.proofs.alone.AloneLemmas.{load-comes, load_at-comes, store_at-comes, exchange-comes, add-comes, first_at-comes}
-use Rattle.art_serial.proofs.alone.AloneLemmas.{each_none-comes}
-use Rattle.art_serial.proofs.alone.AloneLemmas.{each-comes}
+use Rattle.art_serial.proofs.alone.AloneLemmas.{if_false-ends, same-comes, load-comes, load_at-comes, store_at-comes, exchange-comes, add-comes}
+use Rattle.art_serial.proofs.alone.AloneLemmas.{first_at-comes, each_none-comes, each-comes}
 
 -- ---- locks
 

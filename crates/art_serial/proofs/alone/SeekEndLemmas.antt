@@ -1,22 +1,12 @@
 -- What a get, a remove or a replace did at the end of its key's way is what it does on the map.
-use Rattle.std.proofs.Common.{◌≡◌, inl, inr, ℕ, ◌<◌, ◌==◌, List, ◌++◌, slice_set, Some, None}
-use Rattle.std.proofs.Common.{Bool, true, false, if◌then◌else◌, refl, sym, ap, ◌∙◌, subst}
-use Rattle.events.specs.declared.event.Call.{Call}
-use Rattle.events.specs.declared.event.Call.TheVariants.{Get, Insert, Remove, Scan, Replace}
-use Rattle.events.specs.declared.event.Reply.{Reply}
+use Rattle.art_serial.proofs.Common.{◌≡◌, inl, inr, ℕ, ◌<◌, ◌==◌, List, ◌++◌, Some, None, Bool, true, false, if◌then◌else◌, refl, sym, ap, ◌∙◌}
+use Rattle.art_serial.proofs.Common.{subst, Call, Get, Insert, Remove, Scan, Replace, Reply, Contents, value_at, above, put, is_just}
+use Rattle.art_serial.proofs.Common.{value_reply, reply_to, after, Shape, Kind, Child, Empty, ChildRow, Leaf, child_of, leaf_word, key_of}
+use Rattle.art_serial.proofs.Common.{overwriting, Reached, child_on, slot_of, Means, IsAtRest, LeadsTo, ChangesAt, HasRows, SameTreesAreOne}
+use Rattle.art_serial.proofs.Common.{WaysLeadToValues, LeavesArePut, LeavesAreRemoved, is_seek}
+use Rattle.std.proofs.Common.{slice_set}
 use Rattle.events.specs.declared.event.Reply.TheVariants as reply
-use Rattle.map_object.specs.MapObject.{Contents, value_at, below, above, put, is_just, value_reply, reply_to, after}
-use Rattle.art_rows.specs.declared.table.Shape.{Shape}
-use Rattle.art_rows.specs.declared.table.Kind.{Kind}
-use Rattle.art_rows.specs.declared.table.Child.{Child}
-use Rattle.art_rows.specs.declared.table.Child.TheVariants.{Empty, Row as ChildRow, Leaf}
-use Rattle.art_rows.specs.Words.{child_of, leaf_word}
-use Rattle.art_steps.specs.Rows.{key_of}
-use Rattle.art_steps.specs.Updates.{overwriting}
-use Rattle.art_core.specs.Meaning.{Reached, child_on, slot_of, Means}
-use Rattle.art_serial.specs.trees.Trees.{IsAtRest, LeadsTo, ChangesAt, HasRows, SameTreesAreOne, WaysLeadToValues, LeavesArePut}
-use Rattle.art_serial.specs.trees.Trees.{LeavesAreRemoved}
-use Rattle.art_serial.specs.alone.Laws.{is_seek}
+use Rattle.map_object.specs.MapObject.{below}
 use Rattle.art_serial.proofs.alone.SlotLemmas.{slot-is}
 use Rattle.art_serial.proofs.alone.LikeLemmas.{Like, Nothing, like-row, slot-changes}
 use Rattle.art_serial.proofs.alone.RestLemmas.{like-settles, slot-settles, at-rest}

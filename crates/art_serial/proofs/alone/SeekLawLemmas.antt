@@ -1,17 +1,9 @@
 -- A get, a remove or a replace that runs alone on a table at rest does what it does on the map.
-use Rattle.std.proofs.Common.{◌≡◌, ℕ, List, Bool, true, false, refl, subst, if◌then◌else◌, arith}
-use Rattle.events.specs.declared.event.Call.{Call}
-use Rattle.events.specs.declared.event.Call.TheVariants.{Get, Insert, Remove, Scan, Replace}
-use Rattle.events.specs.declared.event.Reply.{Reply}
-use Rattle.art_rows.specs.declared.table.Shape.{Shape}
-use Rattle.art_steps.specs.declared.variant.Variant.{Variant}
-use Rattle.art_steps.specs.Rows.{Setting, locks}
+use Rattle.art_serial.proofs.Common.{◌≡◌, ℕ, List, Bool, true, false, refl, subst, if◌then◌else◌, arith, Call, Get, Insert, Remove, Scan}
+use Rattle.art_serial.proofs.Common.{Replace, Reply, Shape, Variant, Setting, locks, procedure, act, IsAtRest, SameTreesAreOne, WaysLeadToValues}
+use Rattle.art_serial.proofs.Common.{LeavesArePut, LeavesAreRemoved, RunsAlone, is_seek, SeeksAreTheMaps}
 use Rattle.art_steps.specs.Coupled as coupled
 use Rattle.art_steps.specs.Optimistic as optimistic
-use Rattle.art_steps.specs.Act.{procedure, act}
-use Rattle.art_serial.specs.trees.Trees.{IsAtRest, SameTreesAreOne, WaysLeadToValues, LeavesArePut, LeavesAreRemoved}
-use Rattle.art_serial.specs.alone.Alone.{RunsAlone}
-use Rattle.art_serial.specs.alone.Laws.{is_seek, SeeksAreTheMaps}
 use Rattle.art_serial.proofs.alone.AloneLemmas.{act-comes, if_true-comes, if_false-comes}
 use Rattle.art_serial.proofs.alone.WayLemmas.{WritesWords, Seeks}
 use Rattle.art_serial.proofs.alone.CoupledSeekLemmas.{seeks-coupled}

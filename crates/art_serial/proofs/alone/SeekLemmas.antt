@@ -1,21 +1,12 @@
 -- What a get, a remove or a replace did at the end of its key's way is what it does on the map.
-use Rattle.std.proofs.Common.{◌≡◌, ◌⊎◌, inl, inr, ℕ, ◌/◌, ◌%◌, ◌<◌, ◌==◌, [], ◌∷◌, ◌++◌, Some, None, All}
-use Rattle.std.proofs.Common.{Bool, true, false, if◌then◌else◌, refl, sym, ap, ◌∙◌, arith, eq-eqb}
-use Rattle.std.proofs.lemmas.Bool.{cases_order}
-use Rattle.std.proofs.lemmas.Bool.Decides.{nat_tests}
-use Rattle.std.proofs.lemmas.Option.{none-some, same_Some}
-use Rattle.list_laws.proofs.Lists.{AllPairs-head, AllPairs-tail}
-use Rattle.events.specs.declared.event.Call.{Call}
-use Rattle.events.specs.declared.event.Call.TheVariants.{Get, Insert, Remove, Scan, Replace}
-use Rattle.map_object.specs.MapObject.{Contents, IsRising, value_at, below, above, put, is_just, value_reply, reply_to, after}
+use Rattle.art_serial.proofs.Common.{◌≡◌, ◌⊎◌, inl, inr, ℕ, ◌/◌, ◌%◌, ◌<◌, ◌==◌, [], ◌∷◌, ◌++◌, Some, None, Bool, true, false, if◌then◌else◌}
+use Rattle.art_serial.proofs.Common.{refl, sym, ap, ◌∙◌, arith, eq-eqb, cases_order, nat_tests, none-some, same_Some, AllPairs-head}
+use Rattle.art_serial.proofs.Common.{AllPairs-tail, Call, Get, Insert, Remove, Scan, Replace, Contents, IsRising, value_at, above, put, is_just}
+use Rattle.art_serial.proofs.Common.{value_reply, reply_to, after, Shape, Empty, Leaf, child_of, row_child, leaf_word, kind_at, is_tree_call}
+use Rattle.art_serial.proofs.Common.{key_of, is_seek}
+use Rattle.std.proofs.Common.{All}
+use Rattle.map_object.specs.MapObject.{below}
 use Rattle.map_object.proofs.MapLemmas.{AreAbove, below_none, above_all}
-use Rattle.art_rows.specs.declared.table.Shape.{Shape}
-use Rattle.art_rows.specs.declared.table.Child.TheVariants.{Empty, Leaf}
-use Rattle.art_rows.specs.Words.{child_of, row_child, leaf_word}
-use Rattle.art_rows.specs.Table.{kind_at}
-use Rattle.art_steps.specs.TreeCalls.{is_tree_call}
-use Rattle.art_steps.specs.Rows.{key_of}
-use Rattle.art_serial.specs.alone.Laws.{is_seek}
 use Rattle.art_serial.proofs.alone.WayLemmas.{WritesWords}
 
 -- ---- the map

@@ -1,20 +1,12 @@
 -- The slots of a row: where they are, that two bytes have two, and that they depend on the row's words before its children alone.
-use Rattle.std.proofs.Common.{◌≡◌, ℕ, ◌+◌, ◌-◌, ◌/◌, ◌%◌, ◌<◌, ◌≤◌, ◌==◌, List, length, slice_index, Option, Some, None, option_map}
-use Rattle.std.proofs.Common.{Bool, true, false, refl, sym, ap, ◌∙◌, subst, arith, if◌then◌else◌}
-use Rattle.std.proofs.lemmas.Option.{none-some, same_Some}
-use Rattle.events.specs.declared.event.Call.{Call}
-use Rattle.art_rows.specs.declared.table.Kind.{Kind}
-use Rattle.art_rows.specs.declared.table.Kind.TheVariants.{Four, Sixteen, FortyEight, Full}
-use Rattle.art_rows.specs.Table.{row_words, first_child, keys_at, more_keys_at, index_at, count_at, child_at}
-use Rattle.art_rows.specs.Words.{place_of, keys4_of, keys16_of, entries_of, low_bytes, child_of, count_of}
-use Rattle.art_rows.proofs.ReaderLemmas.{most_of}
-use Rattle.art_rows.proofs.WriterLemmas.{length-keys16, length-keys4}
-use Rattle.art_rows.proofs.ByteLemmas.{entry_list-most, place-within}
-use Rattle.art_steps.specs.Rows.{Setting, is_insert, Found, Has}
-use Rattle.art_core.specs.Meaning.{slot_of, entry_slot}
-use Rattle.art_core.specs.Forms.{HasForm}
-use Rattle.art_serial.specs.trees.Trees.{SameRow}
-use Rattle.art_serial.specs.alone.Finding.{found_in, keys_in_row, count_in_row, found_of_slot}
+use Rattle.art_serial.proofs.Common.{◌≡◌, ℕ, ◌+◌, ◌-◌, ◌/◌, ◌%◌, ◌<◌, ◌≤◌, ◌==◌, List, length, slice_index, Some, None, Bool, true, false, refl}
+use Rattle.art_serial.proofs.Common.{sym, ap, ◌∙◌, subst, arith, if◌then◌else◌, none-some, same_Some, Call, Kind, Four, Sixteen, FortyEight}
+use Rattle.art_serial.proofs.Common.{Full, row_words, first_child, keys_at, more_keys_at, index_at, count_at, child_at, place_of, keys4_of}
+use Rattle.art_serial.proofs.Common.{keys16_of, entries_of, low_bytes, child_of, count_of, most_of, length-keys16, length-keys4, entry_list-most}
+use Rattle.art_serial.proofs.Common.{place-within, Setting, is_insert, Has, slot_of, entry_slot, HasForm, SameRow, found_in, keys_in_row}
+use Rattle.art_serial.proofs.Common.{count_in_row, found_of_slot}
+use Rattle.std.proofs.Common.{Option, option_map}
+use Rattle.art_steps.specs.Rows.{Found}
 
 -- ---- where slots are
 

@@ -1,6 +1,5 @@
 -- What a version says after it was locked and released.
-use Rattle.std.proofs.Common.{◌≡◌, ℕ, ◌%◌, ◌<◌, false, arith}
-use Rattle.art_rows.specs.Words.{is_locked, is_obsolete, locked_word, released_word}
+use Rattle.art_serial.proofs.Common.{◌≡◌, ℕ, ◌%◌, ◌<◌, false, arith, is_locked, is_obsolete, locked_word, released_word}
 use Rattle.art_serial.proofs.words.VersionLemmas.{free-even, even-free}
 
 live-even : (v : ℕ) → is_obsolete v ≡ false → v % 2 ≡ 0

@@ -1,26 +1,11 @@
 -- The way of a key down a tree at rest, and what a get, a remove or a replace does at its end.
-use Rattle.std.proofs.Common.{◌≡◌, ◌≢◌, ◌⊎◌, ℕ, suc, ◌+◌, ◌/◌, ◌%◌, ◌<◌, ◌≤◌, ◌==◌, List, [], ◌∷◌, length, take, slice_index, slice_set}
-use Rattle.std.proofs.Common.{Option, Some}
-use Rattle.std.proofs.Common.{None, Bool, true, false, refl, sym, ap, ◌∙◌, arith, eqb-true, option_map, if◌then◌else◌}
-use Rattle.std.proofs.lemmas.Option.{none-some}
-use Rattle.events.specs.declared.event.Call.{Call}
-use Rattle.events.specs.declared.event.Reply.{Reply}
+use Rattle.art_serial.proofs.Common.{◌≡◌, ◌⊎◌, ℕ, suc, ◌+◌, ◌/◌, ◌%◌, ◌<◌, ◌≤◌, ◌==◌, List, [], ◌∷◌, length, take, slice_index, Some, None, Bool}
+use Rattle.art_serial.proofs.Common.{true, false, refl, sym, ap, ◌∙◌, arith, eqb-true, if◌then◌else◌, none-some, Call, Reply, Shape, Kind, Full}
+use Rattle.art_serial.proofs.Common.{Child, Empty, ChildRow, Leaf, root_base, info_at, key_bytes, first_difference, Info, info_of, kind_code}
+use Rattle.art_serial.proofs.Common.{low_bytes, two-words, key_of, overwriting, Reached, root, below, child_on, slot_of, level_in, path_in}
+use Rattle.art_serial.proofs.Common.{IsAtRest, LeadsTo, Part, Comes}
+use Rattle.std.proofs.Common.{◌≢◌, slice_set, Option, option_map}
 use Rattle.events.specs.declared.event.Reply.TheVariants as reply
-use Rattle.art_rows.specs.declared.table.Shape.{Shape}
-use Rattle.art_rows.specs.declared.table.Kind.{Kind}
-use Rattle.art_rows.specs.declared.table.Kind.TheVariants.{Full}
-use Rattle.art_rows.specs.declared.table.Child.{Child}
-use Rattle.art_rows.specs.declared.table.Child.TheVariants.{Empty, Row as ChildRow, Leaf}
-use Rattle.art_rows.specs.Table.{root_base, info_at}
-use Rattle.art_rows.specs.Words.{key_bytes, first_difference, Info, info_of, kind_code, low_bytes}
-use Rattle.art_rows.proofs.KindLemmas.{two-words}
-use Rattle.art_steps.specs.Rows.{key_of}
-use Rattle.art_steps.specs.Updates.{overwriting}
-use Rattle.art_core.specs.Meaning.{Reached, root, below, child_on, slot_of}
-use Rattle.art_core.specs.Forms.{level_in, path_in}
-use Rattle.art_serial.specs.trees.Trees.{IsAtRest, LeadsTo}
-use Rattle.art_steps.specs.Steps.{Part}
-use Rattle.art_serial.specs.alone.Alone.{Comes}
 use Rattle.art_serial.proofs.alone.PlaceLemmas.{sits-part}
 use Rattle.art_serial.proofs.alone.LikeLemmas.{Like, Nothing, sits}
 

@@ -1,34 +1,17 @@
 -- An insert under lock coupling, run alone on a table at rest, goes its key's way and does what it does on the map, or is refused.
-use Rattle.std.proofs.Common.{◌≡◌, ◌⊎◌, inl, inr, ℕ, zero, suc, ◌+◌, ◌*◌, ◌<◌, ◌≤◌, ◌==◌, List, [], ◌∷◌, length, slice_index, Option, Some}
-use Rattle.std.proofs.Common.{None}
-use Rattle.std.proofs.Common.{Bool, true, false, refl, sym, ap, ◌∙◌, subst, arith, eqb-true, if◌then◌else◌}
-use Rattle.std.proofs.lemmas.Bool.{eqb-false}
-use Rattle.std.proofs.lemmas.Option.{none-some}
-use Rattle.events.specs.declared.event.Call.TheVariants.{Insert}
-use Rattle.events.specs.declared.event.Reply.{Reply}
+use Rattle.art_serial.proofs.Common.{◌≡◌, ◌⊎◌, inl, inr, ℕ, zero, suc, ◌+◌, ◌*◌, ◌<◌, ◌≤◌, ◌==◌, List, [], ◌∷◌, length, slice_index, Some, None}
+use Rattle.art_serial.proofs.Common.{Bool, true, false, refl, sym, ap, ◌∙◌, subst, arith, eqb-true, if◌then◌else◌, eqb-false, none-some, Insert}
+use Rattle.art_serial.proofs.Common.{Reply, Contents, value_at, Shape, Kind, Full, Child, Empty, ChildRow, Leaf, root_base, info_at, capacity}
+use Rattle.art_serial.proofs.Common.{table_words, is_locked, is_obsolete, locked_word, released_word, key_bytes, child_of, info_of}
+use Rattle.art_serial.proofs.Common.{first_difference, two-words, key_byte-small, Variant, Part, ◌>>=◌, ◌>>◌, give, load, Setting, Row, Place}
+use Rattle.art_serial.proofs.Common.{byte_at, row_of, root_row, path_differs_at, lock, unlock, unlock_all, find, Has, Lacks, pair_in, grow}
+use Rattle.art_serial.proofs.Common.{insert_in, insert_beside, Reached, Means, root, below, child_in, child_on, slot_of, level_in, path_in}
+use Rattle.art_serial.proofs.Common.{IsAtRest, LeadsTo, Comes, Ends, unlocked_rows, keys_in_row, count_in_row, found_of_slot}
+use Rattle.std.proofs.Common.{Option}
 use Rattle.events.specs.declared.event.Reply.TheVariants as reply
-use Rattle.map_object.specs.MapObject.{Contents, value_at}
-use Rattle.art_rows.specs.declared.table.Shape.{Shape}
-use Rattle.art_rows.specs.declared.table.Kind.{Kind}
-use Rattle.art_rows.specs.declared.table.Kind.TheVariants.{Full}
-use Rattle.art_rows.specs.declared.table.Child.{Child}
-use Rattle.art_rows.specs.declared.table.Child.TheVariants.{Empty, Row as ChildRow, Leaf}
-use Rattle.art_rows.specs.Table.{root_base, info_at, capacity, table_words}
-use Rattle.art_rows.specs.Words.{is_locked, is_obsolete, locked_word, released_word, key_bytes, child_of, info_of, first_difference}
-use Rattle.art_rows.proofs.KindLemmas.{two-words}
-use Rattle.art_rows.proofs.ByteLemmas.{key_byte-small}
-use Rattle.art_steps.specs.declared.variant.Variant.{Variant}
-use Rattle.art_steps.specs.Steps.{Part, ◌>>=◌, ◌>>◌, give, load}
-use Rattle.art_steps.specs.Rows.{Setting, Row, Place, byte_at, row_of, root_row, path_differs_at, lock, unlock, unlock_all, find, Has}
-use Rattle.art_steps.specs.Rows.{Lacks}
-use Rattle.art_steps.specs.Updates.{put, pair_in, grow, insert_in, insert_beside}
+use Rattle.art_steps.specs.Updates.{put}
 use Rattle.art_steps.specs.Coupled.{insert_below, insert_at, insert_from, insert}
 use Rattle.art_steps.proofs.GuardLemmas.{insert_from-body}
-use Rattle.art_core.specs.Meaning.{Reached, Means, root, below, child_in, child_on, slot_of}
-use Rattle.art_core.specs.Forms.{level_in, path_in}
-use Rattle.art_serial.specs.trees.Trees.{IsAtRest, LeadsTo}
-use Rattle.art_serial.specs.alone.Alone.{Comes, Ends, unlocked_rows}
-use Rattle.art_serial.specs.alone.Finding.{keys_in_row, count_in_row, found_of_slot}
 use Rattle.art_serial.proofs.alone.AloneLemmas.{give-comes, bind-comes, ends-bind, then-comes, ends-then, load-comes}
 use Rattle.art_serial.proofs.alone.RowRunLemmas.{unlock-comes, unlock_all-comes, lock-comes, with_lock}
 use Rattle.art_serial.proofs.alone.FindingLemmas.{find-comes}
@@ -43,10 +26,8 @@ use Rattle.art_serial.proofs.inserts.PutOutcomeLemmas.{put-outcome}
 use Rattle.art_serial.proofs.inserts.GrowOutcomeLemmas.{Grows, grows}
 use Rattle.art_serial.proofs.inserts.PairOutcomeLemmas.{Hangs, hangs-pair}
 use Rattle.art_serial.proofs.inserts.SmallLemmas.{path_byte-small, le-differs_lt}
-use Rattle.art_serial.proofs.inserts.ShortLemmas.{Short, short-comes, short-more, give-short, bind-short, then-short, load-short}
-use Rattle.art_serial.proofs.inserts.ShortLemmas.{unlock-short}
-use Rattle.art_serial.proofs.inserts.ShortLemmas.{unlock_all-short}
-use Rattle.art_serial.proofs.inserts.ShortLemmas.{find-short, pair_in-short, put-short, grow-short, lock-few}
+use Rattle.art_serial.proofs.inserts.ShortLemmas.{Short, short-comes, short-more, give-short, bind-short, then-short, load-short, unlock-short}
+use Rattle.art_serial.proofs.inserts.ShortLemmas.{unlock_all-short, find-short, pair_in-short, put-short, grow-short, lock-few}
 use Rattle.art_serial.proofs.inserts.InsertEndLemmas.{Given, Inserts, ended, within, after-part, same-part, ends-in, first-differs}
 use Rattle.art_serial.proofs.inserts.LevelLemmas.{count-most}
 

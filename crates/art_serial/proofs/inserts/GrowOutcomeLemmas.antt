@@ -1,43 +1,25 @@
 -- GROW, of an insert that runs alone on words like those at rest: a row of the next kind is hung in the row's place, or the call is
 -- refused.
-use Rattle.std.proofs.Common.{◌≡◌, ◌≢◌, ◌⊎◌, inl, inr, ℕ, ◌+◌, ◌-◌, ◌%◌, ◌<◌, ◌≤◌}
-use Rattle.std.proofs.Common.{◌==◌, List, [], ◌∷◌, length, slice_index, slice_set, All, Bool, true, false, Some, None}
-use Rattle.std.proofs.Common.{refl, sym, ap, ◌∙◌, subst, arith, eqb-true, nat_lt}
-use Rattle.std.proofs.lemmas.Bool.{eqb-false, ltb-true}
-use Rattle.std.proofs.lemmas.List.Elements.{All-set}
-use Rattle.std.proofs.lemmas.List.{length-set, get_or-set_same, get_or-set_other}
-use Rattle.events.specs.declared.event.Call.TheVariants.{Insert}
+use Rattle.art_serial.proofs.Common.{◌≡◌, ◌⊎◌, inl, inr, ℕ, ◌+◌, ◌-◌, ◌%◌, ◌<◌, ◌≤◌, ◌==◌, List, [], ◌∷◌, length, slice_index, Bool, true, false}
+use Rattle.art_serial.proofs.Common.{Some, None, refl, sym, ap, ◌∙◌, subst, arith, eqb-true, eqb-false, ltb-true, All-set, length-set}
+use Rattle.art_serial.proofs.Common.{get_or-set_same, get_or-set_other, Insert, Contents, value_at, value_reply, put, Shape, Kind, ChildRow}
+use Rattle.art_serial.proofs.Common.{Leaf, row_words, rows_of, table_words, claims_of, base_of, info_at, capacity, row_word, info_word}
+use Rattle.art_serial.proofs.Common.{is_obsolete, obsolete_word, claims-few, two-words, first-some, Variant, Setting, Row, byte_at}
+use Rattle.art_serial.proofs.Common.{unlock_obsolete, unlock_all, Part, ◌>>◌, store, grow, fill, next_kind, Reached, Means, slot_of, child_in}
+use Rattle.art_serial.proofs.Common.{child_on, IsTree, level_in, path_in, IsAtRest, LeadsTo, IsGrown, ChangesAt, HasRowInPlace, SameRow}
+use Rattle.art_serial.proofs.Common.{SameTreesAreOne, GrownRowsAreHung, WordsAreReadBack, VersionsSay, WordsAreSmall, HasGrown, IsApart, Comes}
+use Rattle.art_serial.proofs.Common.{Ends, unlocked_rows, keys_in_row, count_in_row, IsInside, IsNew, IsNewRow}
+use Rattle.std.proofs.Common.{◌≢◌, slice_set, All, nat_lt}
 use Rattle.events.specs.declared.event.Reply.TheVariants as reply
-use Rattle.map_object.specs.MapObject.{Contents, value_at, value_reply, put}
-use Rattle.art_rows.specs.declared.table.Shape.{Shape}
-use Rattle.art_rows.specs.declared.table.Kind.{Kind}
-use Rattle.art_rows.specs.declared.table.Child.TheVariants.{Row as ChildRow, Leaf}
-use Rattle.art_rows.specs.Table.{row_words, rows_of, table_words, claims_of, base_of, info_at, capacity}
-use Rattle.art_rows.specs.Words.{row_word, info_word, is_obsolete, obsolete_word}
-use Rattle.art_rows.proofs.KindLemmas.{claims-few, two-words, first-some}
-use Rattle.art_steps.specs.declared.variant.Variant.{Variant}
-use Rattle.art_steps.specs.Rows.{Setting, Row, byte_at, unlock_obsolete, unlock_all}
-use Rattle.art_steps.specs.Steps.{Part, ◌>>◌, store}
-use Rattle.art_steps.specs.Updates.{grow, fill, next_kind}
-use Rattle.art_core.specs.Meaning.{Reached, Means, slot_of, child_in, child_on}
-use Rattle.art_core.specs.Forms.{IsTree, level_in, path_in}
-use Rattle.art_serial.specs.trees.Trees.{IsAtRest, LeadsTo, IsGrown, ChangesAt, HasRowInPlace, SameRow, SameTreesAreOne, GrownRowsAreHung}
-use Rattle.art_serial.specs.words.Laws.{WordsAreReadBack, VersionsSay, WordsAreSmall}
-use Rattle.art_serial.specs.writes.Writes.{HasGrown, IsApart}
 use Rattle.art_serial.specs.writes.Laws.{RowsAreFilled}
-use Rattle.art_serial.specs.alone.Alone.{Comes, Ends, unlocked_rows}
-use Rattle.art_serial.specs.alone.Finding.{keys_in_row, count_in_row}
 use Rattle.art_serial.proofs.alone.AloneLemmas.{ends-bind, bind-comes, then-comes, store-comes}
-use Rattle.art_serial.proofs.alone.RowRunLemmas.{with_claim, claim-ends, claim-comes, unlock_obsolete-comes}
-use Rattle.art_serial.proofs.alone.RowRunLemmas.{unlock_all-comes}
+use Rattle.art_serial.proofs.alone.RowRunLemmas.{with_claim, claim-ends, claim-comes, unlock_obsolete-comes, unlock_all-comes}
 use Rattle.art_serial.proofs.alone.PlaceLemmas.{Sits, sits-part, sits-inside, sits-kind_at}
 use Rattle.art_serial.proofs.alone.SlotLemmas.{slot-is, form-same, row-keys, slot-same, keys-same, count-same, IsChildWord}
 use Rattle.art_serial.proofs.alone.LikeLemmas.{Nothing, sits}
 use Rattle.art_serial.proofs.alone.WayLemmas.{below-other, level-most}
-use Rattle.art_serial.specs.inserts.Settled.{IsInside, IsNew, IsNewRow}
-use Rattle.art_serial.proofs.inserts.NearLemmas.{Near, near-out, near-plain, near-live, near-behind, near-version, near-unlocked, Among}
-use Rattle.art_serial.proofs.inserts.NearLemmas.{IsHeld, unlocked-other}
-use Rattle.art_serial.proofs.inserts.NearLemmas.{behind-plain}
+use Rattle.art_serial.proofs.inserts.NearLemmas.{Near, near-out, near-plain, near-live, near-behind, near-version, near-unlocked, Among, IsHeld}
+use Rattle.art_serial.proofs.inserts.NearLemmas.{unlocked-other, behind-plain}
 use Rattle.art_serial.proofs.inserts.OutcomeLemmas.{split, child-same, no-row, Claimed, settle-claimed, Outcome, refused}
 use Rattle.art_serial.proofs.inserts.HungLemmas.{word-changes}
 use Rattle.art_serial.proofs.inserts.SmallLemmas.{path_byte-small}

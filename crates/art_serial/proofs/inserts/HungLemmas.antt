@@ -1,14 +1,8 @@
 -- What comes of the change of one child's word in a row.
-use Rattle.std.proofs.Common.{◌≡◌, ℕ, ◌+◌, ◌<◌, ◌≤◌, List, slice_index, Option, Some, None, refl, sym, ap, ◌∙◌, arith}
-use Rattle.art_rows.specs.declared.table.Shape.{Shape}
-use Rattle.art_rows.specs.declared.table.Kind.{Kind}
-use Rattle.art_rows.specs.declared.table.Child.{Child}
-use Rattle.art_rows.specs.Table.{row_words}
-use Rattle.art_rows.specs.Words.{child_of}
-use Rattle.art_rows.proofs.KindLemmas.{two-words, first-two, keys-within}
-use Rattle.art_core.specs.Meaning.{Reached, child_in, slot_of}
-use Rattle.art_core.specs.Forms.{HasForm}
-use Rattle.art_serial.specs.trees.Trees.{IsAtRest, ChangesAt}
+use Rattle.art_serial.proofs.Common.{◌≡◌, ℕ, ◌+◌, ◌<◌, ◌≤◌, List, slice_index, Some, None, refl, sym, ap, ◌∙◌, arith, Shape, Kind, Child}
+use Rattle.art_serial.proofs.Common.{row_words, child_of, two-words, first-two, keys-within, Reached, child_in, slot_of, HasForm, IsAtRest}
+use Rattle.art_serial.proofs.Common.{ChangesAt}
+use Rattle.std.proofs.Common.{Option}
 use Rattle.art_serial.proofs.alone.PlaceLemmas.{sits-part}
 use Rattle.art_serial.proofs.alone.SlotLemmas.{slot-is, slot-same, form-same, SameKeys, IsChildWord}
 use Rattle.art_serial.proofs.alone.LikeLemmas.{sits}

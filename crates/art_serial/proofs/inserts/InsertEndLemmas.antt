@@ -1,41 +1,22 @@
 -- The ends of an insert's way, at a row that is held, whichever way it went there.
-use Rattle.std.proofs.Common.{◌≡◌, ◌≢◌, ◌⊎◌, inl, inr, ℕ, suc, ◌+◌}
-use Rattle.std.proofs.Common.{◌<◌, ◌≤◌, ◌==◌, List, [], ◌∷◌, slice_index, slice_set, Bool, true, false, Option, Some}
-use Rattle.std.proofs.Common.{None, refl, sym, ap, ◌∙◌, subst, arith, eqb-true, option_map, if◌then◌else◌}
-use Rattle.std.specs.Prelude.{unwrap_or}
-use Rattle.std.proofs.lemmas.Bool.{eqb-false}
-use Rattle.std.proofs.lemmas.Option.{none-some, same_Some}
-use Rattle.events.specs.declared.event.Call.TheVariants.{Insert}
-use Rattle.events.specs.declared.event.Reply.{Reply}
+use Rattle.art_serial.proofs.Common.{◌≡◌, ◌⊎◌, inl, inr, ℕ, suc, ◌+◌, ◌<◌, ◌≤◌, ◌==◌, List, [], ◌∷◌, slice_index, Bool, true, false, Some, None}
+use Rattle.art_serial.proofs.Common.{refl, sym, ap, ◌∙◌, subst, arith, eqb-true, if◌then◌else◌, unwrap_or, eqb-false, none-some, same_Some}
+use Rattle.art_serial.proofs.Common.{Insert, Reply, Contents, value_at, Shape, Kind, Child, Empty, ChildRow, Leaf, table_words, key_bytes}
+use Rattle.art_serial.proofs.Common.{first_difference, leaf_word, key_byte-small, Variant, Setting, Row, unlock, Rest, Part, ◌>>=◌, ◌>>◌, give}
+use Rattle.art_serial.proofs.Common.{store, keys_differ_at, insert_in, pair_in, Means, slot_of, child_on, IsAtRest, LeadsTo, Parts}
+use Rattle.art_serial.proofs.Common.{SameTreesAreOne, WaysLeadToValues, LeavesArePut, PairsAreHung, GrownRowsAreHung, LeavesAreSmall, KeysPart}
+use Rattle.art_serial.proofs.Common.{WordsAreReadBack, VersionsSay, WordsAreSmall, IsStored, IsShort, Comes, Ends, unlocked_rows}
+use Rattle.std.proofs.Common.{◌≢◌, slice_set, Option, option_map}
 use Rattle.events.specs.declared.event.Reply.TheVariants as reply
-use Rattle.map_object.specs.MapObject.{Contents, value_at}
-use Rattle.art_rows.specs.declared.table.Shape.{Shape}
-use Rattle.art_rows.specs.declared.table.Kind.{Kind}
-use Rattle.art_rows.specs.declared.table.Child.{Child}
-use Rattle.art_rows.specs.declared.table.Child.TheVariants.{Empty, Row as ChildRow, Leaf}
-use Rattle.art_rows.specs.Table.{table_words}
-use Rattle.art_rows.specs.Words.{key_bytes, first_difference, leaf_word}
-use Rattle.art_rows.proofs.ByteLemmas.{key_byte-small}
-use Rattle.art_steps.specs.declared.variant.Variant.{Variant}
-use Rattle.art_steps.specs.Rows.{Setting, Row, unlock}
-use Rattle.art_steps.specs.Steps.{Rest, Part, ◌>>=◌, ◌>>◌, give, store}
-use Rattle.art_steps.specs.Updates.{keys_differ_at, insert_in, pair_in}
-use Rattle.art_core.specs.Meaning.{Means, slot_of, child_on}
-use Rattle.art_serial.specs.trees.Trees.{IsAtRest, LeadsTo, Parts, SameTreesAreOne, WaysLeadToValues}
-use Rattle.art_serial.specs.trees.Trees.{LeavesArePut, PairsAreHung, GrownRowsAreHung, LeavesAreSmall, KeysPart}
-use Rattle.art_serial.specs.words.Laws.{WordsAreReadBack, VersionsSay, WordsAreSmall}
-use Rattle.art_serial.specs.words.Stored.{IsStored, IsShort}
 use Rattle.art_serial.specs.writes.Laws as writes
-use Rattle.art_serial.specs.alone.Alone.{Comes, Ends, unlocked_rows}
-use Rattle.art_serial.proofs.alone.AloneLemmas.{give-comes, bind-comes, bind-ends, then-comes, store-comes, ends-bind, ends-then}
-use Rattle.art_serial.proofs.alone.AloneLemmas.{same-comes, same-ends}
+use Rattle.art_serial.proofs.alone.AloneLemmas.{give-comes, bind-comes, bind-ends, then-comes, store-comes, ends-bind, ends-then, same-comes}
+use Rattle.art_serial.proofs.alone.AloneLemmas.{same-ends}
 use Rattle.art_serial.proofs.alone.RowRunLemmas.{unlock-comes}
 use Rattle.art_serial.proofs.alone.LikeLemmas.{Nothing}
 use Rattle.art_serial.proofs.inserts.NearLemmas.{Near, Among, IsHeld}
 use Rattle.art_serial.proofs.inserts.OutcomeLemmas.{Outcome}
 use Rattle.art_serial.proofs.inserts.ShortLemmas.{Short, steps_of, short-few, short-more, give-short, bind-short, then-short, store-short}
-use Rattle.art_serial.proofs.inserts.ShortLemmas.{unlock-short}
-use Rattle.art_serial.proofs.inserts.ShortLemmas.{pair_in-short, bind-few, bind-ends-few, same-steps, same-ends-steps}
+use Rattle.art_serial.proofs.inserts.ShortLemmas.{unlock-short, pair_in-short, bind-few, bind-ends-few, same-steps, same-ends-steps}
 use Rattle.art_serial.proofs.inserts.PairOutcomeLemmas.{Hangs, hangs-pair}
 use Rattle.art_serial.proofs.inserts.PutOutcomeLemmas.{leaf-outcome}
 

@@ -1,20 +1,11 @@
 -- An insert that runs alone on a table at rest does what it does on the map, or is refused.
-use Rattle.std.proofs.Common.{◌≡◌, ◌⊎◌, inl, inr, ℕ, ◌<◌, ◌≤◌, List, Bool, true, false, refl, ap, arith, if◌then◌else◌}
-use Rattle.events.specs.declared.event.Call.TheVariants.{Insert}
-use Rattle.map_object.specs.MapObject.{Contents}
-use Rattle.art_rows.specs.declared.table.Shape.{Shape}
-use Rattle.art_rows.specs.Table.{table_words, IsWithinLimits}
-use Rattle.art_steps.specs.declared.variant.Variant.{Variant}
-use Rattle.art_steps.specs.Rows.{Setting, locks}
+use Rattle.art_serial.proofs.Common.{◌≡◌, ◌⊎◌, inl, inr, ℕ, ◌<◌, ◌≤◌, List, Bool, true, false, refl, ap, arith, if◌then◌else◌, Insert, Contents}
+use Rattle.art_serial.proofs.Common.{Shape, table_words, IsWithinLimits, Variant, Setting, locks, procedure, is_tree_call, Means, IsAtRest}
+use Rattle.art_serial.proofs.Common.{Comes, Ends, InsertsAreTheMaps}
 use Rattle.art_steps.specs.Coupled as coupled
 use Rattle.art_steps.specs.Optimistic as optimistic
-use Rattle.art_steps.specs.Act.{procedure}
-use Rattle.art_steps.specs.TreeCalls.{is_tree_call}
-use Rattle.art_core.specs.Meaning.{Means}
-use Rattle.art_serial.specs.trees.Trees.{IsAtRest}
-use Rattle.art_serial.specs.alone.Alone.{Comes, Ends}
 use Rattle.art_serial.proofs.alone.AloneLemmas.{act-comes, act-ends, act-comes-accesses, act-ends-accesses}
-use Rattle.art_serial.specs.inserts.Laws.{InsertsAreTheMaps, DoesOrRefuses}
+use Rattle.art_serial.specs.inserts.Laws.{DoesOrRefuses}
 use Rattle.art_serial.proofs.inserts.InsertEndLemmas.{Given, Inserts, same-part}
 use Rattle.art_serial.proofs.inserts.ShortLemmas.{steps_of}
 use Rattle.art_serial.proofs.inserts.CoupledInsertLemmas.{inserts-coupled}

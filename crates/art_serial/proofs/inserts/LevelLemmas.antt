@@ -1,19 +1,9 @@
 -- Where a key parts from a child's keys is below the row's level, and a row has no more keys than its kind can have.
-use Rattle.std.proofs.Common.{◌≡◌, ℕ, zero, suc, ◌+◌, ◌≤◌, ◌==◌, List, [], ◌∷◌}
-use Rattle.std.proofs.Common.{length, take, slice_index, Bool, true, false, Option, Some, None, nat_le}
-use Rattle.std.proofs.Common.{refl, arith, option_map, if◌then◌else◌}
-use Rattle.std.proofs.lemmas.Bool.{eqb-false}
-use Rattle.std.proofs.lemmas.Option.{none-some, same_Some}
-use Rattle.events.specs.declared.event.Call.{Call}
-use Rattle.art_rows.specs.declared.table.Kind.{Kind}
-use Rattle.art_rows.specs.declared.table.Kind.TheVariants.{Four, Sixteen, FortyEight, Full}
-use Rattle.art_rows.specs.Table.{capacity, count_at, keys_at, more_keys_at}
-use Rattle.art_rows.specs.Words.{first_difference, count_of}
-use Rattle.art_rows.proofs.ReaderLemmas.{most_of}
-use Rattle.art_rows.proofs.WriterLemmas.{length-keys16, length-keys4}
-use Rattle.art_rows.specs.Words.{keys4_of}
-use Rattle.art_steps.specs.Rows.{is_insert}
-use Rattle.art_serial.specs.alone.Finding.{count_in_row}
+use Rattle.art_serial.proofs.Common.{◌≡◌, ℕ, zero, suc, ◌+◌, ◌≤◌, ◌==◌, List, [], ◌∷◌, length, take, slice_index, Bool, true, false, Some, None}
+use Rattle.art_serial.proofs.Common.{refl, arith, if◌then◌else◌, eqb-false, none-some, same_Some, Call, Kind, Four, Sixteen, FortyEight, Full}
+use Rattle.art_serial.proofs.Common.{capacity, count_at, keys_at, more_keys_at, first_difference, count_of, most_of, length-keys16, length-keys4}
+use Rattle.art_serial.proofs.Common.{keys4_of, is_insert, count_in_row}
+use Rattle.std.proofs.Common.{Option, nat_le, option_map}
 
 -- lists that begin alike differ first behind that
 pub differ-behind : (k : ℕ) (xs ys : List ℕ) (d : ℕ) → take k xs ≡ take k ys → k ≤ length xs → first_difference xs ys ≡ Some d → k ≤ d

@@ -1,22 +1,12 @@
 -- Words that differ from those at rest by versions of rows that are reached, and by words that a call has written.
-use Rattle.std.proofs.Common.{◌≡◌, ◌⊎◌, inl, inr, ℕ, ◌+◌, ◌<◌, ◌≤◌, ◌==◌, List, [], All}
-use Rattle.std.proofs.Common.{◌∷◌, length, slice_index, slice_set, Bool, true, false, refl, sym, ap, ◌∙◌, subst}
-use Rattle.std.proofs.Common.{arith, eqb-true}
-use Rattle.std.proofs.lemmas.Bool.{eqb-false}
-use Rattle.std.proofs.lemmas.List.Elements.{All-set}
-use Rattle.std.proofs.lemmas.List.{length-set, get_or-set_same, get_or-set_other}
-use Rattle.art_rows.specs.declared.table.Shape.{Shape}
-use Rattle.art_rows.specs.declared.table.Kind.{Kind}
-use Rattle.art_rows.specs.Table.{row_words, table_words}
-use Rattle.art_rows.specs.Words.{is_locked, is_obsolete, released_word}
-use Rattle.art_rows.proofs.KindLemmas.{two-words}
-use Rattle.art_steps.specs.Rows.{Row}
-use Rattle.art_core.specs.Meaning.{Reached}
-use Rattle.art_serial.specs.trees.Trees.{IsAtRest, SameRow}
+use Rattle.art_serial.proofs.Common.{◌≡◌, ◌⊎◌, inl, inr, ℕ, ◌+◌, ◌<◌, ◌≤◌, ◌==◌, List, [], ◌∷◌, length, slice_index, Bool, true, false, refl}
+use Rattle.art_serial.proofs.Common.{sym, ap, ◌∙◌, subst, arith, eqb-true, eqb-false, All-set, length-set, get_or-set_same, get_or-set_other}
+use Rattle.art_serial.proofs.Common.{Shape, Kind, row_words, table_words, is_locked, is_obsolete, released_word, two-words, Row, Reached}
+use Rattle.art_serial.proofs.Common.{IsAtRest, SameRow, unlocked_rows}
+use Rattle.std.proofs.Common.{All, slice_set}
 use Rattle.art_serial.proofs.alone.PlaceLemmas.{Sits, sits-part, sits-inside}
 use Rattle.art_serial.proofs.alone.LikeLemmas.{Like, IsVersion, Nothing, sits}
 use Rattle.art_serial.proofs.alone.VersionLemmas.{released-live, released-free, released-small}
-use Rattle.art_serial.specs.alone.Alone.{unlocked_rows}
 
 module _ (s : Shape) (n : ℕ) (words : List ℕ) (rest : IsAtRest s n words) where
   -- the word is the version of a row that is reached: of a live one, unless it is dead, and unlocked, unless it is held

@@ -1,39 +1,20 @@
 -- An insert under optimistic lock coupling, run alone on a table at rest, goes its key's way and does what it does on the map, or is
 -- refused.
-use Rattle.std.proofs.Common.{◌≡◌, ◌⊎◌, inl, inr, ℕ, zero, suc, ◌+◌, ◌*◌, ◌<◌, ◌≤◌, ◌==◌, List, [], ◌∷◌, ◌++◌, take, length, slice_index}
-use Rattle.std.proofs.Common.{slice_set}
-use Rattle.std.proofs.Common.{Option, Some, None}
-use Rattle.std.proofs.Common.{Bool, true, false, refl, sym, ap, ◌∙◌, subst, arith, eqb-true, if◌then◌else◌}
-use Rattle.std.specs.Prelude.{unwrap_or}
-use Rattle.std.proofs.lemmas.Bool.{eqb-false, lt-leb}
-use Rattle.std.proofs.lemmas.List.{get_or-set_other}
-use Rattle.std.proofs.lemmas.Option.{none-some}
-use Rattle.events.specs.declared.event.Call.TheVariants.{Insert}
-use Rattle.events.specs.declared.event.Reply.{Reply}
+use Rattle.art_serial.proofs.Common.{◌≡◌, ◌⊎◌, inl, inr, ℕ, zero, suc, ◌+◌, ◌*◌, ◌<◌, ◌≤◌, ◌==◌, List, [], ◌∷◌, ◌++◌, take, length, slice_index}
+use Rattle.art_serial.proofs.Common.{Some, None, Bool, true, false, refl, sym, ap, ◌∙◌, subst, arith, eqb-true, if◌then◌else◌, unwrap_or}
+use Rattle.art_serial.proofs.Common.{eqb-false, lt-leb, get_or-set_other, none-some, Insert, Reply, Contents, Shape, Kind, Full, Child, Empty}
+use Rattle.art_serial.proofs.Common.{ChildRow, Leaf, root_base, info_at, capacity, table_words, is_locked, is_obsolete, locked_word, key_bytes}
+use Rattle.art_serial.proofs.Common.{child_of, info_of, first_difference, two-words, key_byte-small, Variant, Part, ◌>>=◌, ◌>>◌, give}
+use Rattle.art_serial.proofs.Common.{start_again, load, Setting, Row, Place, byte_at, row_of, root_row, path_differs_at, check_of, take_row}
+use Rattle.art_serial.proofs.Common.{unlock, Has, Lacks, keys_differ_at, grow, insert_in, insert_beside, step_down, Reached, Means, root, below}
+use Rattle.art_serial.proofs.Common.{child_in, child_on, slot_of, level_in, path_in, IsAtRest, LeadsTo, Comes, Ends, unlocked_rows, keys_in_row}
+use Rattle.art_serial.proofs.Common.{count_in_row, found_of_slot}
+use Rattle.std.proofs.Common.{slice_set, Option}
 use Rattle.events.specs.declared.event.Reply.TheVariants as reply
-use Rattle.map_object.specs.MapObject.{Contents}
-use Rattle.art_rows.specs.declared.table.Shape.{Shape}
-use Rattle.art_rows.specs.declared.table.Kind.{Kind}
-use Rattle.art_rows.specs.declared.table.Kind.TheVariants.{Full}
-use Rattle.art_rows.specs.declared.table.Child.{Child}
-use Rattle.art_rows.specs.declared.table.Child.TheVariants.{Empty, Row as ChildRow, Leaf}
-use Rattle.art_rows.specs.Table.{root_base, info_at, capacity, table_words}
-use Rattle.art_rows.specs.Words.{is_locked, is_obsolete, locked_word, key_bytes, child_of, info_of, first_difference}
-use Rattle.art_rows.proofs.KindLemmas.{two-words}
-use Rattle.art_rows.proofs.ByteLemmas.{key_byte-small}
-use Rattle.art_steps.specs.declared.variant.Variant.{Variant}
-use Rattle.art_steps.specs.Steps.{Part, ◌>>=◌, ◌>>◌, give, start_again, load}
-use Rattle.art_steps.specs.Rows.{Setting, Row, Place, byte_at, row_of, root_row, path_differs_at, check_of, take_row, unlock, Has, Lacks}
-use Rattle.art_steps.specs.Updates.{keys_differ_at, put, grow, insert_in, insert_beside}
-use Rattle.art_steps.specs.Optimistic.{step_down, below_level, insert_below, take_above, insert_leaf, insert_at, insert_from, insert}
+use Rattle.art_steps.specs.Updates.{put}
+use Rattle.art_steps.specs.Optimistic.{below_level, insert_below, take_above, insert_leaf, insert_at, insert_from, insert}
 use Rattle.art_steps.proofs.GuardLemmas.{insert_from_optimistic-body}
-use Rattle.art_core.specs.Meaning.{Reached, Means, root, below, child_in, child_on, slot_of}
-use Rattle.art_core.specs.Forms.{level_in, path_in}
-use Rattle.art_serial.specs.trees.Trees.{IsAtRest, LeadsTo}
-use Rattle.art_serial.specs.alone.Alone.{Comes, Ends, unlocked_rows}
-use Rattle.art_serial.specs.alone.Finding.{keys_in_row, count_in_row, found_of_slot}
-use Rattle.art_serial.proofs.alone.AloneLemmas.{give-comes, bind-comes, then-comes, ends-then}
-use Rattle.art_serial.proofs.alone.AloneLemmas.{load-comes, over-comes, over_none-comes}
+use Rattle.art_serial.proofs.alone.AloneLemmas.{give-comes, bind-comes, then-comes, ends-then, load-comes, over-comes, over_none-comes}
 use Rattle.art_serial.proofs.alone.RowRunLemmas.{unlock-comes, wait-comes, check_of-comes, take_row-comes}
 use Rattle.art_serial.proofs.alone.FindingLemmas.{find-comes}
 use Rattle.art_serial.proofs.alone.LikeLemmas.{Like, Nothing, sits, like-start, like-free, like-live}
@@ -46,8 +27,7 @@ use Rattle.art_serial.proofs.inserts.PutOutcomeLemmas.{put-outcome}
 use Rattle.art_serial.proofs.inserts.GrowOutcomeLemmas.{Grows, grows}
 use Rattle.art_serial.proofs.inserts.SmallLemmas.{path_byte-small, le-differs_lt}
 use Rattle.art_serial.proofs.inserts.ShortLemmas.{Short, short-comes, give-short, then-short, unlock-short, check_of-short, find-short}
-use Rattle.art_serial.proofs.inserts.ShortLemmas.{put-short, grow-short}
-use Rattle.art_serial.proofs.inserts.ShortLemmas.{bind-few, as-few, wait-few, take_row-few}
+use Rattle.art_serial.proofs.inserts.ShortLemmas.{put-short, grow-short, bind-few, as-few, wait-few, take_row-few}
 use Rattle.art_serial.proofs.inserts.InsertEndLemmas.{Given, Inserts, ended, within, after-part, same-part, pair-in, ends-in, first-differs}
 use Rattle.art_serial.proofs.inserts.LevelLemmas.{differ-behind, count-most}
 use Rattle.art_serial.proofs.trees.Bytes.{one_more}

@@ -1,31 +1,18 @@
 -- How words after an insert come to be settled, and what an insert comes to.
-use Rattle.std.proofs.Common.{◌≡◌, ◌⊎◌, inl, inr, ℕ, ◌+◌, ◌-◌, ◌%◌, ◌<◌, ◌≤◌, ◌==◌, List, length, slice_index, Bool, true, false, Option}
-use Rattle.std.proofs.Common.{Some, None}
-use Rattle.std.proofs.Common.{refl, sym, ap, ◌∙◌, arith, eqb-true}
-use Rattle.std.proofs.lemmas.Bool.{eqb-false, cases_order}
-use Rattle.std.proofs.lemmas.List.Elements.{All-set}
-use Rattle.std.proofs.lemmas.List.{length-set, get_or-set_same, get_or-set_other}
-use Rattle.events.specs.declared.event.Call.TheVariants.{Insert}
-use Rattle.events.specs.declared.event.Reply.{Reply}
+use Rattle.art_serial.proofs.Common.{◌≡◌, ◌⊎◌, inl, inr, ℕ, ◌+◌, ◌-◌, ◌%◌, ◌<◌, ◌≤◌, ◌==◌, List, length, slice_index, Bool, true, false, Some}
+use Rattle.art_serial.proofs.Common.{None, refl, sym, ap, ◌∙◌, arith, eqb-true, eqb-false, cases_order, All-set, length-set, get_or-set_same}
+use Rattle.art_serial.proofs.Common.{get_or-set_other, Insert, Reply, Contents, IsLegalReply, after_reply, Shape, Kind, row_words, claims_of}
+use Rattle.art_serial.proofs.Common.{first_child, child_of, claims-few, two-words, Row, Reached, Means, slot_of, child_in, child_on, IsAtRest}
+use Rattle.art_serial.proofs.Common.{SameRow, SameTreesAreOne, HasRows, IsInside, IsNew, IsReleased, IsAfterInsert, unlocked_rows}
+use Rattle.std.proofs.Common.{Option}
 use Rattle.events.specs.declared.event.Reply.TheVariants as reply
-use Rattle.map_object.specs.MapObject.{Contents, IsLegalReply, after_reply}
-use Rattle.art_rows.specs.declared.table.Shape.{Shape}
-use Rattle.art_rows.specs.declared.table.Kind.{Kind}
-use Rattle.art_rows.specs.Table.{row_words, claims_of, first_child}
-use Rattle.art_rows.specs.Words.{child_of}
-use Rattle.art_rows.proofs.KindLemmas.{claims-few, two-words}
-use Rattle.art_steps.specs.Rows.{Row}
-use Rattle.art_core.specs.Meaning.{Reached, Means, slot_of, child_in, child_on}
-use Rattle.art_serial.specs.trees.Trees.{IsAtRest, SameRow, SameTreesAreOne, HasRows}
 use Rattle.art_serial.proofs.alone.PlaceLemmas.{Sits, sits-inside}
 use Rattle.art_serial.proofs.alone.SlotLemmas.{slot-is, slot-same, row-keys}
 use Rattle.art_serial.proofs.alone.LikeLemmas.{Nothing, sits}
 use Rattle.art_serial.proofs.alone.RowRunLemmas.{with_claim}
-use Rattle.art_serial.specs.inserts.Settled.{IsInside, IsNew, IsReleased, IsAfterInsert}
 use Rattle.art_serial.proofs.inserts.NearLemmas.{Near, Version, near-out, near-plain, near-live, near-behind, near-unlocked, Among, AreHeld}
 use Rattle.art_serial.proofs.inserts.NearLemmas.{unlocked-other}
 use Rattle.art_serial.proofs.inserts.SettledLemmas.{settled-words-rest}
-use Rattle.art_serial.specs.alone.Alone.{unlocked_rows}
 
 -- ---- words and rows
 

@@ -1,40 +1,21 @@
 -- PAIR, of an insert that runs alone on words like those at rest: a pair is hung, or the call is refused.
-use Rattle.std.proofs.Common.{◌≡◌, ◌≢◌, ◌⊎◌, inl, inr, ℕ, ◌+◌, ◌<◌, ◌≤◌, ◌==◌, List, take, slice_index, Bool, true, false, Some, None}
-use Rattle.std.proofs.Common.{refl, sym, ap, ◌∙◌, subst, arith, eqb-true, nat_lt}
-use Rattle.std.proofs.lemmas.Bool.{eqb-false, ltb-true}
-use Rattle.std.proofs.lemmas.List.Elements.{All-take}
-use Rattle.events.specs.declared.event.Call.TheVariants.{Insert}
+use Rattle.art_serial.proofs.Common.{◌≡◌, ◌⊎◌, inl, inr, ℕ, ◌+◌, ◌<◌, ◌≤◌, ◌==◌, List, take, slice_index, Bool, true, false, Some, None, refl}
+use Rattle.art_serial.proofs.Common.{sym, ap, ◌∙◌, subst, arith, eqb-true, eqb-false, ltb-true, All-take, Insert, Contents, value_at}
+use Rattle.art_serial.proofs.Common.{value_reply, put, Shape, Kind, Four, Child, ChildRow, Leaf, row_words, rows_of, table_words, claims_of}
+use Rattle.art_serial.proofs.Common.{base_of, first_child, key_bytes, row_word, is_obsolete, claims-few, two-words, key_byte-small, Variant}
+use Rattle.art_serial.proofs.Common.{Setting, Row, byte_at, Part, store, Under, pair, pair_in, Reached, Means, slot_of, child_on, IsTree}
+use Rattle.art_serial.proofs.Common.{IsAtRest, LeadsTo, Parts, IsPair, HasRowMore, SameRow, SameTreesAreOne, PairsAreHung, WordsAreReadBack}
+use Rattle.art_serial.proofs.Common.{WordsAreSmall, IsStored, IsShort, HasPair, IsOutside, Comes, Ends, unlocked_rows, IsInside, IsNew, IsNewRow}
+use Rattle.std.proofs.Common.{◌≢◌, nat_lt}
 use Rattle.events.specs.declared.event.Reply.TheVariants as reply
-use Rattle.map_object.specs.MapObject.{Contents, value_at, value_reply, put}
-use Rattle.art_rows.specs.declared.table.Shape.{Shape}
-use Rattle.art_rows.specs.declared.table.Kind.{Kind}
-use Rattle.art_rows.specs.declared.table.Kind.TheVariants.{Four}
-use Rattle.art_rows.specs.declared.table.Child.{Child}
-use Rattle.art_rows.specs.declared.table.Child.TheVariants.{Row as ChildRow, Leaf}
-use Rattle.art_rows.specs.Table.{row_words, rows_of, table_words, claims_of, base_of, first_child}
-use Rattle.art_rows.specs.Words.{key_bytes, row_word, is_obsolete}
-use Rattle.art_rows.proofs.KindLemmas.{claims-few, two-words}
-use Rattle.art_rows.proofs.ByteLemmas.{key_byte-small}
-use Rattle.art_steps.specs.declared.variant.Variant.{Variant}
-use Rattle.art_steps.specs.Rows.{Setting, Row, byte_at}
-use Rattle.art_steps.specs.Steps.{Part, store}
-use Rattle.art_steps.specs.Updates.{Under, pair, pair_in}
-use Rattle.art_core.specs.Meaning.{Reached, Means, slot_of, child_on}
-use Rattle.art_core.specs.Forms.{IsTree}
-use Rattle.art_serial.specs.trees.Trees.{IsAtRest, LeadsTo, Parts, IsPair, HasRowMore, SameRow, SameTreesAreOne, PairsAreHung}
-use Rattle.art_serial.specs.words.Laws.{WordsAreReadBack, WordsAreSmall}
-use Rattle.art_serial.specs.words.Stored.{IsStored, IsShort}
-use Rattle.art_serial.specs.writes.Writes.{HasPair, IsOutside}
 use Rattle.art_serial.specs.writes.Laws as writes
-use Rattle.art_serial.specs.alone.Alone.{Comes, Ends, unlocked_rows}
 use Rattle.art_serial.proofs.alone.AloneLemmas.{ends-bind}
 use Rattle.art_serial.proofs.alone.RowRunLemmas.{with_claim, claim-ends}
 use Rattle.art_serial.proofs.alone.PlaceLemmas.{Sits, sits-part, sits-inside, sits-kind_at}
 use Rattle.art_serial.proofs.alone.SlotLemmas.{slot-is, form-same, row-keys, IsChildWord}
 use Rattle.art_serial.proofs.alone.LikeLemmas.{Nothing, sits}
-use Rattle.art_serial.specs.inserts.Settled.{IsInside, IsNew, IsNewRow}
-use Rattle.art_serial.proofs.inserts.NearLemmas.{Near, near-out, near-plain, near-live, near-behind}
-use Rattle.art_serial.proofs.inserts.NearLemmas.{near-unlocked, Among, AreHeld, unlocked-other, unlocked-row, behind-plain}
+use Rattle.art_serial.proofs.inserts.NearLemmas.{Near, near-out, near-plain, near-live, near-behind, near-unlocked, Among, AreHeld}
+use Rattle.art_serial.proofs.inserts.NearLemmas.{unlocked-other, unlocked-row, behind-plain}
 use Rattle.art_serial.proofs.inserts.OutcomeLemmas.{split, child-same, no-row, Claimed, settle-claimed, Outcome, refused}
 use Rattle.art_serial.proofs.inserts.HungLemmas.{word-changes}
 use Rattle.art_serial.proofs.inserts.SmallLemmas.{parts-level, taken-long}

@@ -1,35 +1,18 @@
 -- A leaf that an insert writes in a held row, in the slot of its byte or beside the other children, and what comes of it.
-use Rattle.std.proofs.Common.{◌≡◌, ◌⊎◌, inl, inr, ℕ, ◌+◌, ◌-◌, ◌<◌, ◌≤◌, ◌==◌, List}
-use Rattle.std.proofs.Common.{[], ◌∷◌, length, slice_index, slice_set, Bool, true, false, Option, Some, None}
-use Rattle.std.proofs.Common.{refl, sym, ap, ◌∙◌, subst, arith, eqb-true}
-use Rattle.std.proofs.lemmas.Bool.{eqb-false, cases_order}
-use Rattle.std.proofs.lemmas.List.Elements.{All-set}
-use Rattle.std.proofs.lemmas.List.{length-set, get_or-set_same, get_or-set_other}
-use Rattle.events.specs.declared.event.Call.TheVariants.{Insert}
+use Rattle.art_serial.proofs.Common.{◌≡◌, ◌⊎◌, inl, inr, ℕ, ◌+◌, ◌-◌, ◌<◌, ◌≤◌, ◌==◌, List, [], ◌∷◌, length, slice_index, Bool, true, false}
+use Rattle.art_serial.proofs.Common.{Some, None, refl, sym, ap, ◌∙◌, subst, arith, eqb-true, eqb-false, cases_order, All-set, length-set}
+use Rattle.art_serial.proofs.Common.{get_or-set_same, get_or-set_other, Insert, Contents, value_at, value_reply, put, Shape, Kind, Leaf}
+use Rattle.art_serial.proofs.Common.{row_words, table_words, capacity, leaf_word, two-words, first-some, Variant, Setting, Row, put_in, Reached}
+use Rattle.art_serial.proofs.Common.{Means, slot_of, child_in, IsAtRest, LeadsTo, IsFree, HasRows, ChangesAt, SameRow, LeavesArePut}
+use Rattle.art_serial.proofs.Common.{WordsAreReadBack, HasPut, Comes, unlocked_rows, keys_in_row, count_in_row, IsInside}
+use Rattle.std.proofs.Common.{slice_set, Option}
 use Rattle.events.specs.declared.event.Reply.TheVariants as reply
-use Rattle.map_object.specs.MapObject.{Contents, value_at, value_reply, put}
-use Rattle.art_rows.specs.declared.table.Shape.{Shape}
-use Rattle.art_rows.specs.declared.table.Kind.{Kind}
-use Rattle.art_rows.specs.declared.table.Child.TheVariants.{Leaf}
-use Rattle.art_rows.specs.Table.{row_words, table_words, capacity}
-use Rattle.art_rows.specs.Words.{leaf_word}
-use Rattle.art_rows.proofs.KindLemmas.{two-words, first-some}
-use Rattle.art_steps.specs.declared.variant.Variant.{Variant}
-use Rattle.art_steps.specs.Rows.{Setting, Row}
-use Rattle.art_steps.specs.Updates.{put_in}
-use Rattle.art_core.specs.Meaning.{Reached, Means, slot_of, child_in}
-use Rattle.art_serial.specs.trees.Trees.{IsAtRest, LeadsTo, IsFree, HasRows, ChangesAt, SameRow, LeavesArePut}
-use Rattle.art_serial.specs.words.Laws.{WordsAreReadBack}
-use Rattle.art_serial.specs.writes.Writes.{HasPut}
 use Rattle.art_serial.specs.writes.Laws as writes
-use Rattle.art_serial.specs.alone.Alone.{Comes, unlocked_rows}
-use Rattle.art_serial.specs.alone.Finding.{keys_in_row, count_in_row}
 use Rattle.art_serial.proofs.alone.PlaceLemmas.{Sits, sits-part, sits-inside}
 use Rattle.art_serial.proofs.alone.SlotLemmas.{slot-is, form-same, row-keys, slot-same, keys-same, count-same, IsChildWord}
 use Rattle.art_serial.proofs.alone.LikeLemmas.{Nothing, sits}
-use Rattle.art_serial.specs.inserts.Settled.{IsInside}
-use Rattle.art_serial.proofs.inserts.NearLemmas.{Near, near-out, near-live, near-row, near-behind}
-use Rattle.art_serial.proofs.inserts.NearLemmas.{near-unlocked, Among, IsHeld, unlocked-other, unlocked-row, behind-plain}
+use Rattle.art_serial.proofs.inserts.NearLemmas.{Near, near-out, near-live, near-row, near-behind, near-unlocked, Among, IsHeld, unlocked-other}
+use Rattle.art_serial.proofs.inserts.NearLemmas.{unlocked-row, behind-plain}
 use Rattle.art_serial.proofs.inserts.OutcomeLemmas.{split, child-same, settle-plain, Outcome}
 use Rattle.art_serial.proofs.inserts.HungLemmas.{word-changes}
 use Rattle.art_serial.proofs.inserts.SettledLemmas.{settled-words-rest}

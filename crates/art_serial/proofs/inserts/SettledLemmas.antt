@@ -1,16 +1,10 @@
 -- Settled words that are a tree of rows that were reached before or claimed since are at rest.
-use Rattle.std.proofs.Common.{◌≡◌, ◌⊎◌, inl, inr, ℕ, ◌+◌, ◌-◌, ◌<◌, ◌≤◌, List, slice_index, Some, false, refl, sym, ap, ◌∙◌, subst, arith}
-use Rattle.art_rows.specs.declared.table.Shape.{Shape}
-use Rattle.art_rows.specs.declared.table.Kind.{Kind}
-use Rattle.art_rows.specs.Table.{row_words, rows_of, claims_of, base_of, kind_at}
-use Rattle.art_rows.specs.Words.{is_locked, is_obsolete}
-use Rattle.art_rows.proofs.KindLemmas.{two-words}
-use Rattle.art_core.specs.Meaning.{Reached}
-use Rattle.art_core.specs.Forms.{IsTree}
-use Rattle.art_serial.specs.trees.Trees.{IsAtRest, IsClaimed, AreZeroPastClaims}
+use Rattle.art_serial.proofs.Common.{◌≡◌, ◌⊎◌, inl, inr, ℕ, ◌+◌, ◌-◌, ◌<◌, ◌≤◌, List, slice_index, Some, false, refl, sym, ap, ◌∙◌, subst, arith}
+use Rattle.art_serial.proofs.Common.{Shape, Kind, row_words, rows_of, claims_of, base_of, kind_at, is_locked, is_obsolete, two-words, Reached}
+use Rattle.art_serial.proofs.Common.{IsTree, IsAtRest, IsClaimed, AreZeroPastClaims, IsInside, IsNewRow, IsNew, IsReleased, IsAfterInsert}
 use Rattle.art_serial.proofs.alone.PlaceLemmas.{Sits, sits-part, sits-inside, kind_at-sits}
 use Rattle.art_serial.proofs.alone.LikeLemmas.{sits}
-use Rattle.art_serial.specs.inserts.Settled.{IsInside, IsNewRow, IsNew, IsReleased, HasOldOrNewRows, IsAfterInsert}
+use Rattle.art_serial.specs.inserts.Settled.{HasOldOrNewRows}
 use Rattle.art_serial.specs.inserts.Laws.{SettledWordsRest}
 
 module _ (s : Shape) (n : ℕ) (words later : List ℕ) (rest : IsAtRest s n words) (settled : IsAfterInsert s words later) where

@@ -1,28 +1,16 @@
 -- Parts that make few accesses, whatever words they get.
-use Rattle.std.proofs.Common.{◌≡◌, ◌⊎◌, inl, inr, ℕ, zero, suc, ◌+◌, ◌-◌, ◌*◌, ◌≤◌, ◌==◌, nat_lt, List, [], ◌∷◌, ◌++◌, length, slice_index}
-use Rattle.std.proofs.Common.{Bool, true}
-use Rattle.std.proofs.Common.{false}
-use Rattle.std.proofs.Common.{Option, Some, None, if◌then◌else◌, refl, ap, ◌∙◌, subst, arith}
-use Rattle.events.specs.declared.event.Reply.{Reply}
+use Rattle.art_serial.proofs.Common.{◌≡◌, ◌⊎◌, inl, inr, ℕ, zero, suc, ◌+◌, ◌-◌, ◌*◌, ◌≤◌, ◌==◌, List, [], ◌∷◌, ◌++◌, length, slice_index, Bool}
+use Rattle.art_serial.proofs.Common.{true, false, Some, None, if◌then◌else◌, refl, ap, ◌∙◌, subst, arith, Reply, Kind, Four, Sixteen, FortyEight}
+use Rattle.art_serial.proofs.Common.{Full, capacity, rows_of, Shape, is_locked, is_obsolete, locked_word, entries_of, Access, Point, Turn, Asks}
+use Rattle.art_serial.proofs.Common.{Answers, Rest, Part, ◌>>=◌, ◌>>◌, give, start_again, answer, access, load, load_at, store, store_at}
+use Rattle.art_serial.proofs.Common.{exchange, add, marked, first_at, each, numbers, numbers_down, Setting, Row, is_insert, leaves_out_check}
+use Rattle.art_serial.proofs.Common.{takes_unchecked, lock_point, lock, take_row, load_child, find_child, find_among, find_indexed, find_in}
+use Rattle.art_serial.proofs.Common.{find, unlock, unlock_obsolete, unlock_all, check, check_of, claim, Under, pair, pair_in, copy_child}
+use Rattle.art_serial.proofs.Common.{make_room, put_in, store_index, spread_entry, spread_index, fill, grow, got_by, RunsAlone, ends, goes}
+use Rattle.art_serial.proofs.Common.{accesses, Comes, Ends}
+use Rattle.std.proofs.Common.{nat_lt, Option}
 use Rattle.events.specs.declared.event.Reply.TheVariants as reply
-use Rattle.art_rows.specs.declared.table.Kind.{Kind}
-use Rattle.art_rows.specs.declared.table.Kind.TheVariants.{Four, Sixteen, FortyEight, Full}
-use Rattle.art_rows.specs.Table.{capacity, rows_of}
-use Rattle.art_rows.specs.declared.table.Shape.{Shape}
-use Rattle.art_rows.specs.Words.{is_locked, is_obsolete, locked_word, entries_of}
-use Rattle.art_steps.specs.declared.access.Access.{Access}
-use Rattle.art_steps.specs.declared.access.Point.{Point}
-use Rattle.art_steps.specs.Steps.{Turn, Asks, Answers, Rest, Part, ◌>>=◌, ◌>>◌, give, start_again, answer, access, load, load_at, store}
-use Rattle.art_steps.specs.Steps.{store_at}
-use Rattle.art_steps.specs.Steps.{exchange, add, marked, first_at, each, numbers, numbers_down}
-use Rattle.art_steps.specs.Rows.{Setting, Row, is_insert, leaves_out_check, takes_unchecked, lock_point, lock, take_row, load_child}
-use Rattle.art_steps.specs.Rows.{find_child}
-use Rattle.art_steps.specs.Rows.{find_among, find_indexed, find_in, find}
-use Rattle.art_steps.specs.Rows.{unlock, unlock_obsolete, unlock_all, check, check_of, claim}
-use Rattle.art_steps.specs.Updates.{Under, pair, pair_in, copy_child, make_room, put_in, put, store_index, spread_entry, spread_index, fill}
-use Rattle.art_steps.specs.Updates.{grow}
-use Rattle.art_core.specs.Accesses.{got_by}
-use Rattle.art_serial.specs.alone.Alone.{RunsAlone, ends, goes, accesses, Comes, Ends}
+use Rattle.art_steps.specs.Updates.{put}
 use Rattle.art_serial.proofs.alone.AloneLemmas.{bind-comes, bind-ends, same-comes, same-ends, give-comes, steps-once}
 use Rattle.art_serial.proofs.alone.RowRunLemmas.{lock-comes, lock-steps, wait-comes, wait-steps, with_lock}
 

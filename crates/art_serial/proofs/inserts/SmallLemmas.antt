@@ -1,14 +1,8 @@
 -- Bytes of keys and paths, and how far keys part.
-use Rattle.std.proofs.Common.{◌≡◌, ℕ, zero, suc, ◌+◌, ◌<◌, ◌≤◌, ◌==◌, List, [], ◌∷◌, length, take, slice_index, Bool, true, false}
-use Rattle.std.proofs.Common.{Option, Some, None, refl, arith, option_map, if◌then◌else◌, ◌≢◌}
-use Rattle.std.proofs.lemmas.Option.{none-some, same_Some}
-use Rattle.art_rows.specs.declared.table.Kind.{Kind}
-use Rattle.art_rows.specs.declared.table.Child.{Child}
-use Rattle.art_rows.specs.declared.table.Child.TheVariants.{Empty, Row as ChildRow, Leaf}
-use Rattle.art_rows.specs.Table.{info_at}
-use Rattle.art_rows.specs.Words.{key_bytes, first_difference}
-use Rattle.art_core.specs.Forms.{path_in}
-use Rattle.art_serial.specs.trees.Trees.{Parts}
+use Rattle.art_serial.proofs.Common.{◌≡◌, ℕ, zero, suc, ◌+◌, ◌<◌, ◌≤◌, ◌==◌, List, [], ◌∷◌, length, take, slice_index, Bool, true, false, Some}
+use Rattle.art_serial.proofs.Common.{None, refl, arith, if◌then◌else◌, none-some, same_Some, Kind, Child, Empty, ChildRow, Leaf, info_at}
+use Rattle.art_serial.proofs.Common.{key_bytes, first_difference, path_in, Parts}
+use Rattle.std.proofs.Common.{Option, option_map, ◌≢◌}
 use Rattle.art_serial.proofs.trees.InfoWords.{path_byte}
 
 pub path_byte-small : (words : List ℕ) (base : ℕ) (kind : Kind) (i : ℕ) → slice_index (path_in words base kind) i < 256

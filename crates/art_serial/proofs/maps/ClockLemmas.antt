@@ -1,15 +1,9 @@
 -- The clock is no word of a row: where it alone is set, a table at rest stays at rest and means the same map.
-use Rattle.std.proofs.Common.{◌≡◌, ℕ, ◌+◌, ◌<◌, ◌≤◌, List, slice_index, slice_set, refl, sym, ap, ◌∙◌, subst, arith}
-use Rattle.std.proofs.lemmas.List.{length-set, get_or-set_other}
-use Rattle.std.proofs.lemmas.List.Elements.{All-set}
-use Rattle.map_object.specs.MapObject.{Contents}
-use Rattle.art_rows.specs.declared.table.Shape.{Shape}
-use Rattle.art_rows.specs.declared.table.Kind.{Kind}
-use Rattle.art_rows.specs.Table.{clock, claims_of, base_of}
-use Rattle.art_rows.specs.Words.{is_locked, is_obsolete}
-use Rattle.art_rows.proofs.KindLemmas.{two-words, claims-some}
-use Rattle.art_core.specs.Meaning.{Means}
-use Rattle.art_serial.specs.trees.Trees.{IsAtRest, HasRows, SameTreesAreOne}
+use Rattle.art_serial.proofs.Common.{◌≡◌, ℕ, ◌+◌, ◌<◌, ◌≤◌, List, slice_index, refl, sym, ap, ◌∙◌, subst, arith, length-set, get_or-set_other}
+use Rattle.art_serial.proofs.Common.{All-set, Contents, Shape, Kind, clock, claims_of, base_of, is_locked, is_obsolete, two-words, Means}
+use Rattle.art_serial.proofs.Common.{IsAtRest, HasRows, SameTreesAreOne}
+use Rattle.std.proofs.Common.{slice_set}
+use Rattle.art_rows.proofs.KindLemmas.{claims-some}
 use Rattle.art_serial.proofs.alone.PlaceLemmas.{Sits, sits-inside, kind_at-sits}
 use Rattle.art_serial.proofs.alone.LikeLemmas.{sits}
 

@@ -1,11 +1,10 @@
 -- A call adds one pair to the map at most.
-use Rattle.std.proofs.Common.{◌≡◌, ℕ, suc, ◌+◌, ◌≤◌, nat_lt, Bool, true, false, cond, [], ◌∷◌, length, if◌then◌else◌, refl, arith, ltb-true}
-use Rattle.std.proofs.lemmas.List.{length-append}
-use Rattle.events.specs.declared.event.Call.{Call}
-use Rattle.events.specs.declared.event.Call.TheVariants.{Get, Insert, Remove, Scan, Replace}
-use Rattle.events.specs.declared.event.Reply.{Reply}
+use Rattle.art_serial.proofs.Common.{◌≡◌, ℕ, suc, ◌+◌, ◌≤◌, Bool, true, false, cond, [], ◌∷◌, length, if◌then◌else◌, refl, arith, length-append}
+use Rattle.art_serial.proofs.Common.{Call, Get, Insert, Remove, Scan, Replace, Reply, Contents, value_at, above, put, is_just, after}
+use Rattle.art_serial.proofs.Common.{after_reply}
+use Rattle.std.proofs.Common.{nat_lt, ltb-true}
 use Rattle.events.specs.declared.event.Reply.TheVariants as replies
-use Rattle.map_object.specs.MapObject.{Contents, value_at, below, above, put, is_just, after, after_reply}
+use Rattle.map_object.specs.MapObject.{below}
 
 -- no pair is both below a key and above it
 sides-few : (key : ℕ) (m : Contents) → length (below key m) + length (above key m) ≤ length m

@@ -1,22 +1,13 @@
 -- Serial schedules of a tree do what the map does, since each call that runs alone does.
-use Rattle.std.proofs.Common.{◌≡◌, ℕ, ◌+◌, ◌%◌, ◌<◌, ◌≤◌, IsTrue, List, length, slice_index, slice_set, inr, refl, sym}
-use Rattle.std.proofs.Common.{subst, arith}
+use Rattle.art_serial.proofs.Common.{◌≡◌, ℕ, ◌+◌, ◌%◌, ◌<◌, ◌≤◌, IsTrue, List, length, slice_index, inr, refl, sym, subst, arith, Call, Get}
+use Rattle.art_serial.proofs.Common.{Insert, Remove, Scan, Replace, call_limit, Contents, reply_to, after, after_reply, after_reply-answer}
+use Rattle.art_serial.proofs.Common.{Shape, clock, IsWithinLimits, Variant, is_tree_call, Means, IsAtRest, TablesOpenAtRest, SameTreesAreOne}
+use Rattle.art_serial.proofs.Common.{SeeksAreTheMaps, ScansAreTheMaps, InsertsAreTheMaps}
+use Rattle.std.proofs.Common.{slice_set}
 use Rattle.std.proofs.Math.Nat.{mod-lt}
-use Rattle.events.specs.declared.event.Call.{Call}
-use Rattle.events.specs.declared.event.Call.TheVariants.{Get, Insert, Remove, Scan, Replace}
-use Rattle.events.specs.Limits.{call_limit}
-use Rattle.map_object.specs.MapObject.{Contents, reply_to, after, after_reply}
-use Rattle.map_object.proofs.TellLemmas.{tells_all, reply_to_answers, after_reply-answer}
-use Rattle.art_rows.specs.declared.table.Shape.{Shape}
-use Rattle.art_rows.specs.Table.{clock, IsWithinLimits}
-use Rattle.art_steps.specs.declared.variant.Variant.{Variant}
-use Rattle.art_steps.specs.TreeCalls.{is_tree_call}
-use Rattle.art_core.specs.Meaning.{Means}
+use Rattle.map_object.proofs.TellLemmas.{tells_all, reply_to_answers}
 use Rattle.art_core.specs.Claims.{SerialIsMap}
-use Rattle.art_serial.specs.trees.Trees.{IsAtRest, TablesOpenAtRest, SameTreesAreOne}
-use Rattle.art_serial.specs.alone.Laws.{DoesAlone, SeeksAreTheMaps}
-use Rattle.art_serial.specs.walks.Walks.{ScansAreTheMaps}
-use Rattle.art_serial.specs.inserts.Laws.{InsertsAreTheMaps}
+use Rattle.art_serial.specs.alone.Laws.{DoesAlone}
 use Rattle.art_serial.proofs.serial.KeptLemmas.{MayRunAlone, IsKept}
 use Rattle.art_serial.proofs.serial.StartKeptLemmas.{serial-run-keeps}
 use Rattle.art_serial.proofs.maps.LengthLemmas.{after_reply-few}

@@ -1,23 +1,12 @@
 -- The inserts of starting pairs come to their end, since each insert that runs alone does.
-use Rattle.std.proofs.Common.{◌≡◌, ℕ, ◌+◌, ◌*◌, ◌≤◌, IsTrue, List, [], ◌∷◌, length, arith, refl, ap}
-use Rattle.std.specs.Prelude.{All, None}
-use Rattle.std.proofs.lemmas.List.{length-map}
-use Rattle.std.proofs.lemmas.List.Elements.{All-nil, All-cons, All-head, All-tail}
-use Rattle.events.specs.declared.event.Call.TheVariants.{Insert}
-use Rattle.map_object.specs.MapObject.{Contents}
-use Rattle.art_rows.specs.declared.table.Shape.{Shape}
-use Rattle.art_rows.specs.Table.{opening}
-use Rattle.art_steps.specs.declared.variant.Variant.{Variant}
-use Rattle.art_steps.specs.TreeCalls.{is_tree_call}
-use Rattle.art_core.specs.Core.{Plan, State, idle, moved_by, opened, step}
+use Rattle.art_serial.proofs.Common.{◌≡◌, ℕ, ◌+◌, ◌*◌, ◌≤◌, IsTrue, List, [], ◌∷◌, length, arith, refl, ap, All, length-map, All-nil, All-cons}
+use Rattle.art_serial.proofs.Common.{All-head, All-tail, Insert, Contents, Shape, opening, Variant, is_tree_call, Plan, State, idle, moved_by}
+use Rattle.art_serial.proofs.Common.{step, inserts, start_plan, IsPlan, TablesOpenAtRest, SameTreesAreOne, SeeksAreTheMaps, ScansAreTheMaps}
+use Rattle.art_serial.proofs.Common.{InsertsAreTheMaps}
+use Rattle.std.specs.Prelude.{None}
+use Rattle.art_core.specs.Core.{opened}
 use Rattle.art_core.specs.Runs.{Gives}
-use Rattle.art_core.specs.Starts.{inserts, start_plan}
-use Rattle.art_core.specs.Plans.{IsPlan}
-use Rattle.art_serial.specs.trees.Trees.{TablesOpenAtRest, SameTreesAreOne}
-use Rattle.art_serial.specs.alone.Laws.{SeeksAreTheMaps}
 use Rattle.art_serial.proofs.alone.AloneLemmas.{accesses-once}
-use Rattle.art_serial.specs.walks.Walks.{ScansAreTheMaps}
-use Rattle.art_serial.specs.inserts.Laws.{InsertsAreTheMaps}
 use Rattle.art_serial.proofs.serial.ScriptEndLemmas.{ComesToEnd, IsBrief, sole, ends-script, no-longer}
 use Rattle.art_serial.specs.maps.Ends.{StartsEnd}
 use Rattle.art_serial.proofs.maps.SerialMapLemmas.{IsMap, is-kept}

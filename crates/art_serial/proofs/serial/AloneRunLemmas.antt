@@ -1,13 +1,6 @@
 -- Calls that run alone, as far as they have come.
-use Rattle.std.proofs.Common.{◌≡◌, ℕ, List, [], ◌∷◌, ◌++◌, ap, sym, ◌∙◌, append_assoc}
-use Rattle.std.proofs.lemmas.List.{append-nil}
-use Rattle.std.specs.Prelude.{Option}
-use Rattle.events.specs.declared.event.Reply.{Reply}
-use Rattle.art_steps.specs.declared.access.Access.{Access}
-use Rattle.art_steps.specs.declared.access.Point.{Point}
-use Rattle.art_steps.specs.Steps.{Rest, Asks, Answers}
-use Rattle.art_core.specs.Accesses.{got_by, words_after}
-use Rattle.art_serial.specs.alone.Alone.{RunsAlone, ends, goes}
+use Rattle.art_serial.proofs.Common.{◌≡◌, ℕ, List, [], ◌∷◌, ◌++◌, ap, sym, ◌∙◌, append_assoc, append-nil, Option, Reply, Access, Point, Rest}
+use Rattle.art_serial.proofs.Common.{Asks, Answers, got_by, words_after, RunsAlone, ends, goes}
 use Rattle.art_serial.proofs.alone.AloneLemmas.{same-runs}
 
 -- what is left of a call that got these words

@@ -1,27 +1,14 @@
 -- What stamps and calls that run alone keep, serial schedules keep.
-use Rattle.std.proofs.Common.{◌≡◌, ℕ, suc, ◌+◌, ◌<◌, ◌≤◌, IsTrue, List, [], ◌∷◌, ◌++◌, length, arith, refl, sym, ap, subst, ◌∙◌}
-use Rattle.std.specs.Prelude.{slice_set, Some, None, Option, All, IsSomeAnd}
-use Rattle.std.specs.List.{AllZip}
-use Rattle.std.proofs.lemmas.List.{length-append}
-use Rattle.list_laws.proofs.Lists.{All-front, All-back, All-at}
-use Rattle.events.specs.declared.event.Call.{Call}
-use Rattle.events.specs.declared.event.Reply.{Reply}
+use Rattle.art_serial.proofs.Common.{◌≡◌, ℕ, suc, ◌+◌, ◌<◌, ◌≤◌, IsTrue, List, [], ◌∷◌, ◌++◌, length, arith, refl, sym, ap, subst, ◌∙◌}
+use Rattle.art_serial.proofs.Common.{slice_set, Option, All, IsSomeAnd, AllZip, length-append, All-at, Call, Reply, call_limit, operations}
+use Rattle.art_serial.proofs.Common.{Contents, after_reply, IsLegalReply, IsLegal, after_calls, Shape, clock, Variant, act, is_tree_call, Plan}
+use Rattle.art_serial.proofs.Common.{State, history_of, IsSerial, RunsAlone, ticked, SerialRun, none, more, IsDone, IsRunOn, calls_in}
+use Rattle.std.specs.Prelude.{Some, None}
+use Rattle.list_laws.proofs.Lists.{All-front, All-back}
 use Rattle.events.specs.declared.operation.Operation.{Operation}
 use Rattle.events.specs.declared.operation.Response.{Response}
-use Rattle.events.specs.Limits.{call_limit}
-use Rattle.events.specs.Operations.{operations}
-use Rattle.map_object.specs.MapObject.{Contents, after_reply, IsLegalReply}
-use Rattle.orders.specs.Orders.{IsLegal, IsLegalCall, after_call, after_calls}
-use Rattle.art_rows.specs.declared.table.Shape.{Shape}
-use Rattle.art_rows.specs.Table.{clock}
-use Rattle.art_steps.specs.declared.variant.Variant.{Variant}
-use Rattle.art_steps.specs.Act.{act}
-use Rattle.art_steps.specs.TreeCalls.{is_tree_call}
-use Rattle.art_core.specs.Core.{Plan, State, history_of}
-use Rattle.art_core.specs.Plans.{IsSerial}
-use Rattle.art_serial.specs.alone.Alone.{RunsAlone}
+use Rattle.orders.specs.Orders.{IsLegalCall, after_call}
 use Rattle.art_serial.proofs.alone.AloneLemmas.{runs-once}
-use Rattle.art_serial.specs.serial.Serial.{ticked, SerialRun, none, more, IsDone, IsRunOn, calls_in}
 use Rattle.art_serial.proofs.serial.SerialScheduleLemmas.{serial-runs-alone}
 
 -- What may be said of how many calls were made so far, of the words, and of the pairs that the map has.

@@ -1,33 +1,18 @@
 -- A history that is serial so far: at most one call is open, and that one has run alone so far.
-use Rattle.std.proofs.Common.{◌≡◌, ℕ, zero, suc, IsTrue, List, [], ◌∷◌, ◌++◌, length, map, refl, sym, ap, subst, ◌∙◌, inl, inr}
-use Rattle.std.specs.Prelude.{◌⊎◌, Option, Some, None, All, slice_get, slice_index, slice_set}
+use Rattle.art_serial.proofs.Common.{◌≡◌, ℕ, zero, suc, IsTrue, List, [], ◌∷◌, ◌++◌, length, map, refl, sym, ap, subst, ◌∙◌, inl, inr, Option}
+use Rattle.art_serial.proofs.Common.{All, slice_get, slice_set, All-nil, All-cons, All-append, none-some, same_Some, All-at, Call, Reply, Event}
+use Rattle.art_serial.proofs.Common.{Invoke, Answer, Access, Point, act, word_of, Turn, Asks, Answers, is_tree_call, Process, Plan, State, Move}
+use Rattle.art_serial.proofs.Common.{Invokes, Makes, Responds, begun, moved, after_move, opened_on, move_of, next_in, next_call, move_from}
+use Rattle.art_serial.proofs.Common.{invocation, IsPlan, IsSerial, IsLogged, logged, ticked, SerialRun, none, more}
+use Rattle.std.specs.Prelude.{◌⊎◌, Some, None, slice_index}
 use Rattle.std.specs.Option.{option_map}
 use Rattle.std.proofs.lemmas.List.{map-set}
-use Rattle.std.proofs.lemmas.List.Elements.{All-nil, All-cons, All-append}
-use Rattle.std.proofs.lemmas.Option.{none-some, same_Some, slice_get-map}
-use Rattle.list_laws.proofs.Lists.{All-at}
-use Rattle.events.specs.declared.event.Call.{Call}
-use Rattle.events.specs.declared.event.Reply.{Reply}
-use Rattle.events.specs.declared.event.Event.{Event}
-use Rattle.events.specs.declared.event.Event.TheVariants.{Invoke, Answer}
+use Rattle.std.proofs.lemmas.Option.{slice_get-map}
 use Rattle.logs.specs.Logs.{events_by_stamp, history_of_logs}
 use Rattle.logs.proofs.GrowthLemmas.{history-push}
-use Rattle.art_steps.specs.declared.access.Access.{Access}
-use Rattle.art_steps.specs.declared.access.Point.{Point}
-use Rattle.art_steps.specs.Act.{act}
-use Rattle.art_steps.specs.Fits.{word_of}
-use Rattle.art_steps.specs.Steps.{Turn, Asks, Answers}
-use Rattle.art_steps.specs.TreeCalls.{is_tree_call}
-use Rattle.art_core.specs.declared.process.Process.{Process}
-use Rattle.art_core.specs.Core.{Plan, State, Move, Invokes, Makes, Responds, begun, moved, after_move, opened_on, move_of}
-use Rattle.art_core.specs.Core.{next_in, next_call, move_from, invocation}
-use Rattle.art_core.specs.Plans.{IsPlan, IsSerial}
-use Rattle.art_core.proofs.HistoryLemmas.{IsLogged, logged, map-same, changed-at}
-use Rattle.art_core.proofs.HistoryLemmas.{no-logs, all-idle}
-use Rattle.art_serial.specs.serial.Serial.{ticked, SerialRun, none, more}
+use Rattle.art_core.proofs.HistoryLemmas.{map-same, changed-at, no-logs, all-idle}
 use Rattle.art_serial.proofs.serial.AloneRunLemmas.{HasCome, comes-further, comes-to-end}
-use Rattle.art_serial.proofs.serial.SerialHistoryLemmas.{IsSerialSoFar, calls_of, so-far-front, one-open, with_call, more-serial}
-use Rattle.art_serial.proofs.serial.SerialHistoryLemmas.{more-calls}
+use Rattle.art_serial.proofs.serial.SerialHistoryLemmas.{IsSerialSoFar, calls_of, so-far-front, one-open, with_call, more-serial, more-calls}
 
 abbrev pub AreTreeCalls : List (Call × Reply) → Type 0
 AreTreeCalls done = All (λ call. IsTrue (is_tree_call call.0)) done

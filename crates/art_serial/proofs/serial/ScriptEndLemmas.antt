@@ -1,31 +1,15 @@
 -- A script of one process, each call of which may run alone, comes to its end.
-use Rattle.std.proofs.Common.{◌≡◌, ℕ, ◌+◌, ◌*◌, ◌<◌, ◌≤◌, IsTrue, List, [], ◌∷◌, ◌++◌, length, arith, refl, sym, ap, subst, ◌∙◌}
-use Rattle.std.proofs.Common.{append_assoc}
-use Rattle.std.specs.Prelude.{Option, Some, None, All, slice_get, slice_index, slice_set}
-use Rattle.std.proofs.lemmas.List.{append-nil, length-append}
-use Rattle.std.proofs.lemmas.List.Elements.{All-head, All-tail}
-use Rattle.std.proofs.lemmas.Option.{none-some, same_Some, slice_get_within}
-use Rattle.events.specs.declared.event.Call.{Call}
-use Rattle.events.specs.declared.event.Reply.{Reply}
-use Rattle.events.specs.declared.event.Event.TheVariants.{Invoke, Answer}
-use Rattle.events.specs.Limits.{call_limit}
-use Rattle.map_object.specs.MapObject.{Contents, after_reply}
-use Rattle.art_rows.specs.declared.table.Shape.{Shape}
-use Rattle.art_steps.specs.declared.variant.Variant.{Variant}
-use Rattle.art_steps.specs.Steps.{Rest, Answers}
-use Rattle.art_steps.specs.Act.{act}
-use Rattle.art_steps.specs.Fits.{word_of}
-use Rattle.art_steps.specs.TreeCalls.{is_tree_call}
-use Rattle.art_core.specs.declared.process.Process.{Process}
-use Rattle.art_core.specs.Accesses.{got_by}
-use Rattle.art_core.specs.Core.{Plan, State, Move, Invokes, Makes, Responds, begun, word_of_move, new_word, after_move, move_of, moved_by}
-use Rattle.art_core.specs.Core.{move_from, next_move}
-use Rattle.art_core.specs.Core.{step, invocation}
-use Rattle.art_core.specs.Runs.{run_on}
-use Rattle.art_core.proofs.RunLemmas.{run-on-append, begun-more}
-use Rattle.art_core.proofs.HistoryLemmas.{nowhere, is-moved, step-lengths}
-use Rattle.art_serial.specs.alone.Alone.{RunsAlone, ends, goes, accesses}
-use Rattle.art_serial.specs.serial.Serial.{ticked, sole_plan}
+use Rattle.art_serial.proofs.Common.{◌≡◌, ℕ, ◌+◌, ◌*◌, ◌<◌, ◌≤◌, IsTrue, List, [], ◌∷◌, ◌++◌, length, arith, refl, sym, ap, subst, ◌∙◌}
+use Rattle.art_serial.proofs.Common.{append_assoc, Option, All, slice_get, slice_set, append-nil, length-append, All-head, All-tail, none-some}
+use Rattle.art_serial.proofs.Common.{same_Some, Call, Reply, Invoke, Answer, call_limit, Contents, after_reply, Shape, Variant, Rest, Answers}
+use Rattle.art_serial.proofs.Common.{act, word_of, is_tree_call, Process, got_by, Plan, State, Move, Invokes, Makes, Responds, begun}
+use Rattle.art_serial.proofs.Common.{word_of_move, after_move, move_of, moved_by, move_from, next_move, step, invocation, run_on, begun-more}
+use Rattle.art_serial.proofs.Common.{nowhere, is-moved, RunsAlone, ends, goes, accesses, ticked, sole_plan}
+use Rattle.std.specs.Prelude.{Some, None, slice_index}
+use Rattle.std.proofs.lemmas.Option.{slice_get_within}
+use Rattle.art_core.specs.Core.{new_word}
+use Rattle.art_core.proofs.RunLemmas.{run-on-append}
+use Rattle.art_core.proofs.HistoryLemmas.{step-lengths}
 use Rattle.art_serial.proofs.serial.KeptLemmas.{Said, IsKept}
 
 -- Where this is said, the call, run alone, makes at most 1,000 accesses.

@@ -1,19 +1,13 @@
 -- Serial histories: how they grow, and which calls they have.
-use Rattle.std.proofs.Common.{◌≡◌, ℕ, suc, ◌≤◌, ◌==◌, true, List, [], ◌∷◌, ◌++◌, length, arith, refl, sym, ap, eq-eqb}
-use Rattle.std.specs.Prelude.{IsSomeAnd, cond, Option, map, filter_map}
-use Rattle.std.specs.List.{AllZip, cons_option}
+use Rattle.art_serial.proofs.Common.{◌≡◌, ℕ, suc, ◌≤◌, ◌==◌, true, List, [], ◌∷◌, ◌++◌, length, arith, refl, sym, ap, eq-eqb, IsSomeAnd, Option}
+use Rattle.art_serial.proofs.Common.{filter_map, AllZip, Call, Reply, Event, Invoke, Answer, invoked, answered, IsSerial, IsDone}
+use Rattle.std.specs.Prelude.{cond, map}
+use Rattle.std.specs.List.{cons_option}
 use Rattle.std.proofs.lemmas.List.Sums.{sum_by-cons}
-use Rattle.events.specs.declared.event.Call.{Call}
-use Rattle.events.specs.declared.event.Reply.{Reply}
-use Rattle.events.specs.declared.event.Event.{Event}
-use Rattle.events.specs.declared.event.Event.TheVariants.{Invoke, Answer}
 use Rattle.events.specs.Events.{is_invocation}
 use Rattle.events.specs.Histories.{call_count}
 use Rattle.events.specs.Operations.{operations_from, response_from}
 use Rattle.logs.specs.Logs.{Stamped}
-use Rattle.art_core.specs.Core.{invoked, answered}
-use Rattle.art_core.specs.Plans.{IsSerial}
-use Rattle.art_serial.specs.serial.Serial.{IsDone}
 
 -- each call is answered before the next is invoked
 abbrev pub IsSerialSoFar : List Event → Type 0

@@ -1,19 +1,14 @@
 -- A serial schedule is a list of calls that run alone: at each moment of it at most one call is open, and that one has run alone so far.
-use Rattle.std.proofs.Common.{◌≡◌, ℕ, ◌+◌, ◌^◌, ◌<◌, List, [], ◌∷◌, arith, refl, sym, subst, inl, inr}
-use Rattle.std.specs.Prelude.{◌⊎◌, Option, Some, None}
-use Rattle.std.proofs.lemmas.Option.{same_Some}
-use Rattle.list_laws.proofs.Lists.{All-from_contains, place_of-Contains}
-use Rattle.art_core.specs.Core.{Plan, State, opened_on, history_of}
-use Rattle.art_core.specs.Core.{step}
-use Rattle.art_core.specs.Runs.{run_on, HasFewSteps}
-use Rattle.art_core.specs.Plans.{IsPlan, IsSerial}
-use Rattle.art_core.proofs.HistoryLemmas.{IsLogged, logged, one-move, is-moved, one-step, nowhere, steps-rise, opened-logged, all_steps}
-use Rattle.art_core.proofs.HistoryLemmas.{calls-within}
-use Rattle.art_serial.specs.serial.Serial.{SerialRun, HasRunAlone}
+use Rattle.art_serial.proofs.Common.{◌≡◌, ℕ, ◌+◌, ◌^◌, ◌<◌, List, [], ◌∷◌, arith, refl, sym, subst, inl, inr, Option, same_Some}
+use Rattle.art_serial.proofs.Common.{All-from_contains, Plan, State, opened_on, history_of, step, run_on, HasFewSteps, IsPlan, IsSerial}
+use Rattle.art_serial.proofs.Common.{IsLogged, logged, is-moved, nowhere, opened-logged, SerialRun}
+use Rattle.std.specs.Prelude.{◌⊎◌, Some, None}
+use Rattle.list_laws.proofs.Lists.{place_of-Contains}
+use Rattle.art_core.proofs.HistoryLemmas.{one-move, one-step, steps-rise, all_steps, calls-within}
+use Rattle.art_serial.specs.serial.Serial.{HasRunAlone}
 use Rattle.art_serial.specs.serial.Laws.{SerialSchedulesRunAlone}
 use Rattle.art_serial.proofs.serial.OrderlyLemmas.{AreTreeCalls, IsAtRest, HasOneInCall, IsOrderly, one-more, opened-orderly}
-use Rattle.art_serial.proofs.serial.SerialHistoryLemmas.{calls_of, so-far, not-open}
-use Rattle.art_serial.proofs.serial.SerialHistoryLemmas.{calls-counted, calls-are-done}
+use Rattle.art_serial.proofs.serial.SerialHistoryLemmas.{calls_of, so-far, not-open, calls-counted, calls-are-done}
 
 -- What each step keeps is so of each state of a schedule.
 pub along : (plan : Plan) (P : State → Type 0)

@@ -1,32 +1,15 @@
 -- One process alone: its history is its log, and it begins the calls of its script in their order.
-use Rattle.std.proofs.Common.{◌≡◌, ℕ, zero, suc, List, [], ◌∷◌, ◌++◌, length, map, refl, sym, ap, subst, ◌∙◌, inl, inr, append_assoc}
-use Rattle.std.specs.Prelude.{◌⊎◌, Option, Some, None, slice_get, slice_index, slice_set, filter_map}
-use Rattle.std.proofs.lemmas.List.{append-nil, map-append}
-use Rattle.std.proofs.lemmas.Option.{none-some, same_Some}
-use Rattle.events.specs.declared.event.Call.{Call}
-use Rattle.events.specs.declared.event.Reply.{Reply}
-use Rattle.events.specs.declared.event.Event.{Event}
-use Rattle.events.specs.declared.event.Event.TheVariants.{Invoke, Answer}
-use Rattle.art_rows.specs.declared.table.Shape.{Shape}
-use Rattle.art_steps.specs.declared.variant.Variant.{Variant}
-use Rattle.art_steps.specs.declared.access.Access.{Access}
-use Rattle.art_steps.specs.Act.{act}
-use Rattle.art_steps.specs.Fits.{word_of}
-use Rattle.art_steps.specs.Steps.{Turn, Asks, Answers}
-use Rattle.art_core.specs.declared.process.Process.{Process}
-use Rattle.art_core.specs.Core.{Plan, State, Move, Invokes, Makes, Responds, begun, invoked, answered, moved, word_of_move, after_move}
-use Rattle.art_core.specs.Core.{idle}
-use Rattle.art_core.specs.Core.{opened_on, history_of, move_of}
-use Rattle.art_core.specs.Core.{next_in, next_call, next_move, move_from, invocation, step}
-use Rattle.art_core.specs.Runs.{HasFewSteps}
-use Rattle.art_core.specs.Plans.{IsPlan, IsSerial}
-use Rattle.art_core.proofs.RunLemmas.{begun-more}
-use Rattle.art_core.proofs.HistoryLemmas.{IsLogged, opened-logged, logged, is-moved}
-use Rattle.art_serial.specs.serial.Serial.{sole_plan}
+use Rattle.art_serial.proofs.Common.{◌≡◌, ℕ, zero, suc, List, [], ◌∷◌, ◌++◌, length, map, refl, sym, ap, subst, ◌∙◌, inl, inr, append_assoc}
+use Rattle.art_serial.proofs.Common.{Option, slice_get, slice_set, filter_map, append-nil, none-some, same_Some, Call, Reply, Event, Invoke}
+use Rattle.art_serial.proofs.Common.{Answer, Shape, Variant, Access, act, word_of, Turn, Asks, Answers, Process, Plan, State, Move, Invokes}
+use Rattle.art_serial.proofs.Common.{Makes, Responds, begun, invoked, answered, moved, word_of_move, after_move, idle, opened_on, history_of}
+use Rattle.art_serial.proofs.Common.{move_of, next_in, next_call, next_move, move_from, invocation, step, HasFewSteps, IsPlan, IsSerial}
+use Rattle.art_serial.proofs.Common.{begun-more, IsLogged, opened-logged, logged, is-moved, sole_plan}
+use Rattle.std.specs.Prelude.{◌⊎◌, Some, None, slice_index}
+use Rattle.std.proofs.lemmas.List.{map-append}
 use Rattle.art_serial.specs.serial.Laws.{SoleProcessRunsScript}
-use Rattle.art_serial.proofs.serial.SerialHistoryLemmas.{IsSerialSoFar, calls_of, so-far, with_call, more-serial, so-far-more}
-use Rattle.art_serial.proofs.serial.SerialHistoryLemmas.{calls-invoked, replies-answered}
-use Rattle.art_serial.proofs.serial.SerialHistoryLemmas.{filter_map-events}
+use Rattle.art_serial.proofs.serial.SerialHistoryLemmas.{IsSerialSoFar, calls_of, so-far, with_call, more-serial, so-far-more, calls-invoked}
+use Rattle.art_serial.proofs.serial.SerialHistoryLemmas.{replies-answered, filter_map-events}
 use Rattle.art_serial.proofs.serial.OrderlyLemmas.{IsAtRest, HasOneInCall, IsOrderly, pushed, busy, now, opened-orderly}
 use Rattle.art_serial.proofs.serial.SerialScheduleLemmas.{along, orderly-step, runs-alone}
 

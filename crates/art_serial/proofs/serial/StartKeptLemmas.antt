@@ -1,30 +1,18 @@
 -- What stamps and calls that run alone keep, runs from starting pairs keep: the pairs were inserted by one process alone.
-use Rattle.std.proofs.Common.{◌≡◌, ◌≢◌, ℕ, ◌+◌, ◌<◌, ◌≤◌, IsTrue, List, [], ◌∷◌, ◌++◌, length, map, arith, sym, ap, subst, ◌∙◌}
-use Rattle.std.proofs.Common.{append_assoc}
-use Rattle.std.specs.Prelude.{All}
-use Rattle.std.proofs.lemmas.List.{append-nil, length-map}
-use Rattle.std.proofs.lemmas.List.Elements.{All-nil, All-cons, All-head, All-tail, All-contains}
-use Rattle.list_laws.proofs.Lists.{AllPairs-across, All-from_contains}
-use Rattle.events.specs.declared.event.Call.{Call}
-use Rattle.events.specs.declared.event.Call.TheVariants.{Insert}
-use Rattle.events.specs.declared.event.Reply.{Reply}
+use Rattle.art_serial.proofs.Common.{◌≡◌, ℕ, ◌+◌, ◌<◌, ◌≤◌, IsTrue, List, [], ◌∷◌, ◌++◌, length, map, arith, sym, ap, subst, ◌∙◌, append_assoc}
+use Rattle.art_serial.proofs.Common.{All, append-nil, length-map, All-nil, All-cons, All-head, All-tail, All-contains, All-from_contains, Call}
+use Rattle.art_serial.proofs.Common.{Insert, Reply, call_limit, operations, Contents, IsRising, after, after_reply, put, above, IsLegal}
+use Rattle.art_serial.proofs.Common.{after_calls, after_reply-answer, Shape, opening, IsWithinLimits, Variant, is_tree_call, Plan, State}
+use Rattle.art_serial.proofs.Common.{history_of, inserts, start_plan, IsPlan, IsSerial, IsRunOn, calls_in}
+use Rattle.std.proofs.Common.{◌≢◌}
+use Rattle.list_laws.proofs.Lists.{AllPairs-across}
 use Rattle.events.specs.declared.event.Reply.TheVariants as replies
-use Rattle.events.specs.Limits.{call_limit}
-use Rattle.events.specs.Operations.{operations}
-use Rattle.map_object.specs.MapObject.{Contents, IsRising, after, after_reply, put, below, above}
+use Rattle.map_object.specs.MapObject.{below}
 use Rattle.map_object.proofs.MapLemmas.{below_gap, above_gap}
-use Rattle.orders.specs.Orders.{IsLegal, after_calls}
-use Rattle.map_object.proofs.TellLemmas.{after_reply-answer}
-use Rattle.art_rows.specs.declared.table.Shape.{Shape}
-use Rattle.art_rows.specs.Table.{opening, IsWithinLimits}
-use Rattle.art_steps.specs.declared.variant.Variant.{Variant}
-use Rattle.art_steps.specs.TreeCalls.{is_tree_call}
-use Rattle.art_core.specs.Core.{Plan, State, history_of}
-use Rattle.art_core.specs.Starts.{inserts, start_plan, StartsOn}
-use Rattle.art_core.specs.Plans.{IsPlan, IsSerial, IsRun}
+use Rattle.art_core.specs.Starts.{StartsOn}
+use Rattle.art_core.specs.Plans.{IsRun}
 use Rattle.art_core.proofs.HistoryLemmas.{opening-length, start-length, start-clock}
 use Rattle.art_core.proofs.StartLemmas.{clock-at-zero}
-use Rattle.art_serial.specs.serial.Serial.{IsRunOn, calls_in}
 use Rattle.art_serial.proofs.serial.SoleProcessLemmas.{sole-runs-script}
 use Rattle.art_serial.proofs.serial.KeptLemmas.{Said, IsKept, after_done, run-keeps, serial-keeps}
 

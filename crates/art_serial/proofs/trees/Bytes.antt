@@ -1,12 +1,10 @@
 -- Beginnings of the bytes of a key.
-use Rattle.std.proofs.Common.{◌≡◌, ℕ, zero, suc, ◌+◌, ◌<◌, ◌≤◌, ◌==◌, Bool, true, false}
-use Rattle.std.proofs.Common.{List, [], ◌∷◌, ◌++◌, length, take, slice_index}
-use Rattle.std.proofs.Common.{Option, Some, None, option_map, refl, sym, ap, ap₂, ◌∙◌, subst, arith, eq-eqb, ⊎_elim, if◌then◌else◌}
-use Rattle.std.specs.Prelude.{◌≢◌, ◌⊎◌}
-use Rattle.std.proofs.lemmas.Bool.{cases_lt}
+use Rattle.art_serial.proofs.Common.{◌≡◌, ℕ, zero, suc, ◌+◌, ◌<◌, ◌≤◌, ◌==◌, Bool, true, false, List, [], ◌∷◌, ◌++◌, length, take, slice_index}
+use Rattle.art_serial.proofs.Common.{Some, None, refl, sym, ap, ap₂, ◌∙◌, subst, arith, eq-eqb, ⊎_elim, if◌then◌else◌, ◌≢◌, cases_lt, none-some}
+use Rattle.art_serial.proofs.Common.{same_Some, first_difference}
+use Rattle.std.proofs.Common.{Option, option_map}
+use Rattle.std.specs.Prelude.{◌⊎◌}
 use Rattle.std.proofs.lemmas.Bool.Decides.{eqb_tells}
-use Rattle.std.proofs.lemmas.Option.{none-some, same_Some}
-use Rattle.art_rows.specs.Words.{first_difference}
 
 tails : (x y : ℕ) (xs ys : List ℕ) → x ∷ xs ≡ y ∷ ys → xs ≡ ys
 tails x y xs ys h = cc

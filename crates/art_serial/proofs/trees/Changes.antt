@@ -1,18 +1,9 @@
 -- What stays where one byte of one row has another child.
-use Rattle.std.proofs.Common.{◌≡◌, ℕ, ◌+◌, ◌*◌, ◌<◌, List, [], ◌∷◌, ◌++◌, take, slice_index, refl, sym, ap, ap₂, subst, subst₂, ◌∙◌, arith}
-use Rattle.std.proofs.Common.{⊎_elim, inl, inr}
+use Rattle.art_serial.proofs.Common.{◌≡◌, ℕ, ◌+◌, ◌*◌, ◌<◌, List, [], ◌∷◌, ◌++◌, take, slice_index, refl, sym, ap, ap₂, subst, subst₂, ◌∙◌}
+use Rattle.art_serial.proofs.Common.{arith, ⊎_elim, inl, inr, cases_eq, Shape, Kind, Four, Sixteen, FortyEight, Full, Child, info_at, key_bytes}
+use Rattle.art_serial.proofs.Common.{kind_code, packed, info_of, key_byte-small, Reached, child_on, HasForm, IsTree, level_in, path_in, LeadsTo}
+use Rattle.art_serial.proofs.Common.{ChangesAt}
 use Rattle.std.specs.Prelude.{◌⊎◌}
-use Rattle.std.proofs.lemmas.Bool.{cases_eq}
-use Rattle.art_rows.specs.declared.table.Shape.{Shape}
-use Rattle.art_rows.specs.declared.table.Kind.{Kind}
-use Rattle.art_rows.specs.declared.table.Kind.TheVariants.{Four, Sixteen, FortyEight, Full}
-use Rattle.art_rows.specs.declared.table.Child.{Child}
-use Rattle.art_rows.specs.Table.{info_at}
-use Rattle.art_rows.specs.Words.{key_bytes, kind_code, packed, info_of}
-use Rattle.art_rows.proofs.ByteLemmas.{key_byte-small}
-use Rattle.art_core.specs.Meaning.{Reached, child_on}
-use Rattle.art_core.specs.Forms.{HasForm, IsTree, level_in, path_in}
-use Rattle.art_serial.specs.trees.Trees.{LeadsTo, ChangesAt}
 use Rattle.art_serial.proofs.trees.InfoWords.{level_small}
 use Rattle.art_serial.proofs.trees.Bytes.{one_more}
 use Rattle.art_serial.proofs.trees.Infos.{LeafMayHang}

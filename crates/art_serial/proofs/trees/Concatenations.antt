@@ -1,10 +1,8 @@
 -- Pairs that are found number by number, one list after another.
-use Rattle.std.proofs.Common.{ℕ, zero, suc, ◌+◌, ◌<◌, ◌≤◌, All, Contains, flat_map, sym, subst, ⊎_elim, arith}
-use Rattle.std.proofs.lemmas.Bool.{cases_eq}
-use Rattle.std.proofs.lemmas.List.Elements.{Contains-append_left, Contains-append_right, Contains-append_cases}
-use Rattle.list_laws.proofs.Lists.{AllPairs-nil, AllPairs-append, Contains-nil, All-from_contains}
-use Rattle.map_object.specs.MapObject.{Contents, IsRising}
-use Rattle.art_steps.specs.Steps.{numbers}
+use Rattle.art_serial.proofs.Common.{ℕ, zero, suc, ◌+◌, ◌<◌, ◌≤◌, sym, subst, ⊎_elim, arith, cases_eq, Contains-append_left}
+use Rattle.art_serial.proofs.Common.{Contains-append_right, Contains-append_cases, AllPairs-nil, AllPairs-append, Contains-nil}
+use Rattle.art_serial.proofs.Common.{All-from_contains, Contents, IsRising, numbers}
+use Rattle.std.proofs.Common.{All, Contains, flat_map}
 
 module _ (f : ℕ → Contents) where
   -- what is found is found at one of the numbers,

@@ -1,21 +1,11 @@
 -- The way of a key from row to row, and where it ends at a leaf.
-use Rattle.std.proofs.Common.{◌≡◌, ℕ, ◌+◌, ◌/◌, ◌%◌, ◌^◌, ◌<◌, ◌≤◌, ◌==◌, Bool, true, false, List, [], ◌∷◌}
-use Rattle.std.proofs.Common.{length, take, slice_index, All, Option, Some, None, option_map, refl, sym, ap, subst, ◌∙◌, arith, ⊎_elim}
-use Rattle.std.proofs.Common.{if◌then◌else◌}
-use Rattle.std.proofs.lemmas.Bool.{cases_lt, eqb-true}
+use Rattle.art_serial.proofs.Common.{◌≡◌, ℕ, ◌+◌, ◌/◌, ◌%◌, ◌^◌, ◌<◌, ◌≤◌, ◌==◌, Bool, true, false, List, [], ◌∷◌, length, take, slice_index}
+use Rattle.art_serial.proofs.Common.{Some, None, refl, sym, ap, subst, ◌∙◌, arith, ⊎_elim, if◌then◌else◌, cases_lt, none-some, Shape, Kind}
+use Rattle.art_serial.proofs.Common.{Empty, Leaf, kind_at, key_bytes, first_difference, child_of, row_child, child_in, slot_of, LeavesAreSmall}
+use Rattle.art_serial.proofs.Common.{KeysPart}
+use Rattle.std.proofs.Common.{All, Option, option_map}
+use Rattle.std.proofs.lemmas.Bool.{eqb-true}
 use Rattle.std.proofs.lemmas.List.{get_or_past}
-use Rattle.std.proofs.lemmas.Option.{none-some}
-use Rattle.art_rows.specs.declared.table.Shape.{Shape}
-use Rattle.art_rows.specs.declared.table.Kind.{Kind}
-use Rattle.art_rows.specs.declared.table.Kind.TheVariants.{Full}
-use Rattle.art_rows.specs.declared.table.Child.TheVariants.{Empty, Leaf}
-use Rattle.art_rows.specs.Table.{info_at, kind_at}
-use Rattle.art_rows.specs.Words.{key_bytes, first_difference, info_of, child_of, row_child}
-use Rattle.art_core.specs.Meaning.{root, below, child_in, slot_of}
-use Rattle.art_core.specs.Forms.{path_in}
-use Rattle.art_serial.specs.trees.Trees.{WaysGoDown, LeavesAreSmall, KeysPart}
-use Rattle.art_serial.proofs.trees.InfoWords.{level_small}
-use Rattle.art_serial.proofs.trees.Changes.{way_byte}
 use Rattle.art_serial.proofs.trees.Ways.{empty-leaf, row-leaf, same_key, same_value}
 
 -- a list that differs nowhere from a longer one is its beginning
@@ -33,24 +23,6 @@ same_beginning (x ∷ xs) (y ∷ ys) long h = go (x == y) refl (λ e. same_begin
     go true same later e = ap (λ z. z ∷ take (length xs) ys) (sym (eqb-true x y same))
         ∙ ap (λ zs. x ∷ zs) (later (rest (first_difference xs ys) e))
     go false same later e = absurd (none-some 0 (sym e))
-
-pub ways-go-down : WaysGoDown
-ways-go-down s words key tree = (
-  record {
-    reached = root;
-    path = ap (λ w. take (info_of Full w).level (key_bytes key)) tree.root ∙ sym (ap (λ w. (info_of Full w).path) tree.root);
-    byte = sym (ap (λ w. slice_index (key_bytes key) (info_of Full w).level) tree.root);
-  },
-  λ base kind x b k leads on same.
-      let reached = below leads.reached x (way_byte s words key base kind x leads) on in
-      let long = (tree.info b k reached).0 in
-      record {
-        reached = reached;
-        path = ap (λ n. take n (key_bytes key)) (sym long)
-            ∙ same_beginning (path_in words b k) (key_bytes key) (omega (arith, long, level_small k (slice_index words (info_at b)))) same;
-        byte = refl;
-      },
-)
 
 -- a word of the table
 pub small_at : (words : List ℕ) (i : ℕ) → All (λ w. w < 2 ^ 64) words → slice_index words i < 2 ^ 64

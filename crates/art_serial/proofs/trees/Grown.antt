@@ -1,18 +1,11 @@
 -- A grown row is hung in the place of another.
-use Rattle.std.proofs.Common.{◌≡◌, ℕ, ◌+◌, ◌<◌, List, [], ◌∷◌, ◌++◌, length, take, slice_index, refl, sym, ap, ap₂, subst, subst₂, ◌∙◌}
-use Rattle.std.proofs.Common.{arith}
-use Rattle.std.proofs.Common.{⊎_elim, inl, inr}
-use Rattle.std.specs.Prelude.{◌≢◌, ◌⊎◌}
-use Rattle.std.proofs.lemmas.Bool.{cases_eq}
-use Rattle.art_rows.specs.declared.table.Shape.{Shape}
-use Rattle.art_rows.specs.declared.table.Kind.{Kind}
-use Rattle.art_rows.specs.declared.table.Kind.TheVariants.{Full}
-use Rattle.art_rows.specs.declared.table.Child.TheVariants.{Row, Leaf}
-use Rattle.art_rows.specs.Table.{info_at, root_base}
-use Rattle.art_rows.specs.Words.{key_bytes, info_of, info_word}
-use Rattle.art_core.specs.Meaning.{Reached, root, below, Hangs, child_on}
-use Rattle.art_core.specs.Forms.{HasForm, IsTree, level_in, path_in}
-use Rattle.art_serial.specs.trees.Trees.{LeadsTo, ChangesAtBut, IsGrown, HasRowInPlace, GrownRowsAreHung}
+use Rattle.art_serial.proofs.Common.{◌≡◌, ℕ, ◌+◌, ◌<◌, List, [], ◌∷◌, ◌++◌, length, take, slice_index, refl, sym, ap, ap₂, subst, subst₂, ◌∙◌}
+use Rattle.art_serial.proofs.Common.{arith, ⊎_elim, inl, inr, ◌≢◌, cases_eq, Shape, Kind, Full, Leaf, info_at, root_base, key_bytes, info_of}
+use Rattle.art_serial.proofs.Common.{info_word, Reached, root, below, Hangs, child_on, HasForm, IsTree, level_in, path_in, LeadsTo, IsGrown}
+use Rattle.art_serial.proofs.Common.{HasRowInPlace, GrownRowsAreHung}
+use Rattle.std.specs.Prelude.{◌⊎◌}
+use Rattle.art_rows.specs.declared.table.Child.TheVariants.{Row}
+use Rattle.art_serial.specs.trees.Trees.{ChangesAtBut}
 use Rattle.art_serial.proofs.trees.InfoWords.{level_small, level_back, path_back, path_bytes}
 use Rattle.art_serial.proofs.trees.Infos.{IsInfo, MayHang, LeafMayHang}
 use Rattle.art_serial.proofs.trees.SameRows.{child_same, form_same, info_same}

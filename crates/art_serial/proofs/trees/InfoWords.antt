@@ -1,10 +1,6 @@
 -- Words of infos: what is read of them, and read back from those that are written.
-use Rattle.std.proofs.Common.{◌≡◌, ℕ, ◌/◌, ◌%◌, ◌<◌, ◌==◌, Bool, true, false, if◌then◌else◌, List, [], length, slice_index}
-use Rattle.std.proofs.Common.{sym, ap, ap₂, ◌∙◌, arith, eq-eqb}
-use Rattle.art_rows.specs.declared.table.Kind.{Kind}
-use Rattle.art_rows.specs.Words.{info_of, info_word, Info, kind_code, low_bytes, packed}
-use Rattle.art_rows.proofs.ByteLemmas.{low_byte-small}
-use Rattle.art_rows.proofs.KindLemmas.{code-few}
+use Rattle.art_serial.proofs.Common.{◌≡◌, ℕ, ◌/◌, ◌%◌, ◌<◌, ◌==◌, Bool, true, false, if◌then◌else◌, List, [], length, slice_index, sym, ap, ap₂}
+use Rattle.art_serial.proofs.Common.{◌∙◌, arith, eq-eqb, Kind, info_of, info_word, Info, kind_code, low_bytes, packed, low_byte-small, code-few}
 use Rattle.art_serial.proofs.words.ByteLemmas.{AreBytes, bytes-small, low_bytes-packed}
 
 -- the info that a word says, if it is one of the kind

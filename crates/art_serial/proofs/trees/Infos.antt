@@ -1,7 +1,6 @@
 -- What a tree asks of the infos of its rows, by their words.
+use Rattle.art_serial.proofs.Common.{Kind, info_of, info_word, key_bytes}
 use Rattle.std.specs.Prelude.{◌≡◌, ℕ, ◌+◌, ◌<◌, [], ◌∷◌, ◌++◌, length, take}
-use Rattle.art_rows.specs.declared.table.Kind.{Kind}
-use Rattle.art_rows.specs.Words.{info_of, info_word, key_bytes}
 
 -- the word is the info of a row of the kind
 abbrev pub IsInfo : Kind → ℕ → Type 0

@@ -1,13 +1,8 @@
 -- Tables whose reached rows have the same infos and the same rows on their bytes: the same rows are reached, and the words are a tree
 -- again.
-use Rattle.std.proofs.Common.{◌≡◌, ℕ, ◌<◌, List, slice_index, sym, ◌∙◌, subst}
-use Rattle.art_rows.specs.declared.table.Shape.{Shape}
-use Rattle.art_rows.specs.declared.table.Kind.{Kind}
-use Rattle.art_rows.specs.declared.table.Kind.TheVariants.{Full}
-use Rattle.art_rows.specs.declared.table.Child.TheVariants.{Row, Leaf}
-use Rattle.art_rows.specs.Table.{info_at, root_base}
-use Rattle.art_core.specs.Meaning.{Reached, root, below, child_on}
-use Rattle.art_core.specs.Forms.{HasForm, IsTree}
+use Rattle.art_serial.proofs.Common.{◌≡◌, ℕ, ◌<◌, List, slice_index, sym, ◌∙◌, subst, Shape, Kind, Full, Leaf, info_at, root_base, Reached, root}
+use Rattle.art_serial.proofs.Common.{below, child_on, HasForm, IsTree}
+use Rattle.art_rows.specs.declared.table.Child.TheVariants.{Row}
 use Rattle.art_serial.proofs.trees.Infos.{IsInfo, MayHang, LeafMayHang}
 
 -- the later table has the reached rows' infos and the rows on their bytes, rows in form and leaves that may hang where they hang

@@ -1,14 +1,7 @@
 -- One leaf of one row is put or taken away.
-use Rattle.std.proofs.Common.{◌≡◌, ℕ, List, slice_index, refl, sym, subst, ◌∙◌, ⊎_elim}
-use Rattle.std.specs.Prelude.{◌↔◌}
-use Rattle.art_rows.specs.declared.table.Shape.{Shape}
-use Rattle.art_rows.specs.declared.table.Kind.{Kind}
-use Rattle.art_rows.specs.declared.table.Child.{Child}
-use Rattle.art_rows.specs.declared.table.Child.TheVariants.{Empty, Row, Leaf}
-use Rattle.art_rows.specs.Table.{info_at}
-use Rattle.art_core.specs.Meaning.{Reached, Hangs, child_on}
-use Rattle.art_core.specs.Forms.{IsTree}
-use Rattle.art_serial.specs.trees.Trees.{LeadsTo, IsFree, ChangesAt, LeavesArePut, LeavesAreRemoved}
+use Rattle.art_serial.proofs.Common.{◌≡◌, ℕ, List, slice_index, refl, sym, subst, ◌∙◌, ⊎_elim, ◌↔◌, Shape, Kind, Child, Empty, Leaf, info_at}
+use Rattle.art_serial.proofs.Common.{Reached, Hangs, child_on, IsTree, LeadsTo, IsFree, ChangesAt, LeavesArePut, LeavesAreRemoved}
+use Rattle.art_rows.specs.declared.table.Child.TheVariants.{Row}
 use Rattle.art_serial.proofs.trees.Infos.{LeafMayHang}
 use Rattle.art_serial.proofs.trees.KeptRows.{KeepsRows, reached_before, reached_after, kept_tree}
 use Rattle.art_serial.proofs.trees.Ways.{found_at, empty-leaf, empty-row, row-leaf, same_key}

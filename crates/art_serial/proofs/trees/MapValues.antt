@@ -1,15 +1,12 @@
 -- The value at a key, and maps with a value put or a key removed, by the pairs that they contain.
-use Rattle.std.proofs.Common.{◌≡◌, ℕ, ◌<◌, ◌≤◌, true, if◌then◌else◌, [], ◌∷◌, ◌++◌, None, Some, refl, sym, ap, ◌∙◌, subst, ⊎_elim, inl, inr}
-use Rattle.std.proofs.Common.{arith, nat_lt}
-use Rattle.std.proofs.Common.{All, Contains, eq-eqb, ne_eqb, ltb-true}
-use Rattle.std.specs.Prelude.{◌≢◌, ◌⊎◌}
-use Rattle.std.proofs.lemmas.Bool.{cases_lt}
-use Rattle.std.proofs.lemmas.List.Elements.{All-contains, Contains-append_left, Contains-append_right, Contains-append_cases}
-use Rattle.std.proofs.lemmas.List.Kept.{AllPairs-filter}
-use Rattle.list_laws.proofs.Lists.{AllPairs-head, AllPairs-tail, AllPairs-append, All-from_contains}
-use Rattle.list_laws.proofs.Lists.{Contains-first, Contains-later, Contains-nil, Contains-cases}
-use Rattle.list_laws.proofs.FilterLemmas.{Contains-filter, Contains-from_filter}
-use Rattle.map_object.specs.MapObject.{Contents, IsRising, value_at, put, below, above}
+use Rattle.art_serial.proofs.Common.{◌≡◌, ℕ, ◌<◌, ◌≤◌, true, if◌then◌else◌, [], ◌∷◌, ◌++◌, None, Some, refl, sym, ap, ◌∙◌, subst, ⊎_elim, inl}
+use Rattle.art_serial.proofs.Common.{inr, arith, eq-eqb, ◌≢◌, cases_lt, All-contains, Contains-append_left, Contains-append_right}
+use Rattle.art_serial.proofs.Common.{Contains-append_cases, AllPairs-filter, AllPairs-head, AllPairs-tail, AllPairs-append, All-from_contains}
+use Rattle.art_serial.proofs.Common.{Contains-first, Contains-later, Contains-nil, Contains-cases, Contains-filter, Contains-from_filter}
+use Rattle.art_serial.proofs.Common.{Contents, IsRising, value_at, put, above}
+use Rattle.std.proofs.Common.{nat_lt, All, Contains, ne_eqb, ltb-true}
+use Rattle.std.specs.Prelude.{◌⊎◌}
+use Rattle.map_object.specs.MapObject.{below}
 use Rattle.map_object.proofs.MapLemmas.{IsRising-insert}
 
 -- a key that no pair has is absent

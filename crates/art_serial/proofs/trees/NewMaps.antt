@@ -1,12 +1,8 @@
 -- The map of a table on which one key's leaf is another than before.
-use Rattle.std.proofs.Common.{ℕ, List, ◌++◌, sym, subst, subst₂, ⊎_elim}
-use Rattle.std.specs.Prelude.{◌≢◌, ◌↔◌}
-use Rattle.std.proofs.lemmas.Bool.{cases_eq}
-use Rattle.art_rows.specs.declared.table.Shape.{Shape}
-use Rattle.map_object.specs.MapObject.{Contents, put, below, above}
+use Rattle.art_serial.proofs.Common.{ℕ, List, ◌++◌, sym, subst, subst₂, ⊎_elim, ◌≢◌, ◌↔◌, cases_eq, Shape, Contents, put, above, Hangs, Means}
+use Rattle.art_serial.proofs.Common.{IsTree}
+use Rattle.map_object.specs.MapObject.{below}
 use Rattle.std.proofs.Common.{Contains}
-use Rattle.art_core.specs.Meaning.{Hangs, Means}
-use Rattle.art_core.specs.Forms.{IsTree}
 use Rattle.art_serial.proofs.trees.MapValues.{put_at, put_here, put_other, left_out, left_in, rising_with, rising_without}
 use Rattle.art_serial.proofs.trees.Ways.{one_leaf}
 

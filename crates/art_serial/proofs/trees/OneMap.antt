@@ -1,9 +1,7 @@
 -- Maps of the same pairs are one.
-use Rattle.std.proofs.Common.{◌≡◌, ℕ, ◌<◌, [], ◌∷◌, All, Contains, refl, sym, ap, ◌∙◌, subst, ⊎_elim, arith}
-use Rattle.std.proofs.lemmas.List.Elements.{All-contains}
-use Rattle.list_laws.proofs.Lists.{AllPairs-head, AllPairs-tail, Contains-first, Contains-later, Contains-nil, Contains-cases}
-use Rattle.map_object.specs.MapObject.{Contents, IsRising}
-use Rattle.art_serial.specs.trees.Trees.{MapsAreOne}
+use Rattle.art_serial.proofs.Common.{◌≡◌, ℕ, ◌<◌, [], ◌∷◌, refl, sym, ap, ◌∙◌, subst, ⊎_elim, arith, All-contains, AllPairs-head, AllPairs-tail}
+use Rattle.art_serial.proofs.Common.{Contains-first, Contains-later, Contains-nil, Contains-cases, Contents, IsRising, MapsAreOne}
+use Rattle.std.proofs.Common.{All, Contains}
 
 -- a pair has a lower key
 abbrev Less : ℕ × ℕ → ℕ × ℕ → Type 0

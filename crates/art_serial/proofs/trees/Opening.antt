@@ -1,24 +1,15 @@
 -- The table as it is opened.
-use Rattle.std.proofs.Common.{◌≡◌, ℕ, zero, suc, ◌+◌, ◌-◌, ◌/◌, ◌%◌, ◌^◌, ◌<◌, ◌≤◌, ◌==◌, ◌&&◌, nat_le, nat_lt, Bool, true, false, Some}
-use Rattle.std.proofs.Common.{None}
-use Rattle.std.proofs.Common.{List, [], length, replicate, slice_index, slice_set, refl, sym, ap, ap₂, subst, subst₂, ◌∙◌, arith}
-use Rattle.std.proofs.Common.{if◌then◌else◌}
-use Rattle.std.specs.Prelude.{◌≢◌}
+use Rattle.art_serial.proofs.Common.{◌≡◌, ℕ, zero, suc, ◌+◌, ◌-◌, ◌/◌, ◌%◌, ◌^◌, ◌<◌, ◌≤◌, ◌==◌, Bool, true, false, Some, None, List, [], length}
+use Rattle.art_serial.proofs.Common.{slice_index, refl, sym, ap, ap₂, subst, subst₂, ◌∙◌, arith, if◌then◌else◌, ◌≢◌, nat_tests, get_or-set_same}
+use Rattle.art_serial.proofs.Common.{get_or-set_other, length-set, All-set, none-some, AllPairs-nil, Contains-nil, Shape, Kind, Four, Sixteen}
+use Rattle.art_serial.proofs.Common.{FortyEight, Full, Empty, Leaf, opening, table_words, root_base, info_at, claims_of, first_base, row_words}
+use Rattle.art_serial.proofs.Common.{rows_of, kind_at, is_base_of, child_of, is_locked, is_obsolete, Reached, root, below, Means, child_on}
+use Rattle.art_serial.proofs.Common.{HasForm, IsTree, IsAtRest, TablesOpenAtRest, IsClaimed, AreZeroPastClaims}
+use Rattle.std.proofs.Common.{◌&&◌, nat_le, nat_lt, replicate, slice_set}
 use Rattle.std.proofs.lemmas.Bool.{and_parts}
-use Rattle.std.proofs.lemmas.Bool.Decides.{nat_tests}
-use Rattle.std.proofs.lemmas.List.{get_or-set_same, get_or-set_other, length-set, length-replicate}
-use Rattle.std.proofs.lemmas.List.Elements.{All-set, All-replicate}
-use Rattle.std.proofs.lemmas.Option.{none-some}
-use Rattle.list_laws.proofs.Lists.{AllPairs-nil, Contains-nil}
-use Rattle.art_rows.specs.declared.table.Shape.{Shape}
-use Rattle.art_rows.specs.declared.table.Kind.{Kind}
-use Rattle.art_rows.specs.declared.table.Kind.TheVariants.{Four, Sixteen, FortyEight, Full}
-use Rattle.art_rows.specs.declared.table.Child.TheVariants.{Empty, Row, Leaf}
-use Rattle.art_rows.specs.Table.{opening, table_words, root_base, info_at, claims_of, first_base, row_words, rows_of, kind_at, is_base_of}
-use Rattle.art_rows.specs.Words.{child_of, is_locked, is_obsolete}
-use Rattle.art_core.specs.Meaning.{Reached, root, below, Means, child_on}
-use Rattle.art_core.specs.Forms.{HasForm, IsTree}
-use Rattle.art_serial.specs.trees.Trees.{IsAtRest, TablesOpenAtRest, IsClaimed, AreZeroPastClaims}
+use Rattle.std.proofs.lemmas.List.{length-replicate}
+use Rattle.std.proofs.lemmas.List.Elements.{All-replicate}
+use Rattle.art_rows.specs.declared.table.Child.TheVariants.{Row}
 use Rattle.art_serial.proofs.trees.Infos.{IsInfo}
 use Rattle.art_serial.proofs.trees.Ways.{empty-leaf, empty-row}
 

@@ -1,22 +1,11 @@
 -- A pair is hung in the place of a child whose keys part from the key.
-use Rattle.std.proofs.Common.{◌≡◌, ℕ, ◌+◌, ◌<◌, List, [], ◌∷◌, ◌++◌, length, take, slice_index, refl, sym, ap, ap₂, subst, subst₂, ◌∙◌}
-use Rattle.std.proofs.Common.{arith}
-use Rattle.std.proofs.Common.{⊎_elim, inl, inr}
-use Rattle.std.specs.Prelude.{◌≢◌, ◌⊎◌}
-use Rattle.std.proofs.lemmas.Bool.{cases_eq}
+use Rattle.art_serial.proofs.Common.{◌≡◌, ℕ, ◌+◌, ◌<◌, List, [], ◌∷◌, ◌++◌, length, take, slice_index, refl, sym, ap, ap₂, subst, subst₂, ◌∙◌}
+use Rattle.art_serial.proofs.Common.{arith, ⊎_elim, inl, inr, ◌≢◌, cases_eq, All-take, Shape, Kind, Four, Full, Child, Empty, Leaf, info_at}
+use Rattle.art_serial.proofs.Common.{root_base, key_bytes, info_of, info_word, key_byte-small, Reached, root, below, Hangs, child_on, HasForm}
+use Rattle.art_serial.proofs.Common.{IsTree, level_in, path_in, LeadsTo, ChangesAt, IsPair, Parts, HasRowMore, PairsAreHung}
+use Rattle.std.specs.Prelude.{◌⊎◌}
 use Rattle.std.proofs.lemmas.List.{length-take-le}
-use Rattle.std.proofs.lemmas.List.Elements.{All-take}
-use Rattle.art_rows.specs.declared.table.Shape.{Shape}
-use Rattle.art_rows.specs.declared.table.Kind.{Kind}
-use Rattle.art_rows.specs.declared.table.Kind.TheVariants.{Four, Full}
-use Rattle.art_rows.specs.declared.table.Child.{Child}
-use Rattle.art_rows.specs.declared.table.Child.TheVariants.{Empty, Row, Leaf}
-use Rattle.art_rows.specs.Table.{info_at, root_base}
-use Rattle.art_rows.specs.Words.{key_bytes, info_of, info_word}
-use Rattle.art_rows.proofs.ByteLemmas.{key_byte-small}
-use Rattle.art_core.specs.Meaning.{Reached, root, below, Hangs, child_on}
-use Rattle.art_core.specs.Forms.{HasForm, IsTree, level_in, path_in}
-use Rattle.art_serial.specs.trees.Trees.{LeadsTo, ChangesAt, IsPair, Parts, HasRowMore, PairsAreHung}
+use Rattle.art_rows.specs.declared.table.Child.TheVariants.{Row}
 use Rattle.art_serial.proofs.trees.Bytes.{PartsAt, parts_at, deeper, parted_byte, one_more, take_less}
 use Rattle.art_serial.proofs.trees.InfoWords.{level_back, path_back, path_byte}
 use Rattle.art_serial.proofs.words.ByteLemmas.{key_bytes-small}

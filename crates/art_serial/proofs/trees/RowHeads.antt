@@ -1,12 +1,8 @@
 -- A row whose words before its children are those of another table: its info, its slots and its form.
-use Rattle.std.proofs.Common.{◌≡◌, ℕ, ◌+◌, ◌/◌, ◌%◌, ◌<◌, ◌≤◌, List, slice_index, option_map}
-use Rattle.std.proofs.Common.{refl, sym, ap, ◌∙◌, subst, arith}
-use Rattle.art_rows.specs.declared.table.Kind.{Kind}
-use Rattle.art_rows.specs.declared.table.Kind.TheVariants.{Four, Sixteen, FortyEight, Full}
-use Rattle.art_rows.specs.Table.{info_at, keys_at, more_keys_at, index_at, count_at, child_at, first_child}
-use Rattle.art_rows.specs.Words.{place_of, keys4_of, keys16_of, entries_of}
-use Rattle.art_core.specs.Meaning.{slot_of, entry_slot}
-use Rattle.art_core.specs.Forms.{HasForm}
+use Rattle.art_serial.proofs.Common.{◌≡◌, ℕ, ◌+◌, ◌/◌, ◌%◌, ◌<◌, ◌≤◌, List, slice_index, refl, sym, ap, ◌∙◌, subst, arith, Kind, Four, Sixteen}
+use Rattle.art_serial.proofs.Common.{FortyEight, Full, info_at, keys_at, more_keys_at, index_at, count_at, child_at, first_child, place_of}
+use Rattle.art_serial.proofs.Common.{keys4_of, keys16_of, entries_of, slot_of, entry_slot, HasForm}
+use Rattle.std.proofs.Common.{option_map}
 
 -- words before the children that are the same, by the row's kind: slots, info and form are the same
 module _ (words later : List ℕ) (base : ℕ) where

@@ -1,17 +1,10 @@
 -- Where the slot of a byte stands in its row, and that two bytes have two.
-use Rattle.std.proofs.Common.{◌≡◌, ℕ, suc, ◌+◌, ◌-◌, ◌%◌, ◌<◌, ◌≤◌, ◌==◌, List, [], ◌∷◌, length, slice_index, Option, Some, None}
-use Rattle.std.proofs.Common.{option_map}
-use Rattle.std.proofs.Common.{Bool, true, false, refl, sym, ap, ◌∙◌, subst, arith, if◌then◌else◌}
-use Rattle.std.proofs.lemmas.Option.{none-some, same_Some}
-use Rattle.art_rows.specs.declared.table.Kind.{Kind}
-use Rattle.art_rows.specs.declared.table.Kind.TheVariants.{Four, Sixteen, FortyEight, Full}
-use Rattle.art_rows.specs.Table.{row_words, keys_at, more_keys_at, index_at, count_at, child_at, first_child}
-use Rattle.art_rows.specs.Words.{place_of, keys4_of, keys16_of, entries_of, low_bytes}
-use Rattle.art_rows.proofs.ReaderLemmas.{most_of}
-use Rattle.art_rows.proofs.WriterLemmas.{length-keys16, length-keys4}
-use Rattle.art_rows.proofs.ByteLemmas.{entry_list-most, place-within}
-use Rattle.art_core.specs.Meaning.{slot_of}
-use Rattle.art_core.specs.Forms.{HasForm}
+use Rattle.art_serial.proofs.Common.{◌≡◌, ℕ, suc, ◌+◌, ◌-◌, ◌%◌, ◌<◌, ◌≤◌, ◌==◌, List, [], ◌∷◌, length, slice_index, Some, None, Bool, true}
+use Rattle.art_serial.proofs.Common.{false, refl, sym, ap, ◌∙◌, subst, arith, if◌then◌else◌, none-some, same_Some, Kind, Four, Sixteen}
+use Rattle.art_serial.proofs.Common.{FortyEight, Full, row_words, keys_at, more_keys_at, index_at, count_at, child_at, place_of, keys4_of}
+use Rattle.art_serial.proofs.Common.{keys16_of, entries_of, low_bytes, most_of, length-keys16, length-keys4, entry_list-most, place-within}
+use Rattle.art_serial.proofs.Common.{slot_of, HasForm}
+use Rattle.std.proofs.Common.{Option, option_map}
 use Rattle.std.proofs.lemmas.Bool.{eqb-true}
 
 -- a word of the row behind its version
@@ -101,28 +94,3 @@ one_slot words base Sixteen x y slot form low high here there =
 one_slot words base FortyEight x y slot form low high here there = form.1 x y slot low high here there
 one_slot words base Full x y slot form low high here there =
     omega (arith, same_Some (child_at Full base x) slot here, same_Some (child_at Full base y) slot there)
-
--- a slot stands among the children
-abbrev pub IsChild : ℕ → Kind → ℕ → Type 0
-IsChild base kind slot = (i : ℕ) × (slot ≡ base + first_child kind + i)
-
-shifted : (base : ℕ) (kind : Kind) (first : ℕ) (o : Option ℕ) (slot : ℕ) → first ≡ first_child kind
-    → option_map (λ i. base + first + i) o ≡ Some slot
-    → IsChild base kind slot
-shifted base kind first None slot e h = absurd (none-some slot h)
-shifted base kind first (Some i) slot e h = (i, sym (same_Some (base + first + i) slot h) ∙ ap (λ f. base + f + i) e)
-
-pub child_slot : (words : List ℕ) (base : ℕ) (kind : Kind) (x slot : ℕ) → slot_of words base kind x ≡ Some slot → IsChild base kind slot
-child_slot words base Four x slot h = shifted base Four 3 (place_of x (keys4_of (slice_index words (keys_at base)))) slot refl h
-child_slot words base Sixteen x slot h =
-    shifted base Sixteen 5
-    (place_of x (keys16_of (slice_index words (count_at Sixteen base)) (slice_index words (keys_at base))
-    (slice_index words (more_keys_at base)))) slot refl h
-child_slot words base FortyEight x slot h =
-    go (slice_index (entries_of (slice_index words (index_at base x))) (x % 8) == 0)
-    (slice_index (entries_of (slice_index words (index_at base x))) (x % 8)) h
-  where
-    go : (b : Bool) (e : ℕ) → (if b then None else Some (child_at FortyEight base (e - 1))) ≡ Some slot → IsChild base FortyEight slot
-    go true e k = absurd (none-some slot k)
-    go false e k = (e - 1, sym (same_Some (child_at FortyEight base (e - 1)) slot k))
-child_slot words base Full x slot h = (x, sym (same_Some (child_at Full base x) slot h))

@@ -1,14 +1,8 @@
 -- A row whose words but the version are those of another table: what hangs on its bytes, and its form.
-use Rattle.std.proofs.Common.{◌≡◌, ℕ, ◌<◌, List, slice_index, Option, Some, None}
-use Rattle.std.proofs.Common.{refl, sym, ap, ◌∙◌, arith}
-use Rattle.art_rows.specs.declared.table.Shape.{Shape}
-use Rattle.art_rows.specs.declared.table.Kind.{Kind}
-use Rattle.art_rows.specs.Table.{info_at}
-use Rattle.art_rows.specs.Words.{child_of}
+use Rattle.art_serial.proofs.Common.{◌≡◌, ℕ, ◌<◌, List, slice_index, Some, None, refl, sym, ap, ◌∙◌, arith, Shape, Kind, info_at, child_of}
+use Rattle.art_serial.proofs.Common.{slot_of, child_in, child_on, HasForm, SameRow}
+use Rattle.std.proofs.Common.{Option}
 use Rattle.art_rows.proofs.KindLemmas.{first-within}
-use Rattle.art_core.specs.Meaning.{slot_of, child_in, child_on}
-use Rattle.art_core.specs.Forms.{HasForm}
-use Rattle.art_serial.specs.trees.Trees.{SameRow}
 use Rattle.art_serial.proofs.trees.RowHeads.{SameHead, head_info, head_slot, head_form}
 use Rattle.art_serial.proofs.trees.RowSlots.{slot_inside}
 

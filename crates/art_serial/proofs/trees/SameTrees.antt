@@ -1,9 +1,6 @@
 -- Tables that say the same of each reached row.
-use Rattle.std.proofs.Common.{ℕ, List, sym, ◌∙◌}
-use Rattle.art_rows.specs.declared.table.Shape.{Shape}
-use Rattle.art_core.specs.Meaning.{Hangs}
-use Rattle.art_core.specs.Forms.{IsTree}
-use Rattle.art_serial.specs.trees.Trees.{SameTree, SameTreesAreOne}
+use Rattle.art_serial.proofs.Common.{ℕ, List, sym, ◌∙◌, Shape, Hangs, IsTree, SameTreesAreOne}
+use Rattle.art_serial.specs.trees.Trees.{SameTree}
 use Rattle.art_serial.proofs.trees.SameRows.{child_same, form_same, info_same}
 use Rattle.art_serial.proofs.trees.KeptRows.{KeepsRows, reached_before, reached_after, kept_tree}
 

@@ -1,20 +1,10 @@
 -- A walk down from the root, by rising bytes, finds what the words mean.
-use Rattle.std.proofs.Common.{◌≡◌, ℕ, zero, suc, ◌+◌, ◌/◌, ◌%◌, ◌^◌, ◌<◌, ◌≤◌, List, [], ◌∷◌, ◌++◌, take, slice_index, All, Contains}
-use Rattle.std.proofs.Common.{flat_map}
-use Rattle.std.proofs.Common.{refl, sym, ap, subst, ◌∙◌, arith, ⊎_elim}
-use Rattle.list_laws.proofs.Lists.{AllPairs-nil, Contains-first, Contains-nil, Contains-cases}
-use Rattle.art_rows.specs.declared.table.Shape.{Shape}
-use Rattle.art_rows.specs.declared.table.Kind.{Kind}
-use Rattle.art_rows.specs.declared.table.Kind.TheVariants.{Full}
-use Rattle.art_rows.specs.declared.table.Child.{Child}
-use Rattle.art_rows.specs.declared.table.Child.TheVariants.{Empty, Row, Leaf}
-use Rattle.art_rows.specs.Table.{root_base, info_at}
-use Rattle.art_rows.specs.Words.{key_bytes}
-use Rattle.map_object.specs.MapObject.{IsRising}
-use Rattle.art_steps.specs.Steps.{numbers}
-use Rattle.art_core.specs.Meaning.{Reached, root, below, Hangs, Means, child_on, pairs_in, pairs_below}
-use Rattle.art_core.specs.Forms.{IsTree, level_in, path_in}
-use Rattle.art_serial.specs.trees.Trees.{TreesAreWalked}
+use Rattle.art_serial.proofs.Common.{◌≡◌, ℕ, zero, suc, ◌+◌, ◌/◌, ◌%◌, ◌^◌, ◌<◌, ◌≤◌, List, [], ◌∷◌, ◌++◌, take, slice_index, refl, sym, ap}
+use Rattle.art_serial.proofs.Common.{subst, ◌∙◌, arith, ⊎_elim, AllPairs-nil, Contains-first, Contains-nil, Contains-cases, Shape, Kind, Full}
+use Rattle.art_serial.proofs.Common.{Child, Empty, Leaf, root_base, info_at, key_bytes, IsRising, numbers, Reached, root, below, Hangs, Means}
+use Rattle.art_serial.proofs.Common.{child_on, pairs_in, pairs_below, IsTree, level_in, path_in, TreesAreWalked}
+use Rattle.std.proofs.Common.{All, Contains, flat_map}
+use Rattle.art_rows.specs.declared.table.Child.TheVariants.{Row}
 use Rattle.art_serial.proofs.trees.Bytes.{path_and_byte, take_less}
 use Rattle.art_serial.proofs.trees.InfoWords.{level_small}
 use Rattle.art_serial.proofs.trees.Concatenations.{found_from, found_at, found_rising}

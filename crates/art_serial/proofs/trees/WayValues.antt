@@ -1,12 +1,7 @@
 -- What the map has at a key, by what hangs on the key's byte of a row that its way leads to.
-use Rattle.std.proofs.Common.{◌≡◌, ℕ, ◌<◌, Some, take, sym, ap, ap₂, subst, ◌∙◌, ⊎_elim}
-use Rattle.art_rows.specs.declared.table.Kind.{Kind}
-use Rattle.art_rows.specs.declared.table.Child.TheVariants.{Row, Leaf}
-use Rattle.art_rows.specs.Words.{key_bytes, first_difference}
-use Rattle.art_rows.proofs.ByteLemmas.{key_byte-small}
-use Rattle.art_core.specs.Meaning.{Hangs}
-use Rattle.art_core.specs.Forms.{level_in, path_in}
-use Rattle.art_serial.specs.trees.Trees.{LeadsTo, WaysLeadToValues}
+use Rattle.art_serial.proofs.Common.{◌≡◌, ℕ, ◌<◌, Some, take, sym, ap, ap₂, subst, ◌∙◌, ⊎_elim, Kind, Leaf, key_bytes, first_difference}
+use Rattle.art_serial.proofs.Common.{key_byte-small, Hangs, level_in, path_in, LeadsTo, WaysLeadToValues}
+use Rattle.art_rows.specs.declared.table.Child.TheVariants.{Row}
 use Rattle.art_serial.proofs.trees.Bytes.{begins_not}
 use Rattle.art_serial.proofs.trees.MapValues.{value_of, no_value}
 use Rattle.art_serial.proofs.trees.Ways.{found_at, empty-leaf, empty-row, row-leaf, same_base, same_kind, same_key}

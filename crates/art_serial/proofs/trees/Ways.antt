@@ -1,18 +1,9 @@
 -- The way of a key's bytes down from the root: two reached rows whose paths both begin the bytes are one above the other.
-use Rattle.std.proofs.Common.{◌≡◌, ℕ, zero, suc, ◌+◌, ◌<◌, List, length, take, slice_index, refl, sym, ap, ap₂, subst, subst₂, ◌∙◌, arith}
-use Rattle.std.proofs.Common.{⊎_elim, inl, inr}
+use Rattle.art_serial.proofs.Common.{◌≡◌, ℕ, zero, suc, ◌+◌, ◌<◌, List, length, take, slice_index, refl, sym, ap, ap₂, subst, subst₂, ◌∙◌, arith}
+use Rattle.art_serial.proofs.Common.{⊎_elim, inl, inr, cases_lt, cases_eq, Shape, Kind, Full, Child, Empty, Leaf, info_at, root_base, key_bytes}
+use Rattle.art_serial.proofs.Common.{Reached, root, below, child_on, Hangs, IsTree, level_in, path_in, LeadsTo}
 use Rattle.std.specs.Prelude.{◌⊎◌}
-use Rattle.std.proofs.lemmas.Bool.{cases_lt, cases_eq}
-use Rattle.art_rows.specs.declared.table.Shape.{Shape}
-use Rattle.art_rows.specs.declared.table.Kind.{Kind}
-use Rattle.art_rows.specs.declared.table.Kind.TheVariants.{Full}
-use Rattle.art_rows.specs.declared.table.Child.{Child}
-use Rattle.art_rows.specs.declared.table.Child.TheVariants.{Empty, Row, Leaf}
-use Rattle.art_rows.specs.Table.{info_at, root_base}
-use Rattle.art_rows.specs.Words.{key_bytes}
-use Rattle.art_core.specs.Meaning.{Reached, root, below, child_on, Hangs}
-use Rattle.art_core.specs.Forms.{IsTree, level_in, path_in}
-use Rattle.art_serial.specs.trees.Trees.{LeadsTo}
+use Rattle.art_rows.specs.declared.table.Child.TheVariants.{Row}
 use Rattle.art_serial.proofs.trees.InfoWords.{level_small}
 use Rattle.art_serial.proofs.trees.Bytes.{path_and_byte, take_less}
 

@@ -1,21 +1,10 @@
 -- The pairs below a row: whose keys they have, how they rise, and that all that hangs is among them.
-use Rattle.std.proofs.Common.{◌≡◌, ℕ, zero, suc, ◌+◌, ◌/◌, ◌%◌, ◌^◌, ◌<◌, ◌≤◌, List, [], ◌∷◌, ◌++◌, refl, sym, ap, ◌∙◌, subst, arith}
-use Rattle.std.proofs.Common.{⊎_elim, take-take, Bool}
-use Rattle.std.proofs.Common.{true, false}
-use Rattle.std.specs.Prelude.{◌==◌, Option, Some, None, All, Contains, length, take, slice_index, if◌then◌else◌}
-use Rattle.map_object.specs.MapObject.{Contents}
-use Rattle.art_rows.specs.declared.table.Shape.{Shape}
-use Rattle.art_rows.specs.declared.table.Kind.{Kind}
-use Rattle.art_rows.specs.declared.table.Child.{Child}
-use Rattle.art_rows.specs.declared.table.Child.TheVariants.{Empty, Row, Leaf}
-use Rattle.art_rows.specs.Table.{kind_at}
-use Rattle.art_rows.specs.Words.{key_bytes, child_of, row_child}
-use Rattle.art_steps.specs.Steps.{numbers}
-use Rattle.art_core.specs.Meaning.{Reached, below, slot_of, child_in, child_on, pairs_in, pairs_below}
-use Rattle.art_core.specs.Forms.{IsTree, level_in, path_in}
-use Rattle.list_laws.proofs.Lists.{Contains-nil, Contains-cases}
-use Rattle.std.proofs.lemmas.Bool.{false≢true}
-use Rattle.std.proofs.lemmas.List.{take-append-le}
+use Rattle.art_serial.proofs.Common.{◌≡◌, ℕ, zero, suc, ◌+◌, ◌/◌, ◌%◌, ◌^◌, ◌<◌, ◌≤◌, List, [], ◌∷◌, ◌++◌, refl, sym, ap, ◌∙◌, subst, arith}
+use Rattle.art_serial.proofs.Common.{⊎_elim, take-take, Bool, true, false, Option, All, Contains, Contents, Shape, Kind, Child, Empty, Leaf}
+use Rattle.art_serial.proofs.Common.{kind_at, key_bytes, child_of, row_child, numbers, Reached, below, slot_of, child_in, child_on, pairs_in}
+use Rattle.art_serial.proofs.Common.{pairs_below, IsTree, level_in, path_in, Contains-nil, Contains-cases, false≢true, take-append-le}
+use Rattle.std.specs.Prelude.{◌==◌, Some, None, length, take, slice_index, if◌then◌else◌}
+use Rattle.art_rows.specs.declared.table.Child.TheVariants.{Row}
 use Rattle.art_serial.proofs.walks.FlatLemmas.{Contains-from_flat_map}
 use Rattle.art_serial.proofs.walks.NumberLemmas.{Contains-from_numbers}
 use Rattle.art_serial.proofs.walks.KeyLemmas.{BeginsWith}

@@ -1,16 +1,10 @@
 -- A scan that runs alone walks the children of a row, byte by byte.
-use Rattle.std.proofs.Common.{◌≡◌, ℕ, ◌<◌, ◌≤◌, List, [], ◌∷◌, ◌++◌, length, slice_index, All, AllPairs, sym, ap, ◌∙◌, subst, arith}
-use Rattle.std.proofs.Common.{Bool}
-use Rattle.std.specs.Prelude.{Contains, flat_map}
-use Rattle.std.proofs.lemmas.List.{append-nil, append_assoc, length-append}
-use Rattle.std.proofs.lemmas.List.Concat.{flat_map-cons}
-use Rattle.std.proofs.lemmas.List.Elements.{All-nil, All-append, All-weaker, All-contains}
-use Rattle.list_laws.proofs.Lists.{AllPairs-head, AllPairs-tail, Contains-first, Contains-later}
-use Rattle.map_object.specs.MapObject.{Contents}
-use Rattle.art_steps.specs.Steps.{Part, over}
-use Rattle.art_steps.specs.Rows.{Setting, Row}
-use Rattle.art_steps.specs.Scan.{Walked}
-use Rattle.art_serial.specs.trees.Trees.{IsAtRest}
+use Rattle.art_serial.proofs.Common.{◌≡◌, ℕ, ◌<◌, ◌≤◌, List, [], ◌∷◌, ◌++◌, length, slice_index, sym, ap, ◌∙◌, subst, arith, Bool, Contains}
+use Rattle.art_serial.proofs.Common.{flat_map, append-nil, length-append, flat_map-cons, All-nil, All-append, All-weaker, All-contains}
+use Rattle.art_serial.proofs.Common.{AllPairs-head, AllPairs-tail, Contains-first, Contains-later, Contents, Part, over, Setting, Row, Walked}
+use Rattle.art_serial.proofs.Common.{IsAtRest}
+use Rattle.std.proofs.Common.{All, AllPairs}
+use Rattle.std.proofs.lemmas.List.{append_assoc}
 use Rattle.art_serial.proofs.alone.AloneLemmas.{over_none-comes, over-comes}
 use Rattle.art_serial.proofs.walks.EnterLemmas.{Walking}
 use Rattle.art_serial.proofs.walks.VisitLemmas.{Walks}

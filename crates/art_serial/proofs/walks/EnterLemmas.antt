@@ -1,16 +1,9 @@
 -- A scan that runs alone enters a row, and lets all its rows go.
-use Rattle.std.proofs.Common.{◌≡◌, ℕ, ◌==◌, ◌⊎◌, inl, inr, List, [], ◌∷◌, ◌++◌, slice_index, slice_set, All, refl, sym, ap, ◌∙◌, subst}
-use Rattle.std.proofs.Common.{Bool, true, false, if◌then◌else◌, eqb-true, eq-eqb}
-use Rattle.std.proofs.lemmas.Bool.{false≢true}
-use Rattle.std.proofs.lemmas.List.Elements.{All-head, All-tail, All-push, All-weaker}
-use Rattle.art_rows.specs.declared.table.Kind.{Kind}
-use Rattle.art_rows.specs.Words.{is_locked, is_obsolete, locked_word, released_word}
-use Rattle.art_steps.specs.Rows.{Setting, Row, locks, lock, wait, unlock_all, check_of}
-use Rattle.art_steps.specs.Steps.{each}
-use Rattle.art_steps.specs.Scan.{has_row, enter}
-use Rattle.art_core.specs.Meaning.{Reached}
-use Rattle.art_serial.specs.trees.Trees.{IsAtRest}
-use Rattle.art_serial.specs.alone.Alone.{Comes, unlocked_rows}
+use Rattle.art_serial.proofs.Common.{◌≡◌, ℕ, ◌==◌, ◌⊎◌, inl, inr, List, [], ◌∷◌, ◌++◌, slice_index, refl, sym, ap, ◌∙◌, subst, Bool, true, false}
+use Rattle.art_serial.proofs.Common.{if◌then◌else◌, eqb-true, eq-eqb, false≢true, All-head, All-tail, All-push, All-weaker, Kind, is_locked}
+use Rattle.art_serial.proofs.Common.{is_obsolete, locked_word, released_word, Setting, Row, locks, lock, wait, unlock_all, check_of, each}
+use Rattle.art_serial.proofs.Common.{has_row, enter, Reached, IsAtRest, Comes, unlocked_rows}
+use Rattle.std.proofs.Common.{slice_set, All}
 use Rattle.art_serial.proofs.alone.AloneLemmas.{if_true-comes, if_false-comes, each_none-comes, each-comes}
 use Rattle.art_serial.proofs.alone.RowRunLemmas.{with_lock, lock-comes, wait-comes, unlock_all-comes, check_of-comes}
 use Rattle.art_serial.proofs.alone.VersionLemmas.{locked-live, released-live, released-free, locked-small, released-small}

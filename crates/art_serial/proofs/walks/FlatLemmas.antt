@@ -1,10 +1,7 @@
 -- Members and orders of lists that are joined from a list for each element.
-use Rattle.std.proofs.Common.{List, [], ◌∷◌, sym, subst, ⊎_elim}
-use Rattle.std.specs.Prelude.{All, AllPairs, Contains, flat_map}
-use Rattle.std.proofs.lemmas.List.Concat.{flat_map-cons}
-use Rattle.std.proofs.lemmas.List.Elements.{Contains-append_left, Contains-append_right, Contains-append_cases, All-contains}
-use Rattle.list_laws.proofs.Lists.{AllPairs-nil, AllPairs-append, AllPairs-head, AllPairs-tail, Contains-first, Contains-later}
-use Rattle.list_laws.proofs.Lists.{Contains-nil, Contains-cases, All-from_contains}
+use Rattle.art_serial.proofs.Common.{List, [], ◌∷◌, sym, subst, ⊎_elim, All, AllPairs, Contains, flat_map, flat_map-cons, Contains-append_left}
+use Rattle.art_serial.proofs.Common.{Contains-append_right, Contains-append_cases, All-contains, AllPairs-nil, AllPairs-append, AllPairs-head}
+use Rattle.art_serial.proofs.Common.{AllPairs-tail, Contains-first, Contains-later, Contains-nil, Contains-cases, All-from_contains}
 
 pub Contains-flat_map : {X A : Type 0} (f : X → List A) (xs : List X) (x : X) (a : A) → Contains xs x → Contains (f x) a
     → Contains (flat_map f xs) a

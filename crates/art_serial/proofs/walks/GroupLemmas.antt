@@ -1,11 +1,8 @@
 -- Rising bytes, eight by eight.
-use Rattle.std.proofs.Common.{◌≡◌, ℕ, ◌/◌, ◌<◌, ◌==◌, List, [], ◌∷◌, ◌++◌, AllPairs, refl, sym, ap, ◌∙◌, arith, eqb-true, eq-eqb}
-use Rattle.std.specs.Prelude.{Contains, flat_map, filter}
-use Rattle.std.proofs.lemmas.List.Kept.{AllPairs-filter}
+use Rattle.art_serial.proofs.Common.{◌≡◌, ℕ, ◌/◌, ◌<◌, ◌==◌, List, [], ◌∷◌, ◌++◌, refl, sym, ap, ◌∙◌, arith, eqb-true, eq-eqb, Contains}
+use Rattle.art_serial.proofs.Common.{flat_map, filter, AllPairs-filter, flat_map-cons, Contains-filter, Contains-from_filter, numbers}
+use Rattle.std.proofs.Common.{AllPairs}
 use Rattle.std.proofs.lemmas.Grind.{flat_map-append}
-use Rattle.std.proofs.lemmas.List.Concat.{flat_map-cons}
-use Rattle.list_laws.proofs.FilterLemmas.{Contains-filter, Contains-from_filter}
-use Rattle.art_steps.specs.Steps.{numbers}
 use Rattle.art_serial.proofs.walks.FlatLemmas.{Contains-flat_map, Contains-from_flat_map, AllPairs-flat_map}
 use Rattle.art_serial.proofs.walks.OrderLemmas.{same_members-same}
 use Rattle.art_serial.proofs.walks.NumberLemmas.{Contains-numbers, numbers-rise}

@@ -1,7 +1,6 @@
 -- Keys and their bytes.
-use Rattle.std.proofs.Common.{◌≡◌, ℕ, suc, List, [], ◌∷◌, ◌++◌}
+use Rattle.art_serial.proofs.Common.{◌≡◌, ℕ, suc, List, [], ◌∷◌, ◌++◌, key_bytes}
 use Rattle.std.specs.Prelude.{length, take}
-use Rattle.art_rows.specs.Words.{key_bytes}
 
 -- The key begins with the bytes and then x.
 abbrev pub BeginsWith : List ℕ → ℕ → ℕ → Type 0

@@ -1,10 +1,7 @@
 -- Numbers in a row.
-use Rattle.std.proofs.Common.{ℕ, zero, suc, ◌+◌, ◌<◌, ◌≤◌, ◌∷◌, subst, arith, ⊎_elim}
-use Rattle.std.specs.Prelude.{AllPairs, Contains}
+use Rattle.art_serial.proofs.Common.{ℕ, zero, suc, ◌+◌, ◌<◌, ◌≤◌, ◌∷◌, subst, arith, ⊎_elim, AllPairs, Contains, AllPairs-cons, AllPairs-nil}
+use Rattle.art_serial.proofs.Common.{Contains-first, Contains-later, Contains-nil, Contains-cases, All-from_contains, numbers}
 use Rattle.std.proofs.Math.Nat.{eq-or-lt_of_le}
-use Rattle.std.proofs.lemmas.List.Kept.{AllPairs-cons}
-use Rattle.list_laws.proofs.Lists.{AllPairs-nil, Contains-first, Contains-later, Contains-nil, Contains-cases, All-from_contains}
-use Rattle.art_steps.specs.Steps.{numbers}
 
 pub Contains-numbers : (first n x : ℕ) → first ≤ x → x < first + n → Contains (numbers first n) x
 Contains-numbers first zero x low high = absurd (omega (arith, low, high))

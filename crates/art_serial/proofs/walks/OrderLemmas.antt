@@ -1,8 +1,6 @@
 -- Lists in order, and their members.
-use Rattle.std.proofs.Common.{◌≡◌, List, [], ◌∷◌, refl, sym, ap, ◌∙◌, subst, ⊎_elim}
-use Rattle.std.specs.Prelude.{All, AllPairs, Contains}
-use Rattle.std.proofs.lemmas.List.Elements.{All-contains}
-use Rattle.list_laws.proofs.Lists.{AllPairs-head, AllPairs-tail, Contains-first, Contains-later, Contains-nil, Contains-cases}
+use Rattle.art_serial.proofs.Common.{◌≡◌, List, [], ◌∷◌, refl, sym, ap, ◌∙◌, subst, ⊎_elim, All, AllPairs, Contains, All-contains, AllPairs-head}
+use Rattle.art_serial.proofs.Common.{AllPairs-tail, Contains-first, Contains-later, Contains-nil, Contains-cases}
 
 -- A list in an order by which no two elements stand before each other is determined by its members.
 module _ {X : Type 0} (R : X → X → Type 0) (asymmetric : (x y : X) → R x y → R y x → ⊥) where

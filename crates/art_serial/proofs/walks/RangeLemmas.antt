@@ -1,18 +1,13 @@
 -- The pairs of a row within a range: those under the bytes under which a key of the range can lie.
-use Rattle.std.proofs.Common.{◌≡◌, ℕ, ◌+◌, ◌-◌, ◌*◌, ◌/◌, ◌^◌, ◌<◌, ◌≤◌, List, [], ◌∷◌, ◌++◌, refl, sym, ap, ◌∙◌, subst, arith, Bool, true}
-use Rattle.std.proofs.Common.{false}
-use Rattle.std.specs.Prelude.{◌&&◌, nat_lt, nat_le, Contains, length, filter, flat_map, slice_index}
-use Rattle.map_object.specs.MapObject.{Contents, within}
+use Rattle.art_serial.proofs.Common.{◌≡◌, ℕ, ◌+◌, ◌-◌, ◌*◌, ◌/◌, ◌^◌, ◌<◌, ◌≤◌, List, [], ◌∷◌, ◌++◌, refl, sym, ap, ◌∙◌, subst, arith, Bool}
+use Rattle.art_serial.proofs.Common.{true, false, ◌&&◌, nat_lt, nat_le, Contains, filter, flat_map, Contents, within, Row, can_lie, nat_tests}
+use Rattle.art_serial.proofs.Common.{false≢true, lt-ltb, le-leb, length-append, flat_map-cons, Contains-first, Contains-later, All-from_contains}
+use Rattle.std.specs.Prelude.{length, slice_index}
 use Rattle.art_rows.specs.Words.{big_endian}
-use Rattle.art_steps.specs.Rows.{Row}
-use Rattle.art_steps.specs.Scan.{can_lie}
-use Rattle.std.proofs.lemmas.Bool.Decides.{nat_tests}
-use Rattle.std.proofs.lemmas.Bool.{false≢true, false_from_ne_true, lt-ltb, le-leb}
-use Rattle.std.proofs.lemmas.List.{length-append}
-use Rattle.std.proofs.lemmas.List.Concat.{flat_map-cons}
+use Rattle.std.proofs.lemmas.Bool.{false_from_ne_true}
 use Rattle.std.proofs.lemmas.List.Elements.{filter-append}
 use Rattle.list_laws.proofs.FilterLemmas.{filter_yes}
-use Rattle.list_laws.proofs.Lists.{Contains-first, Contains-later, filter_none, All-from_contains}
+use Rattle.list_laws.proofs.Lists.{filter_none}
 use Rattle.art_serial.proofs.walks.KeyLemmas.{BeginsWith}
 
 -- the number of the bytes that a key begins with

@@ -1,25 +1,13 @@
 -- A scan that runs alone walks a row, by its kind.
-use Rattle.std.proofs.Common.{◌≡◌, ℕ, suc, ◌+◌, ◌-◌, ◌*◌, ◌/◌, ◌%◌, ◌<◌, ◌≤◌, ◌==◌, List, [], ◌∷◌, ◌++◌, length, slice_index, AllPairs}
-use Rattle.std.proofs.Common.{refl, sym, ap, ◌∙◌}
-use Rattle.std.proofs.Common.{subst, arith}
-use Rattle.std.proofs.Common.{Bool, true, false, if◌then◌else◌, Option, Some, None, eqb-true}
-use Rattle.std.specs.Prelude.{Contains, flat_map, option_map}
-use Rattle.std.proofs.lemmas.List.Elements.{All-weaker, All-contains}
-use Rattle.std.proofs.lemmas.List.Kept.{AllPairs-filter}
-use Rattle.list_laws.proofs.Lists.{All-from_contains}
-use Rattle.list_laws.proofs.FilterLemmas.{Contains-from_filter}
-use Rattle.map_object.specs.MapObject.{Contents, within}
-use Rattle.art_rows.specs.declared.table.Kind.{Kind}
-use Rattle.art_rows.specs.declared.table.Kind.TheVariants.{Four, Sixteen, FortyEight, Full}
-use Rattle.art_rows.specs.Table.{first_child, row_words, child_at, keys_at, more_keys_at, count_at, index_at}
-use Rattle.art_rows.specs.Words.{child_of, keys4_of, keys16_of, place_of, entries_of}
-use Rattle.art_steps.specs.Steps.{Part, ◌>>=◌, give, load, over, numbers}
-use Rattle.art_steps.specs.Rows.{Setting, Row, locks, load_child}
-use Rattle.art_steps.specs.Scan.{Walked, walk_child, walk_slot, walk_place, walk_keys, walk_entry, walk_index, walk_in}
-use Rattle.art_core.specs.Meaning.{Reached, child_in, child_on, slot_of, entry_slot, pairs_in, pairs_below}
-use Rattle.art_core.specs.Forms.{level_in, path_in}
-use Rattle.art_serial.specs.trees.Trees.{IsAtRest}
-use Rattle.art_serial.specs.alone.Alone.{Comes}
+use Rattle.art_serial.proofs.Common.{◌≡◌, ℕ, suc, ◌+◌, ◌-◌, ◌*◌, ◌/◌, ◌%◌, ◌<◌, ◌≤◌, ◌==◌, List, [], ◌∷◌, ◌++◌, length, slice_index, refl, sym}
+use Rattle.art_serial.proofs.Common.{ap, ◌∙◌, subst, arith, Bool, true, false, if◌then◌else◌, Some, None, eqb-true, Contains, flat_map}
+use Rattle.art_serial.proofs.Common.{option_map, All-weaker, All-contains, AllPairs-filter, All-from_contains, Contains-from_filter, Contents}
+use Rattle.art_serial.proofs.Common.{within, Kind, Four, Sixteen, FortyEight, Full, first_child, row_words, child_at, keys_at, more_keys_at}
+use Rattle.art_serial.proofs.Common.{count_at, index_at, child_of, keys4_of, keys16_of, place_of, entries_of, Part, ◌>>=◌, give, load, over}
+use Rattle.art_serial.proofs.Common.{numbers, Setting, Row, locks, load_child, Walked, walk_child, walk_in, Reached, child_in, child_on, slot_of}
+use Rattle.art_serial.proofs.Common.{entry_slot, pairs_in, pairs_below, level_in, path_in, IsAtRest, Comes}
+use Rattle.std.proofs.Common.{AllPairs, Option}
+use Rattle.art_steps.specs.Scan.{walk_slot, walk_place, walk_keys, walk_entry, walk_index}
 use Rattle.art_serial.proofs.alone.AloneLemmas.{give-comes, bind-comes, load-comes}
 use Rattle.art_serial.proofs.alone.SlotLemmas.{slot-is}
 use Rattle.art_serial.proofs.alone.LikeLemmas.{Like, like-row}

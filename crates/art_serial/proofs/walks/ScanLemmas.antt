@@ -1,25 +1,16 @@
 -- A scan, alone on a table at rest, answers the map's pairs of its range.
-use Rattle.std.proofs.Common.{◌≡◌, ℕ, suc, ◌≤◌, List, [], ◌∷◌, length, slice_index, refl, sym, ap, subst, arith, Bool, true, false}
-use Rattle.std.proofs.Common.{if◌then◌else◌, cond, filter}
-use Rattle.std.proofs.lemmas.List.Elements.{All-nil, All-push}
-use Rattle.events.specs.declared.event.Call.TheVariants.{Scan}
+use Rattle.art_serial.proofs.Common.{◌≡◌, ℕ, suc, ◌≤◌, List, [], ◌∷◌, length, slice_index, refl, sym, ap, subst, arith, Bool, true, false}
+use Rattle.art_serial.proofs.Common.{if◌then◌else◌, cond, All-nil, All-push, Scan, Contents, within, Full, root_base, info_at, info_of, ◌>>=◌}
+use Rattle.art_serial.proofs.Common.{◌>>◌, give, each, Setting, locks, root_row, unlock_all, check_of, Walked, with_row, walk_from, procedure}
+use Rattle.art_serial.proofs.Common.{act, root, pairs_below, level_in, path_in, IsAtRest, SameTreesAreOne, MapsAreOne, TreesAreWalked, HasRows}
+use Rattle.art_serial.proofs.Common.{RunsAlone, Comes, ScansAreTheMaps}
+use Rattle.std.proofs.Common.{filter}
 use Rattle.events.specs.declared.event.Reply.TheVariants as reply
-use Rattle.map_object.specs.MapObject.{Contents, within}
-use Rattle.art_rows.specs.declared.table.Kind.TheVariants.{Full}
-use Rattle.art_rows.specs.Table.{root_base, info_at}
-use Rattle.art_rows.specs.Words.{info_of}
-use Rattle.art_steps.specs.Steps.{◌>>=◌, ◌>>◌, give, each}
-use Rattle.art_steps.specs.Rows.{Setting, locks, root_row, unlock_all, check_of}
-use Rattle.art_steps.specs.Scan.{Walked, with_row, walk_from, scan}
-use Rattle.art_steps.specs.Act.{procedure, act}
-use Rattle.art_core.specs.Meaning.{root, pairs_of, pairs_below}
-use Rattle.art_core.specs.Forms.{level_in, path_in}
-use Rattle.art_serial.specs.trees.Trees.{IsAtRest, SameTreesAreOne, MapsAreOne, TreesAreWalked, HasRows}
-use Rattle.art_serial.specs.alone.Alone.{RunsAlone, Comes}
+use Rattle.art_steps.specs.Scan.{scan}
+use Rattle.art_core.specs.Meaning.{pairs_of}
 use Rattle.art_serial.proofs.alone.AloneLemmas.{give-comes, bind-comes, then-comes, act-comes}
 use Rattle.art_serial.proofs.alone.LikeLemmas.{Like, Nothing, like-start, like-row}
 use Rattle.art_serial.proofs.alone.RestLemmas.{like-settles, at-rest}
-use Rattle.art_serial.specs.walks.Walks.{ScansAreTheMaps}
 use Rattle.art_serial.proofs.walks.RangeLemmas.{in_range}
 use Rattle.art_serial.proofs.walks.EnterLemmas.{HeldIn, Stands, enters, lets-go}
 use Rattle.art_serial.proofs.walks.VisitLemmas.{GoesBy, goes-longer}

@@ -1,19 +1,11 @@
 -- A scan that runs alone walks a tree at rest.
-use Rattle.std.proofs.Common.{◌≡◌, ℕ, zero, suc, ◌+◌, ◌<◌, ◌≤◌, List, [], ◌∷◌, ◌++◌, length, AllPairs, refl, sym, ap, ◌∙◌, subst, arith}
-use Rattle.std.proofs.Common.{Bool}
-use Rattle.std.specs.Prelude.{Contains, flat_map}
-use Rattle.std.proofs.lemmas.List.Kept.{AllPairs-filter}
-use Rattle.list_laws.proofs.FilterLemmas.{Contains-from_filter}
-use Rattle.map_object.specs.MapObject.{Contents, within}
-use Rattle.art_rows.specs.declared.table.Kind.{Kind}
-use Rattle.art_rows.specs.declared.table.Kind.TheVariants.{Four, Sixteen, FortyEight, Full}
-use Rattle.art_steps.specs.Steps.{Part, numbers}
-use Rattle.art_steps.specs.Rows.{Setting, Row, locks}
-use Rattle.art_steps.specs.Scan.{Walked, can_lie, bytes_of, walk_in, walk_bytes, walk_from}
+use Rattle.art_serial.proofs.Common.{◌≡◌, ℕ, zero, suc, ◌+◌, ◌<◌, ◌≤◌, List, [], ◌∷◌, ◌++◌, length, refl, sym, ap, ◌∙◌, subst, arith, Bool}
+use Rattle.art_serial.proofs.Common.{Contains, flat_map, AllPairs-filter, Contains-from_filter, Contents, within, Kind, Four, Sixteen}
+use Rattle.art_serial.proofs.Common.{FortyEight, Full, Part, numbers, Setting, Row, locks, Walked, can_lie, walk_in, walk_from, Reached}
+use Rattle.art_serial.proofs.Common.{pairs_below, level_in, path_in, IsAtRest}
+use Rattle.std.proofs.Common.{AllPairs}
+use Rattle.art_steps.specs.Scan.{bytes_of, walk_bytes}
 use Rattle.art_steps.proofs.GuardLemmas.{walk_from-body}
-use Rattle.art_core.specs.Meaning.{Reached, pairs_below}
-use Rattle.art_core.specs.Forms.{level_in, path_in}
-use Rattle.art_serial.specs.trees.Trees.{IsAtRest}
 use Rattle.art_serial.proofs.alone.AloneLemmas.{same-comes}
 use Rattle.art_serial.proofs.alone.WayLemmas.{level-most}
 use Rattle.art_serial.proofs.walks.NumberLemmas.{Contains-from_numbers, numbers-rise}

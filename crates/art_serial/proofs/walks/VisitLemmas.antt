@@ -1,27 +1,14 @@
 -- A scan that runs alone walks the child of a byte.
-use Rattle.std.proofs.Common.{◌≡◌, ℕ, suc, ◌+◌, ◌<◌, ◌≤◌, ◌==◌, List, [], ◌∷◌, ◌++◌, length, take, slice_index, All, refl, sym, ap, ◌∙◌}
-use Rattle.std.proofs.Common.{subst, arith}
-use Rattle.std.proofs.Common.{Bool, true, false, eqb-true, take-take, if◌then◌else◌}
-use Rattle.std.specs.Prelude.{◌&&◌, nat_le, nat_lt}
-use Rattle.std.proofs.lemmas.Option.{same_Some}
-use Rattle.std.proofs.lemmas.Bool.{false≢true}
-use Rattle.std.proofs.lemmas.Bool.Decides.{nat_tests}
-use Rattle.std.proofs.lemmas.List.{append-nil, append_assoc, length-append, length-take, take-append-le}
-use Rattle.std.proofs.lemmas.List.Elements.{All-nil, All-head, All-tail, All-push, All-cons, All-weaker}
-use Rattle.map_object.specs.MapObject.{Contents, within}
-use Rattle.art_rows.specs.declared.table.Kind.{Kind}
-use Rattle.art_rows.specs.declared.table.Child.{Child}
-use Rattle.art_rows.specs.declared.table.Child.TheVariants.{Empty, Row as ChildRow, Leaf}
-use Rattle.art_rows.specs.Table.{info_at, kind_at}
-use Rattle.art_rows.proofs.KindLemmas.{two-words}
+use Rattle.art_serial.proofs.Common.{◌≡◌, ℕ, suc, ◌+◌, ◌<◌, ◌≤◌, ◌==◌, List, [], ◌∷◌, ◌++◌, length, take, slice_index, refl, sym, ap, ◌∙◌, subst}
+use Rattle.art_serial.proofs.Common.{arith, Bool, true, false, eqb-true, take-take, if◌then◌else◌, ◌&&◌, nat_le, nat_lt, same_Some, false≢true}
+use Rattle.art_serial.proofs.Common.{nat_tests, append-nil, length-append, length-take, take-append-le, All-nil, All-head, All-tail, All-push}
+use Rattle.art_serial.proofs.Common.{All-cons, All-weaker, Contents, within, Kind, Child, Empty, ChildRow, Leaf, info_at, kind_at, two-words}
+use Rattle.art_serial.proofs.Common.{Part, ◌>>=◌, give, load, Setting, Row, row_of, locks, Walked, has_row, with_row, enter, walk_child, Reached}
+use Rattle.art_serial.proofs.Common.{below, child_on, pairs_in, pairs_below, level_in, path_in, IsAtRest, Comes}
+use Rattle.std.proofs.Common.{All}
+use Rattle.std.proofs.lemmas.List.{append_assoc}
 use Rattle.events.specs.Limits.{pair_limit}
-use Rattle.art_steps.specs.Steps.{Part, ◌>>=◌, give, load}
-use Rattle.art_steps.specs.Rows.{Setting, Row, row_of, locks}
-use Rattle.art_steps.specs.Scan.{Walked, has_row, with_leaf, with_row, enter, walk_child}
-use Rattle.art_core.specs.Meaning.{Reached, below, child_on, pairs_in, pairs_below}
-use Rattle.art_core.specs.Forms.{level_in, path_in}
-use Rattle.art_serial.specs.trees.Trees.{IsAtRest}
-use Rattle.art_serial.specs.alone.Alone.{Comes}
+use Rattle.art_steps.specs.Scan.{with_leaf}
 use Rattle.art_serial.proofs.alone.AloneLemmas.{give-comes, bind-comes, load-comes}
 use Rattle.art_serial.proofs.alone.PlaceLemmas.{sits-kind_at}
 use Rattle.art_serial.proofs.alone.LikeLemmas.{like-row, sits}

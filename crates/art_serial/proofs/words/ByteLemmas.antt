@@ -1,14 +1,12 @@
 -- Bytes packed in a word are read back.
-use Rattle.std.proofs.Common.{◌≡◌, ℕ, suc, ◌+◌, ◌-◌, ◌*◌, ◌/◌, ◌%◌, ◌^◌, ◌<◌, ◌≤◌, List, [], ◌∷◌, ◌++◌, length, take, drop, refl, ap, sym}
-use Rattle.std.proofs.Common.{◌∙◌, ⊎_elim, arith}
-use Rattle.std.specs.Prelude.{nat_le, All, slice_index, if◌then◌else◌}
+use Rattle.art_serial.proofs.Common.{◌≡◌, ℕ, suc, ◌+◌, ◌-◌, ◌*◌, ◌/◌, ◌%◌, ◌^◌, ◌<◌, ◌≤◌, List, [], ◌∷◌, ◌++◌, length, take, drop, refl, ap, sym}
+use Rattle.art_serial.proofs.Common.{◌∙◌, ⊎_elim, arith, nat_le, All, cases_lt, le-leb, lt-leb, length-take, All-nil, All-cons, All-head}
+use Rattle.art_serial.proofs.Common.{All-tail, All-take, All-drop, packed, low_bytes, key_bytes, count_of, keys4_of, keys16_of, keys4_word}
+use Rattle.art_serial.proofs.Common.{keys16_word, more_keys16_word, low_byte-small, key_byte-small, most_of}
+use Rattle.std.specs.Prelude.{slice_index, if◌then◌else◌}
 use Rattle.std.proofs.Math.Nat.{pow-suc, pow-le-pow_right}
-use Rattle.std.proofs.lemmas.Bool.{cases_lt, le-leb, lt-leb}
-use Rattle.std.proofs.lemmas.List.{take-append-drop, length-take, length-drop}
-use Rattle.std.proofs.lemmas.List.Elements.{All-nil, All-cons, All-head, All-tail, All-take, All-drop}
-use Rattle.art_rows.specs.Words.{packed, low_bytes, key_bytes, count_of, keys4_of, keys16_of, keys4_word, keys16_word, more_keys16_word}
-use Rattle.art_rows.proofs.ByteLemmas.{low_byte-small, key_byte-small}
-use Rattle.art_rows.proofs.ReaderLemmas.{bytes_of, take_bytes, most_of}
+use Rattle.std.proofs.lemmas.List.{take-append-drop, length-drop}
+use Rattle.art_rows.proofs.ReaderLemmas.{bytes_of, take_bytes}
 use Rattle.art_rows.proofs.WriterLemmas.{take_whole}
 
 -- each number is a byte

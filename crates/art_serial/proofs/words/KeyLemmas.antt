@@ -1,16 +1,12 @@
 -- Rising keys with one more.
-use Rattle.std.proofs.Common.{◌≡◌, ℕ, suc, ◌+◌, ◌<◌, ◌≤◌, List, [], ◌∷◌, ◌++◌, length, take, drop, refl, ap, sym, subst, ◌∙◌}
-use Rattle.std.proofs.Common.{Bool, true, false, arith}
-use Rattle.std.specs.Prelude.{◌≢◌, ◌==◌, nat_lt, All, AllPairs, Option, Some, None, option_map, if◌then◌else◌}
-use Rattle.std.specs.List.Sorted.{IsStrictlyIncreasing}
-use Rattle.std.proofs.lemmas.Option.{none-some}
-use Rattle.std.proofs.lemmas.List.Elements.{All-head, All-tail, All-cons, All-append, All-take, All-drop, All-weaker}
-use Rattle.std.proofs.lemmas.List.Kept.{AllPairs-cons, AllPairs-from_increasing}
-use Rattle.std.proofs.lemmas.Bool.{lt-ltb, le-ltb, ltb-true, ltb-false, eq-eqb, eqb-false, ne_eqb}
-use Rattle.list_laws.proofs.Lists.{AllPairs-head, AllPairs-tail}
-use Rattle.art_rows.specs.Words.{place_of, new_place, with_key}
+use Rattle.art_serial.proofs.Common.{◌≡◌, ℕ, suc, ◌+◌, ◌<◌, ◌≤◌, List, [], ◌∷◌, ◌++◌, length, take, drop, refl, ap, sym, subst, ◌∙◌, Bool, true}
+use Rattle.art_serial.proofs.Common.{false, arith, ◌≢◌, nat_lt, All, AllPairs, Option, option_map, IsStrictlyIncreasing, none-some, All-head}
+use Rattle.art_serial.proofs.Common.{All-tail, All-cons, All-append, All-take, All-drop, All-weaker, AllPairs-cons, AllPairs-from_increasing}
+use Rattle.art_serial.proofs.Common.{lt-ltb, ltb-true, ltb-false, eqb-false, ne_eqb, AllPairs-head, AllPairs-tail, place_of, new_place, with_key}
+use Rattle.art_serial.proofs.Common.{place_moved}
+use Rattle.std.specs.Prelude.{◌==◌, Some, None, if◌then◌else◌}
+use Rattle.std.proofs.lemmas.Bool.{le-ltb, eq-eqb}
 use Rattle.art_rows.proofs.WriterLemmas.{length-put_in}
-use Rattle.art_serial.specs.words.Keys.{place_moved}
 
 -- the places that move
 

@@ -1,12 +1,9 @@
 -- Where rows are.
-use Rattle.std.proofs.Common.{◌≡◌, ℕ, suc, ◌+◌, ◌-◌, ◌*◌, ◌/◌, ◌<◌, ◌≤◌, refl, ap, sym, subst, ◌∙◌, ⊎_elim, Bool, true, false, arith}
-use Rattle.std.proofs.lemmas.Bool.{cases_lt}
+use Rattle.art_serial.proofs.Common.{◌≡◌, ℕ, suc, ◌+◌, ◌-◌, ◌*◌, ◌/◌, ◌<◌, ◌≤◌, refl, ap, sym, subst, ◌∙◌, ⊎_elim, Bool, true, false, arith}
+use Rattle.art_serial.proofs.Common.{cases_lt, Shape, Kind, Four, Sixteen, FortyEight, Full, row_words, rows_of, table_words, first_base}
+use Rattle.art_serial.proofs.Common.{base_of, is_base_of, kind_at}
 use Rattle.std.proofs.lemmas.Nat.{mul-le}
 use Rattle.std.specs.Prelude.{Some, None, if◌then◌else◌}
-use Rattle.art_rows.specs.declared.table.Shape.{Shape}
-use Rattle.art_rows.specs.declared.table.Kind.{Kind}
-use Rattle.art_rows.specs.declared.table.Kind.TheVariants.{Four, Sixteen, FortyEight, Full}
-use Rattle.art_rows.specs.Table.{row_words, rows_of, table_words, first_base, base_of, is_base_of, kind_at}
 use Rattle.art_rows.proofs.KindLemmas.{some-words}
 
 -- a base is one of the rows of its kind

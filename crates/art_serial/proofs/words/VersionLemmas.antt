@@ -1,7 +1,7 @@
 -- Versions as they are written.
-use Rattle.std.proofs.Common.{◌≡◌, ℕ, ◌+◌, ◌-◌, ◌/◌, ◌%◌, ◌^◌, ap, true, false, arith, eq-eqb}
+use Rattle.art_serial.proofs.Common.{◌≡◌, ℕ, ◌+◌, ◌-◌, ◌/◌, ◌%◌, ◌^◌, ap, true, false, arith, eq-eqb, is_locked, is_obsolete, locked_word}
+use Rattle.art_serial.proofs.Common.{released_word, obsolete_word}
 use Rattle.std.specs.Prelude.{◌==◌}
-use Rattle.art_rows.specs.Words.{is_locked, is_obsolete, locked_word, released_word, obsolete_word}
 
 is_one : (n : ℕ) → n ≡ 1 → (n == 1) ≡ true
 is_one n e = ap (λ k. k == 1) e

@@ -1,18 +1,11 @@
 -- Infos, entries and children that were written are read back.
-use Rattle.std.proofs.Common.{◌≡◌, ℕ, ◌+◌, ◌*◌, ◌/◌, ◌%◌, ◌^◌, ◌<◌, ◌≤◌, List, [], ◌∷◌, length, map, refl, ap, sym}
-use Rattle.std.proofs.Common.{◌∙◌, Bool, true, false, arith}
-use Rattle.std.specs.Prelude.{◌==◌, nat_le, All, Option, Some, None, if◌then◌else◌}
-use Rattle.std.proofs.lemmas.List.Elements.{All-head, All-tail, All-weaker}
+use Rattle.art_serial.proofs.Common.{◌≡◌, ℕ, ◌+◌, ◌*◌, ◌/◌, ◌%◌, ◌^◌, ◌<◌, ◌≤◌, List, [], ◌∷◌, length, map, refl, ap, sym, ◌∙◌, Bool, true}
+use Rattle.art_serial.proofs.Common.{false, arith, nat_le, All, Option, All-head, All-tail, All-weaker, Shape, Kind, Child, Empty, Leaf, kind_at}
+use Rattle.art_serial.proofs.Common.{packed, low_bytes, Info, kind_code, info_word, info_of, entry_of, entries_of, entries_word, row_child}
+use Rattle.art_serial.proofs.Common.{child_of, child_word, code-few, IsStored, IsShort}
+use Rattle.std.specs.Prelude.{◌==◌, Some, None, if◌then◌else◌}
 use Rattle.std.proofs.lemmas.Bool.{eq-eqb, eqb-true}
-use Rattle.art_rows.specs.declared.table.Shape.{Shape}
-use Rattle.art_rows.specs.declared.table.Kind.{Kind}
-use Rattle.art_rows.specs.declared.table.Child.{Child}
-use Rattle.art_rows.specs.declared.table.Child.TheVariants.{Empty, Row, Leaf}
-use Rattle.art_rows.specs.Table.{kind_at}
-use Rattle.art_rows.specs.Words.{packed, low_bytes, Info, kind_code, info_word, info_of, entry_of, entries_of, entries_word, row_child}
-use Rattle.art_rows.specs.Words.{child_of, child_word}
-use Rattle.art_rows.proofs.KindLemmas.{code-few}
-use Rattle.art_serial.specs.words.Stored.{IsStored, IsShort}
+use Rattle.art_rows.specs.declared.table.Child.TheVariants.{Row}
 use Rattle.art_serial.proofs.words.ByteLemmas.{AreBytes, low_bytes-packed, packed-most}
 
 -- entries

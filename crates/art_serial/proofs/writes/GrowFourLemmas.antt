@@ -1,26 +1,14 @@
 -- GROW from kind 4 to kind 16.
-use Rattle.std.proofs.Common.{◌≡◌, ℕ, ◌+◌, ◌<◌, ◌≤◌, List, length, ap, sym, ◌∙◌, ⊎_elim, inl, inr, arith}
-use Rattle.std.specs.Prelude.{◌⊎◌, nat_lt, slice_index, slice_set, Option, None, option_map, if◌then◌else◌}
-use Rattle.std.proofs.lemmas.Bool.{cases_lt}
-use Rattle.std.specs.List.Sorted.{IsStrictlyIncreasing}
-use Rattle.art_rows.specs.declared.table.Shape.{Shape}
-use Rattle.art_rows.specs.declared.table.Kind.TheVariants.{Four, Sixteen}
-use Rattle.art_rows.specs.declared.table.Child.{Child}
-use Rattle.art_rows.specs.Words.{child_of, child_word, keys4_word, keys4_of, keys16_word, more_keys16_word, keys16_of, place_of, new_place}
-use Rattle.art_rows.specs.Words.{with_key}
-use Rattle.art_rows.proofs.WriterLemmas.{new_place-most}
-use Rattle.art_rows.proofs.ByteLemmas.{place-within}
-use Rattle.art_steps.specs.Steps.{◌>>◌, store}
-use Rattle.art_steps.specs.Rows.{Setting}
-use Rattle.art_steps.specs.Updates.{new_leaf, store_child, fill}
-use Rattle.art_core.specs.Meaning.{child_in}
-use Rattle.art_serial.specs.alone.Alone.{Comes}
+use Rattle.art_serial.proofs.Common.{◌≡◌, ℕ, ◌+◌, ◌<◌, ◌≤◌, List, length, ap, sym, ◌∙◌, ⊎_elim, inl, inr, arith, nat_lt, slice_set, Option}
+use Rattle.art_serial.proofs.Common.{option_map, cases_lt, IsStrictlyIncreasing, Shape, Four, Sixteen, Child, child_of, child_word, keys4_word}
+use Rattle.art_serial.proofs.Common.{keys4_of, keys16_word, more_keys16_word, keys16_of, place_of, new_place, with_key, new_place-most}
+use Rattle.art_serial.proofs.Common.{place-within, ◌>>◌, store, Setting, new_leaf, store_child, fill, child_in, Comes, IsStored, IsBeside}
+use Rattle.art_serial.proofs.Common.{HasGrown}
+use Rattle.std.specs.Prelude.{◌⊎◌, slice_index, None, if◌then◌else◌}
 use Rattle.art_serial.proofs.alone.AloneLemmas.{then-comes, store-comes}
-use Rattle.art_serial.specs.words.Stored.{IsStored}
 use Rattle.art_serial.proofs.words.ByteLemmas.{keys16_below, AreBytes, keys4_back, keys16_back}
 use Rattle.art_serial.proofs.words.KeyLemmas.{All-with_key, length-with_key, increasing-with_key, place_of-new, place_of-old, moved-before}
 use Rattle.art_serial.proofs.words.KeyLemmas.{moved-behind}
-use Rattle.art_serial.specs.writes.Writes.{IsBeside, HasGrown}
 use Rattle.art_serial.proofs.writes.StoreLemmas.{small-stored, small-child, stored-at, stored-other, stored-long, with_child, child-stored}
 use Rattle.art_serial.proofs.writes.StoreLemmas.{store_child-comes}
 use Rattle.art_serial.proofs.writes.CopyLemmas.{copies-small, with_copies, copies-come, copies-long, copies-other, copies-copied, IsClear}

@@ -1,38 +1,23 @@
 -- GROW from kind 16 to kind 48: the fresh row.
-use Rattle.std.proofs.Common.{◌≡◌, ℕ, ◌+◌, ◌/◌, ◌%◌, ◌<◌, ◌≤◌, List, [], ◌∷◌, ◌++◌, length, get_or, refl, ap, sym, subst, ◌∙◌, ⊎_elim, inl}
-use Rattle.std.proofs.Common.{inr}
-use Rattle.std.proofs.Common.{arith}
-use Rattle.std.specs.Prelude.{◌≢◌, ◌⊎◌, slice_index, slice_set, AllPairs, Option, Some, None, option_map, if◌then◌else◌}
-use Rattle.std.proofs.lemmas.Option.{same_Some, none-some}
-use Rattle.std.proofs.lemmas.List.{length-append, get_or_default}
-use Rattle.std.proofs.lemmas.List.Elements.{All-nil, All-cons, All-append, All-get_or}
-use Rattle.std.proofs.lemmas.List.Kept.{AllPairs-cons, AllPairs-from_increasing}
-use Rattle.std.proofs.lemmas.Bool.{eq-eqb, ne_eqb}
-use Rattle.std.specs.List.Sorted.{IsStrictlyIncreasing}
-use Rattle.list_laws.proofs.Lists.{AllPairs-nil, AllPairs-append}
-use Rattle.art_rows.specs.declared.table.Shape.{Shape}
-use Rattle.art_rows.specs.declared.table.Kind.TheVariants.{Sixteen, FortyEight}
-use Rattle.art_rows.specs.declared.table.Child.{Child}
-use Rattle.art_rows.specs.Words.{child_of, child_word, keys16_of, place_of, entries_of}
+use Rattle.art_serial.proofs.Common.{◌≡◌, ℕ, ◌+◌, ◌/◌, ◌%◌, ◌<◌, ◌≤◌, List, [], ◌∷◌, ◌++◌, length, refl, ap, sym, subst, ◌∙◌, ⊎_elim, inl, inr}
+use Rattle.art_serial.proofs.Common.{arith, ◌≢◌, slice_set, AllPairs, Option, option_map, same_Some, none-some, length-append, All-nil, All-cons}
+use Rattle.art_serial.proofs.Common.{All-append, All-get_or, AllPairs-cons, AllPairs-from_increasing, ne_eqb, IsStrictlyIncreasing, AllPairs-nil}
+use Rattle.art_serial.proofs.Common.{AllPairs-append, Shape, Sixteen, FortyEight, Child, child_of, child_word, keys16_of, place_of, entries_of}
+use Rattle.art_serial.proofs.Common.{place-within, ◌>>◌, each, numbers, store, Setting, new_leaf, new_entry, store_child, store_index, fill}
+use Rattle.art_serial.proofs.Common.{child_in, entry_slot, slot_of, HasForm, Comes, IsStored, IsBeside, HasGrown}
+use Rattle.std.proofs.Common.{get_or}
+use Rattle.std.specs.Prelude.{◌⊎◌, slice_index, Some, None, if◌then◌else◌}
+use Rattle.std.proofs.lemmas.List.{get_or_default}
+use Rattle.std.proofs.lemmas.Bool.{eq-eqb}
 use Rattle.art_rows.proofs.ReaderLemmas.{joined, place_append}
-use Rattle.art_rows.proofs.ByteLemmas.{place-within}
-use Rattle.art_steps.specs.Steps.{◌>>◌, each, numbers, store}
-use Rattle.art_steps.specs.Rows.{Setting}
-use Rattle.art_steps.specs.Updates.{new_leaf, new_entry, store_child, store_index, fill}
-use Rattle.art_core.specs.Meaning.{child_in, entry_slot, slot_of}
-use Rattle.art_core.specs.Forms.{HasForm}
-use Rattle.art_serial.specs.alone.Alone.{Comes}
 use Rattle.art_serial.proofs.alone.AloneLemmas.{then-comes, store-comes}
-use Rattle.art_serial.specs.words.Stored.{IsStored}
 use Rattle.art_serial.proofs.words.ByteLemmas.{AreBytes}
-use Rattle.art_serial.specs.writes.Writes.{IsBeside, HasGrown}
 use Rattle.art_serial.proofs.writes.StoreLemmas.{small-stored, small-child, stored-at, stored-other, stored-long, with_child, child-stored}
 use Rattle.art_serial.proofs.writes.StoreLemmas.{store_child-comes}
 use Rattle.art_serial.proofs.writes.CopyLemmas.{copies-small, with_copies, copies-come, copies-long, copies-other, copies-copied, IsClear}
 use Rattle.art_serial.proofs.writes.IndexLemmas.{entry_in, slot-entry, entry-named}
-use Rattle.art_serial.proofs.writes.GrowSixteenLemmas.{index-small, entry-some, entry-absent, with_index, index-comes, index-long}
-use Rattle.art_serial.proofs.writes.GrowSixteenLemmas.{index-other, index-stored}
-use Rattle.art_serial.proofs.writes.GrowSixteenLemmas.{index-read, place-of_at}
+use Rattle.art_serial.proofs.writes.GrowSixteenLemmas.{index-small, entry-some, entry-absent, with_index, index-comes, index-long, index-other}
+use Rattle.art_serial.proofs.writes.GrowSixteenLemmas.{index-stored, index-read, place-of_at}
 
 module _ (s : Shape) (old base : ℕ) (words keys : List ℕ) (x : ℕ) (child : Child) (stored : IsStored s child)
     (fits : base + 83 ≤ length words)

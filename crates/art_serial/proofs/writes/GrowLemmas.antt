@@ -1,21 +1,8 @@
 -- GROW's copy, from a row of any kind.
-use Rattle.std.proofs.Common.{◌≡◌, ℕ, ◌+◌, ◌^◌, ◌<◌, ◌≤◌, List, length, refl, sym, subst, arith}
+use Rattle.art_serial.proofs.Common.{◌≡◌, ℕ, ◌+◌, ◌^◌, ◌<◌, ◌≤◌, List, length, refl, sym, subst, arith, none-some, Insert, Kind, Four, Sixteen}
+use Rattle.art_serial.proofs.Common.{FortyEight, Full, Leaf, row_words, capacity, child_at, place_of, Setting, Row, new_leaf, fill, next_kind}
+use Rattle.art_serial.proofs.Common.{slot_of, HasForm, Comes, keys_in_row, count_in_row, IsStored, IsApart, HasGrown}
 use Rattle.std.specs.Prelude.{slice_index, None}
-use Rattle.std.proofs.lemmas.Option.{none-some}
-use Rattle.events.specs.declared.event.Call.TheVariants.{Insert}
-use Rattle.art_rows.specs.declared.table.Kind.{Kind}
-use Rattle.art_rows.specs.declared.table.Kind.TheVariants.{Four, Sixteen, FortyEight, Full}
-use Rattle.art_rows.specs.declared.table.Child.TheVariants.{Leaf}
-use Rattle.art_rows.specs.Table.{row_words, capacity, child_at}
-use Rattle.art_rows.specs.Words.{place_of}
-use Rattle.art_steps.specs.Rows.{Setting, Row}
-use Rattle.art_steps.specs.Updates.{new_leaf, fill, next_kind}
-use Rattle.art_core.specs.Meaning.{slot_of}
-use Rattle.art_core.specs.Forms.{HasForm}
-use Rattle.art_serial.specs.alone.Alone.{Comes}
-use Rattle.art_serial.specs.alone.Finding.{keys_in_row, count_in_row}
-use Rattle.art_serial.specs.words.Stored.{IsStored}
-use Rattle.art_serial.specs.writes.Writes.{IsApart, HasGrown}
 use Rattle.art_serial.proofs.writes.PutLemmas.{keys_of-four, keys_of-sixteen, no_place}
 use Rattle.art_serial.proofs.writes.GrowFourLemmas.{after_grow4, grow4, grow4-comes}
 use Rattle.art_serial.proofs.writes.GrowIndexedLemmas.{after_grow16, grow16, grow16-comes}

@@ -1,21 +1,12 @@
 -- GROW from kind 16 to kind 48.
-use Rattle.std.proofs.Common.{◌≡◌, ℕ, zero, suc, ◌+◌, ◌*◌, ◌/◌, ◌%◌, ◌<◌, ◌≤◌, List, [], ◌∷◌, length, map, refl, ap, subst, ◌∙◌, ⊎_elim}
-use Rattle.std.proofs.Common.{inl, inr}
-use Rattle.std.proofs.Common.{arith}
-use Rattle.std.specs.Prelude.{◌≢◌, ◌⊎◌, slice_index, slice_set, All, AllPairs, Option, Some, None, option_map, if◌then◌else◌}
-use Rattle.std.proofs.lemmas.Bool.{cases_lt, eq-eqb, ne_eqb}
-use Rattle.std.proofs.lemmas.List.{length-map}
-use Rattle.std.proofs.lemmas.List.Elements.{All-nil, All-cons, All-get_or}
-use Rattle.list_laws.proofs.Lists.{AllPairs-head, AllPairs-tail}
-use Rattle.art_rows.specs.Words.{place_of, entries_of, entries_word}
-use Rattle.art_rows.specs.Table.{index_at}
-use Rattle.art_rows.proofs.ByteLemmas.{place-within}
-use Rattle.art_steps.specs.Steps.{each, numbers}
-use Rattle.art_steps.specs.Updates.{new_entry, store_index}
-use Rattle.art_serial.specs.alone.Alone.{Comes}
+use Rattle.art_serial.proofs.Common.{◌≡◌, ℕ, zero, suc, ◌+◌, ◌*◌, ◌/◌, ◌%◌, ◌<◌, ◌≤◌, List, [], ◌∷◌, length, map, refl, ap, subst, ◌∙◌, ⊎_elim}
+use Rattle.art_serial.proofs.Common.{inl, inr, arith, ◌≢◌, slice_set, All, AllPairs, Option, option_map, cases_lt, ne_eqb, length-map, All-nil}
+use Rattle.art_serial.proofs.Common.{All-cons, All-get_or, AllPairs-head, AllPairs-tail, place_of, entries_of, entries_word, index_at}
+use Rattle.art_serial.proofs.Common.{place-within, each, numbers, new_entry, store_index, Comes, AreSmall}
+use Rattle.std.specs.Prelude.{◌⊎◌, slice_index, Some, None, if◌then◌else◌}
+use Rattle.std.proofs.lemmas.Bool.{eq-eqb}
 use Rattle.art_serial.proofs.alone.AloneLemmas.{each_none-comes, each-comes, store-comes}
 use Rattle.art_serial.proofs.words.WordLemmas.{entries_back, entries_below}
-use Rattle.art_serial.specs.writes.Writes.{AreSmall}
 use Rattle.art_serial.proofs.writes.StoreLemmas.{small-stored, stored-at, stored-other, stored-long}
 
 -- entries by place

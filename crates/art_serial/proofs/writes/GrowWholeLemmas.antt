@@ -1,27 +1,14 @@
 -- GROW whole: a claim, the info, the copy, the slot, and the rows that are released.
-use Rattle.std.proofs.Common.{◌≡◌, ℕ, ◌+◌, ◌%◌, ◌^◌, ◌<◌, ◌≤◌, List, ◌∷◌, length, refl, sym, subst, ◌∙◌, ⊎_elim, inl, inr, arith}
-use Rattle.std.specs.Prelude.{◌≢◌, slice_index, slice_set, Some, None}
-use Rattle.std.proofs.lemmas.Option.{none-some}
-use Rattle.std.proofs.lemmas.Bool.{lt-ltb}
-use Rattle.events.specs.declared.event.Call.TheVariants.{Insert}
-use Rattle.art_rows.specs.declared.table.Shape.{Shape}
-use Rattle.art_rows.specs.declared.table.Kind.{Kind}
-use Rattle.art_rows.specs.declared.table.Kind.TheVariants.{Four, Sixteen, FortyEight, Full}
-use Rattle.art_rows.specs.declared.table.Child.TheVariants.{Leaf}
-use Rattle.art_rows.specs.Table.{row_words, rows_of, table_words, claims_of, capacity, base_of, kind_at}
-use Rattle.art_rows.specs.Words.{info_word, row_word, obsolete_word}
-use Rattle.art_rows.proofs.KindLemmas.{claims-few, two-words}
-use Rattle.art_steps.specs.Steps.{◌>>◌, store}
-use Rattle.art_steps.specs.Rows.{Setting, Row, byte_at, claim, unlock_obsolete, unlock_all}
-use Rattle.art_steps.specs.Updates.{fill, grow, next_kind}
-use Rattle.art_core.specs.Meaning.{slot_of}
-use Rattle.art_core.specs.Forms.{HasForm}
-use Rattle.art_serial.specs.alone.Alone.{Comes, unlocked_rows}
-use Rattle.art_serial.specs.alone.Finding.{keys_in_row, count_in_row}
+use Rattle.art_serial.proofs.Common.{◌≡◌, ℕ, ◌+◌, ◌%◌, ◌^◌, ◌<◌, ◌≤◌, List, ◌∷◌, length, refl, sym, subst, ◌∙◌, ⊎_elim, inl, inr, arith, ◌≢◌}
+use Rattle.art_serial.proofs.Common.{slice_set, none-some, lt-ltb, Insert, Shape, Kind, Four, Sixteen, FortyEight, Full, Leaf, row_words}
+use Rattle.art_serial.proofs.Common.{rows_of, table_words, claims_of, capacity, base_of, kind_at, info_word, row_word, obsolete_word, claims-few}
+use Rattle.art_serial.proofs.Common.{two-words, ◌>>◌, store, Setting, Row, byte_at, claim, unlock_obsolete, unlock_all, fill, grow, next_kind}
+use Rattle.art_serial.proofs.Common.{slot_of, HasForm, Comes, unlocked_rows, keys_in_row, count_in_row, HasSameFields, fresh_base, HasGrown}
+use Rattle.std.specs.Prelude.{slice_index, Some, None}
 use Rattle.art_serial.proofs.alone.AloneLemmas.{bind-comes, then-comes, store-comes}
 use Rattle.art_serial.proofs.alone.RowRunLemmas.{with_claim, claim-comes, unlock_obsolete-comes, unlock_all-comes}
 use Rattle.art_serial.proofs.words.TableLemmas.{IsNumbered, numbered, kind_at-base_of, row_begins, row_ends}
-use Rattle.art_serial.specs.writes.Writes.{HasSameFields, fresh_base, HasGrown, HasFresh}
+use Rattle.art_serial.specs.writes.Writes.{HasFresh}
 use Rattle.art_serial.proofs.writes.StoreLemmas.{small-stored, stored-at, stored-other, stored-long}
 use Rattle.art_serial.proofs.writes.PairLemmas.{byte_at-small}
 use Rattle.art_serial.proofs.writes.SameLemmas.{keys-same, count-same, slot-same, child-same, form-same}

@@ -1,15 +1,9 @@
 -- Index words of kind 48.
-use Rattle.std.proofs.Common.{◌≡◌, ℕ, ◌+◌, ◌-◌, ◌/◌, ◌%◌, ◌≤◌, List, [], ◌∷◌, length, map, refl, ap, sym, ◌∙◌}
-use Rattle.std.proofs.Common.{Bool, true, false, arith}
-use Rattle.std.specs.Prelude.{◌==◌, nat_le, if◌then◌else◌, slice_index, All, Some, None}
-use Rattle.std.proofs.lemmas.Option.{same_Some, none-some}
-use Rattle.std.proofs.lemmas.List.{length-map}
-use Rattle.std.proofs.lemmas.List.Elements.{All-nil, All-cons}
-use Rattle.std.proofs.lemmas.Bool.{eqb-false, ne_eqb}
-use Rattle.art_rows.specs.declared.table.Kind.TheVariants.{FortyEight}
-use Rattle.art_rows.specs.Words.{entry_of, entries_of, low_bytes}
+use Rattle.art_serial.proofs.Common.{◌≡◌, ℕ, ◌+◌, ◌-◌, ◌/◌, ◌%◌, ◌≤◌, List, [], ◌∷◌, length, map, refl, ap, sym, ◌∙◌, Bool, true, false, arith}
+use Rattle.art_serial.proofs.Common.{nat_le, All, same_Some, none-some, length-map, All-nil, All-cons, eqb-false, ne_eqb, FortyEight, entry_of}
+use Rattle.art_serial.proofs.Common.{entries_of, low_bytes, entry_slot, slot_of}
+use Rattle.std.specs.Prelude.{◌==◌, if◌then◌else◌, slice_index, Some, None}
 use Rattle.art_rows.proofs.WriterLemmas.{length-low_bytes}
-use Rattle.art_core.specs.Meaning.{entry_slot, slot_of}
 
 pub length-entries : (w : ℕ) → length (entries_of w) ≡ 8
 length-entries w = length-map (low_bytes 8 w) entry_of ∙ length-low_bytes 8 w

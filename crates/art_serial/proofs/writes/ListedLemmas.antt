@@ -1,14 +1,10 @@
 -- Rows whose children stand at the places of their keys.
-use Rattle.std.proofs.Common.{◌≡◌, ℕ, ◌+◌, ◌-◌, ◌<◌, ◌≤◌, List, length, refl, ap, ◌∙◌, ⊎_elim, inl, arith}
-use Rattle.std.specs.Prelude.{slice_index, slice_set, Option, Some, None, option_map}
-use Rattle.std.proofs.lemmas.Bool.{cases_lt}
-use Rattle.art_rows.specs.declared.table.Shape.{Shape}
-use Rattle.art_rows.specs.Words.{child_of}
-use Rattle.art_core.specs.Meaning.{child_in}
+use Rattle.art_serial.proofs.Common.{◌≡◌, ℕ, ◌+◌, ◌-◌, ◌<◌, ◌≤◌, List, length, refl, ap, ◌∙◌, ⊎_elim, inl, arith, slice_set, Option, option_map}
+use Rattle.art_serial.proofs.Common.{cases_lt, Shape, child_of, child_in, place_moved}
+use Rattle.std.specs.Prelude.{slice_index, Some, None}
 use Rattle.art_serial.proofs.writes.StoreLemmas.{stored-other}
 use Rattle.art_serial.proofs.writes.MoveLemmas.{with_room, room-other, room-moved}
 use Rattle.art_serial.proofs.words.KeyLemmas.{moved-before, moved-behind}
-use Rattle.art_serial.specs.words.Keys.{place_moved}
 
 -- The n children from one place of the words on stand in the later words from another place on, those from the p-th on one
 -- place later.

@@ -1,15 +1,8 @@
 -- Children that are moved up by one, from the last one down.
-use Rattle.std.proofs.Common.{◌≡◌, ℕ, zero, suc, ◌+◌, ◌<◌, ◌≤◌, List, length, refl, ap, sym, subst, ◌∙◌, ⊎_elim, inl, inr, arith}
+use Rattle.art_serial.proofs.Common.{◌≡◌, ℕ, zero, suc, ◌+◌, ◌<◌, ◌≤◌, List, length, refl, ap, sym, subst, ◌∙◌, ⊎_elim, inl, inr, arith}
+use Rattle.art_serial.proofs.Common.{cases_lt, Shape, child_of, child_word, each, numbers_down, Setting, copy_child, Comes, AreSmall}
 use Rattle.std.specs.Prelude.{◌⊎◌, slice_index}
-use Rattle.std.proofs.lemmas.Bool.{cases_lt}
-use Rattle.art_rows.specs.declared.table.Shape.{Shape}
-use Rattle.art_rows.specs.Words.{child_of, child_word}
-use Rattle.art_steps.specs.Steps.{each, numbers_down}
-use Rattle.art_steps.specs.Rows.{Setting}
-use Rattle.art_steps.specs.Updates.{copy_child}
-use Rattle.art_serial.specs.alone.Alone.{Comes}
 use Rattle.art_serial.proofs.alone.AloneLemmas.{each_none-comes, each-comes}
-use Rattle.art_serial.specs.writes.Writes.{AreSmall}
 use Rattle.art_serial.proofs.writes.StoreLemmas.{small-copy, with_copy, child-copied, copy_child-comes, stored-other, stored-long}
 
 -- the words with the children of the places i, i + 1, .., n of them, each one place later

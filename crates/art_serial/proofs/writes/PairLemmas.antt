@@ -1,29 +1,17 @@
 -- PAIR: a fresh row of two children.
-use Rattle.std.proofs.Common.{◌≡◌, ℕ, zero, suc, ◌+◌, ◌%◌, ◌^◌, ◌<◌, ◌≤◌, List, [], ◌∷◌, length, take, refl, ap, sym, subst, ◌∙◌, ⊎_elim}
-use Rattle.std.proofs.Common.{Bool, true, false, arith}
-use Rattle.std.specs.Prelude.{◌≢◌, nat_lt, slice_index, slice_set, Option, Some, None, option_map, if◌then◌else◌}
-use Rattle.std.specs.List.Sorted.{IsStrictlyIncreasing}
-use Rattle.std.proofs.lemmas.List.Elements.{All-nil, All-cons}
-use Rattle.std.proofs.lemmas.Bool.{lt-ltb, eq-eqb, ne_eqb, ltb-true, ltb-false}
-use Rattle.events.specs.declared.event.Call.{Call}
-use Rattle.events.specs.declared.event.Call.TheVariants.{Insert}
-use Rattle.art_rows.specs.declared.table.Shape.{Shape}
-use Rattle.art_rows.specs.declared.table.Kind.TheVariants.{Four}
-use Rattle.art_rows.specs.declared.table.Child.{Child}
-use Rattle.art_rows.specs.declared.table.Child.TheVariants.{Empty, Leaf}
-use Rattle.art_rows.specs.Table.{rows_of, table_words, claims_of}
-use Rattle.art_rows.specs.Words.{child_of, child_word, info_word, key_bytes, keys4_of, keys4_word, place_of, row_word}
-use Rattle.art_steps.specs.Steps.{◌>>◌, give, store}
-use Rattle.art_steps.specs.Rows.{Setting, Row, key_of, byte_at, claim}
-use Rattle.art_steps.specs.Updates.{Under, lesser, greater, new_leaf, store_child, pair, pair_in}
-use Rattle.art_core.specs.Meaning.{child_in, child_on}
-use Rattle.art_serial.specs.alone.Alone.{Comes}
+use Rattle.art_serial.proofs.Common.{◌≡◌, ℕ, zero, suc, ◌+◌, ◌%◌, ◌^◌, ◌<◌, ◌≤◌, List, [], ◌∷◌, length, take, refl, ap, sym, subst, ◌∙◌, ⊎_elim}
+use Rattle.art_serial.proofs.Common.{Bool, true, false, arith, ◌≢◌, nat_lt, slice_set, Option, option_map, IsStrictlyIncreasing, All-nil}
+use Rattle.art_serial.proofs.Common.{All-cons, lt-ltb, ne_eqb, ltb-true, ltb-false, Call, Insert, Shape, Four, Child, Empty, Leaf, rows_of}
+use Rattle.art_serial.proofs.Common.{table_words, claims_of, child_of, child_word, info_word, key_bytes, keys4_of, keys4_word, place_of}
+use Rattle.art_serial.proofs.Common.{row_word, ◌>>◌, give, store, Setting, Row, key_of, byte_at, claim, Under, new_leaf, store_child, pair}
+use Rattle.art_serial.proofs.Common.{pair_in, child_in, child_on, Comes, IsStored, fresh_base, IsOutside, HasPair}
+use Rattle.std.specs.Prelude.{slice_index, Some, None, if◌then◌else◌}
+use Rattle.std.proofs.lemmas.Bool.{eq-eqb}
+use Rattle.art_steps.specs.Updates.{lesser, greater}
 use Rattle.art_serial.proofs.alone.AloneLemmas.{give-comes, bind-comes, then-comes, store-comes}
 use Rattle.art_serial.proofs.alone.RowRunLemmas.{with_claim, claim-comes}
-use Rattle.art_serial.specs.words.Stored.{IsStored}
 use Rattle.art_serial.proofs.words.ByteLemmas.{keys4_below, AreBytes, keys4_back}
 use Rattle.art_serial.proofs.words.TableLemmas.{kind_at-base_of, row_begins, row_ends}
-use Rattle.art_serial.specs.writes.Writes.{fresh_base, IsOutside, HasPair}
 use Rattle.art_serial.proofs.writes.StoreLemmas.{small-stored, small-child, stored-at, stored-other, stored-long, with_child, child-stored}
 use Rattle.art_serial.proofs.writes.StoreLemmas.{store_child-comes}
 

@@ -1,24 +1,12 @@
 -- PUT in rows of kind 48.
-use Rattle.std.proofs.Common.{◌≡◌, ℕ, ◌+◌, ◌/◌, ◌%◌, ◌<◌, ◌≤◌, List, length, set, refl, ap, sym, subst, ◌∙◌, ⊎_elim, arith}
-use Rattle.std.specs.Prelude.{◌≢◌, slice_index, slice_set, Option, Some, None}
-use Rattle.std.proofs.lemmas.Bool.{cases_lt, cases_eq}
-use Rattle.std.proofs.lemmas.Option.{same_Some, none-some}
-use Rattle.std.proofs.lemmas.List.{length-set}
-use Rattle.std.proofs.lemmas.List.Elements.{All-set}
-use Rattle.art_rows.specs.declared.table.Shape.{Shape}
-use Rattle.art_rows.specs.declared.table.Kind.TheVariants.{FortyEight}
-use Rattle.art_rows.specs.declared.table.Child.{Child}
-use Rattle.art_rows.specs.Words.{child_of, child_word, entries_of, entries_word}
-use Rattle.art_steps.specs.Steps.{◌>>◌, store}
-use Rattle.art_steps.specs.Rows.{Setting}
-use Rattle.art_steps.specs.Updates.{new_leaf, put_in}
-use Rattle.art_core.specs.Meaning.{child_in, entry_slot, slot_of}
-use Rattle.art_core.specs.Forms.{HasForm}
-use Rattle.art_serial.specs.alone.Alone.{Comes}
+use Rattle.art_serial.proofs.Common.{◌≡◌, ℕ, ◌+◌, ◌/◌, ◌%◌, ◌<◌, ◌≤◌, List, length, refl, ap, sym, subst, ◌∙◌, ⊎_elim, arith, ◌≢◌, slice_set}
+use Rattle.art_serial.proofs.Common.{Option, cases_lt, cases_eq, same_Some, none-some, length-set, All-set, Shape, FortyEight, Child, child_of}
+use Rattle.art_serial.proofs.Common.{child_word, entries_of, entries_word, ◌>>◌, store, Setting, new_leaf, put_in, child_in, entry_slot, slot_of}
+use Rattle.art_serial.proofs.Common.{HasForm, Comes, IsStored, HasPut}
+use Rattle.std.proofs.Common.{set}
+use Rattle.std.specs.Prelude.{slice_index, Some, None}
 use Rattle.art_serial.proofs.alone.AloneLemmas.{then-comes, store-comes}
-use Rattle.art_serial.specs.words.Stored.{IsStored}
 use Rattle.art_serial.proofs.words.WordLemmas.{entries_back, entries_below}
-use Rattle.art_serial.specs.writes.Writes.{HasPut}
 use Rattle.art_serial.proofs.writes.StoreLemmas.{small-stored, small-child, stored-at, stored-other, stored-long, with_child, child-stored}
 use Rattle.art_serial.proofs.writes.StoreLemmas.{store_child-comes}
 use Rattle.art_serial.proofs.writes.IndexLemmas.{length-entries, entries-most, entry_in, slot-entry, entry-named}

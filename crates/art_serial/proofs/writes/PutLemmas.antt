@@ -1,23 +1,10 @@
 -- PUT in a row of any kind.
-use Rattle.std.proofs.Common.{◌≡◌, ℕ, ◌+◌, ◌^◌, ◌<◌, ◌≤◌, List, length, refl, ap, sym, subst, ◌∙◌, true, arith}
-use Rattle.std.specs.Prelude.{nat_le, if◌then◌else◌, slice_index, Option, Some, None, option_map}
-use Rattle.std.proofs.lemmas.Option.{none-some}
-use Rattle.events.specs.declared.event.Call.{Call}
-use Rattle.events.specs.declared.event.Call.TheVariants.{Insert}
-use Rattle.art_rows.specs.declared.table.Kind.{Kind}
-use Rattle.art_rows.specs.declared.table.Kind.TheVariants.{Four, Sixteen, FortyEight, Full}
-use Rattle.art_rows.specs.declared.table.Child.TheVariants.{Leaf}
-use Rattle.art_rows.specs.Table.{row_words, capacity, child_at}
-use Rattle.art_rows.specs.Words.{keys4_of, keys16_of, keys16_word, count_of, place_of}
-use Rattle.art_steps.specs.Rows.{Setting, Row, is_insert}
-use Rattle.art_steps.specs.Updates.{new_leaf, put_in}
-use Rattle.art_core.specs.Meaning.{slot_of}
-use Rattle.art_core.specs.Forms.{HasForm}
-use Rattle.art_serial.specs.alone.Alone.{Comes}
-use Rattle.art_serial.specs.alone.Finding.{keys_in_row, count_in_row}
-use Rattle.art_serial.specs.words.Stored.{IsStored}
+use Rattle.art_serial.proofs.Common.{◌≡◌, ℕ, ◌+◌, ◌^◌, ◌<◌, ◌≤◌, List, length, refl, ap, sym, subst, ◌∙◌, true, arith, nat_le, Option}
+use Rattle.art_serial.proofs.Common.{option_map, none-some, Call, Insert, Kind, Four, Sixteen, FortyEight, Full, Leaf, row_words, capacity}
+use Rattle.art_serial.proofs.Common.{child_at, keys4_of, keys16_of, keys16_word, count_of, place_of, Setting, Row, is_insert, new_leaf, put_in}
+use Rattle.art_serial.proofs.Common.{slot_of, HasForm, Comes, keys_in_row, count_in_row, IsStored, HasPut}
+use Rattle.std.specs.Prelude.{if◌then◌else◌, slice_index, Some, None}
 use Rattle.art_serial.proofs.words.ByteLemmas.{keys4_back, keys16_back}
-use Rattle.art_serial.specs.writes.Writes.{HasPut}
 use Rattle.art_serial.proofs.writes.PutListedLemmas.{after_put4, put4, put4-comes, after_put16, put16, put16-comes}
 use Rattle.art_serial.proofs.writes.PutIndexedLemmas.{after_put48, put48, put48-comes}
 

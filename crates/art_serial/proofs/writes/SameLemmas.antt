@@ -1,22 +1,11 @@
 -- What a row says is said by its words alone.
-use Rattle.std.proofs.Common.{◌≡◌, ℕ, ◌+◌, ◌/◌, ◌%◌, ◌<◌, ◌≤◌, List, length, refl, ap, sym, ◌∙◌, arith}
-use Rattle.std.specs.Prelude.{slice_index, Option, Some, None, option_map, if◌then◌else◌}
-use Rattle.std.proofs.lemmas.Option.{same_Some, none-some}
-use Rattle.std.proofs.lemmas.List.Elements.{All-get_or}
-use Rattle.events.specs.declared.event.Call.{Call}
-use Rattle.art_rows.specs.declared.table.Shape.{Shape}
-use Rattle.art_rows.specs.declared.table.Kind.{Kind}
-use Rattle.art_rows.specs.declared.table.Kind.TheVariants.{Four, Sixteen, FortyEight, Full}
-use Rattle.art_rows.specs.Table.{row_words, child_at}
-use Rattle.art_rows.specs.Words.{child_of, keys4_of, keys16_of, place_of, entries_of, count_of}
-use Rattle.art_rows.proofs.ByteLemmas.{place-within}
-use Rattle.art_steps.specs.Rows.{is_insert}
-use Rattle.art_core.specs.Meaning.{entry_slot, slot_of, child_in, child_on}
-use Rattle.art_core.specs.Forms.{HasForm}
-use Rattle.art_serial.specs.alone.Finding.{keys_in_row, count_in_row}
+use Rattle.art_serial.proofs.Common.{◌≡◌, ℕ, ◌+◌, ◌/◌, ◌%◌, ◌<◌, ◌≤◌, List, length, refl, ap, sym, ◌∙◌, arith, Option, option_map, same_Some}
+use Rattle.art_serial.proofs.Common.{none-some, All-get_or, Call, Shape, Kind, Four, Sixteen, FortyEight, Full, row_words, child_at, child_of}
+use Rattle.art_serial.proofs.Common.{keys4_of, keys16_of, place_of, entries_of, count_of, place-within, is_insert, entry_slot, slot_of, child_in}
+use Rattle.art_serial.proofs.Common.{child_on, HasForm, keys_in_row, count_in_row, HasSameFields}
+use Rattle.std.specs.Prelude.{slice_index, Some, None, if◌then◌else◌}
 use Rattle.art_serial.proofs.writes.IndexLemmas.{length-entries, entries-most, entry_in, entry-named}
 use Rattle.art_serial.proofs.writes.PutLemmas.{keys_of-four, keys_of-sixteen}
-use Rattle.art_serial.specs.writes.Writes.{HasSameFields}
 
 pub keys-same : (words later : List ℕ) (base : ℕ) (kind : Kind) (x : ℕ) → HasSameFields words later base kind → x < 256
     → keys_in_row later base kind x ≡ keys_in_row words base kind x

@@ -1,23 +1,12 @@
 -- GROW from kind 48 to kind 256: each child goes to its byte.
-use Rattle.std.proofs.Common.{◌≡◌, ℕ, zero, suc, ◌+◌, ◌-◌, ◌*◌, ◌/◌, ◌%◌, ◌<◌, ◌≤◌, List, length, refl, ap, sym, subst, ◌∙◌, ⊎_elim, inl}
-use Rattle.std.proofs.Common.{inr}
-use Rattle.std.proofs.Common.{Bool, true, false, arith}
+use Rattle.art_serial.proofs.Common.{◌≡◌, ℕ, zero, suc, ◌+◌, ◌-◌, ◌*◌, ◌/◌, ◌%◌, ◌<◌, ◌≤◌, List, length, refl, ap, sym, subst, ◌∙◌, ⊎_elim, inl}
+use Rattle.art_serial.proofs.Common.{inr, Bool, true, false, arith, cases_lt, eqb-false, All-get_or, FortyEight, Full, index_at, child_of}
+use Rattle.art_serial.proofs.Common.{child_word, entries_of, Part, each, numbers, give, Setting, Row, new_leaf, store_child, copy_child}
+use Rattle.art_serial.proofs.Common.{spread_entry, spread_index, fill, child_in, child_on, Comes, IsStored, AreSmall, IsBeside, HasGrown}
 use Rattle.std.specs.Prelude.{◌⊎◌, ◌==◌, if◌then◌else◌, slice_index, Some, None}
-use Rattle.std.proofs.lemmas.Bool.{cases_lt, eqb-false}
-use Rattle.std.proofs.lemmas.List.Elements.{All-get_or}
-use Rattle.art_rows.specs.declared.table.Kind.TheVariants.{FortyEight, Full}
-use Rattle.art_rows.specs.Table.{index_at}
-use Rattle.art_rows.specs.Words.{child_of, child_word, entries_of}
-use Rattle.art_steps.specs.Steps.{Part, each, numbers, give}
-use Rattle.art_steps.specs.Rows.{Setting, Row}
-use Rattle.art_steps.specs.Updates.{new_leaf, store_child, copy_child, spread_entry, spread_index, fill}
-use Rattle.art_core.specs.Meaning.{child_in, child_on}
-use Rattle.art_serial.specs.alone.Alone.{Comes}
 use Rattle.art_serial.proofs.alone.AloneLemmas.{give-comes, then-comes, bind-comes, load-comes, each_none-comes, each-comes}
-use Rattle.art_serial.specs.words.Stored.{IsStored}
-use Rattle.art_serial.specs.writes.Writes.{AreSmall, IsBeside, HasGrown}
-use Rattle.art_serial.proofs.writes.StoreLemmas.{small-copy, small-child, stored-other, stored-long, with_child}
-use Rattle.art_serial.proofs.writes.StoreLemmas.{child-stored, store_child-comes, with_copy, child-copied, copy_child-comes}
+use Rattle.art_serial.proofs.writes.StoreLemmas.{small-copy, small-child, stored-other, stored-long, with_child, child-stored, store_child-comes}
+use Rattle.art_serial.proofs.writes.StoreLemmas.{with_copy, child-copied, copy_child-comes}
 use Rattle.art_serial.proofs.writes.IndexLemmas.{length-entries, entries-most, entry_in}
 
 module _ (c : Setting) (n : Row) (base : ℕ) (words : List ℕ) (fits : base + 258 ≤ length words)

@@ -1,18 +1,9 @@
 -- Words after stores.
-use Rattle.std.proofs.Common.{◌^◌, ◌≡◌, ℕ, ◌<◌, List, length, ap, ◌∙◌}
-use Rattle.std.specs.Prelude.{◌≢◌, slice_index, slice_set}
-use Rattle.std.proofs.lemmas.List.{length-set, get_or-set_same, get_or-set_other}
-use Rattle.std.proofs.lemmas.List.Elements.{All-set}
-use Rattle.art_rows.specs.declared.table.Shape.{Shape}
-use Rattle.art_rows.specs.declared.table.Child.{Child}
-use Rattle.art_rows.specs.Words.{child_of, child_word}
-use Rattle.art_steps.specs.Steps.{give}
-use Rattle.art_steps.specs.Rows.{Setting, load_child}
-use Rattle.art_steps.specs.Updates.{store_child, copy_child}
-use Rattle.art_serial.specs.alone.Alone.{Comes}
+use Rattle.art_serial.proofs.Common.{◌^◌, ◌≡◌, ℕ, ◌<◌, List, length, ap, ◌∙◌, ◌≢◌, slice_set, length-set, get_or-set_same, get_or-set_other}
+use Rattle.art_serial.proofs.Common.{All-set, Shape, Child, child_of, child_word, give, Setting, load_child, store_child, copy_child, Comes}
+use Rattle.art_serial.proofs.Common.{IsStored, IsShort, AreSmall}
+use Rattle.std.specs.Prelude.{slice_index}
 use Rattle.art_serial.proofs.alone.AloneLemmas.{give-comes, bind-comes, load-comes, store-comes}
-use Rattle.art_serial.specs.words.Stored.{IsStored, IsShort}
-use Rattle.art_serial.specs.writes.Writes.{AreSmall}
 use Rattle.art_serial.proofs.words.WordLemmas.{child_back, child_again, child_below, again_below}
 use Rattle.art_serial.proofs.trees.Descents.{small_at}
 

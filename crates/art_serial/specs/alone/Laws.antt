@@ -2,22 +2,14 @@
 use Rattle.std.specs.Prelude.{◌≡◌, List, ℕ, Bool, true, false}
 use Rattle.events.specs.declared.event.Call.{Call}
 use Rattle.events.specs.declared.event.Call.TheVariants.{Get, Insert, Remove, Scan, Replace}
-use Rattle.events.specs.declared.event.Reply.{Reply}
 use Rattle.map_object.specs.MapObject.{Contents, reply_to, after}
 use Rattle.art_rows.specs.declared.table.Shape.{Shape}
 use Rattle.art_steps.specs.declared.variant.Variant.{Variant}
 use Rattle.art_steps.specs.TreeCalls.{is_tree_call}
-use Rattle.art_steps.specs.Steps.{Rest}
 use Rattle.art_steps.specs.Act.{act}
 use Rattle.art_core.specs.Meaning.{Means}
 use Rattle.art_serial.specs.trees.Trees.{IsAtRest}
 use Rattle.art_serial.specs.alone.Alone.{RunsAlone}
-
--- A call that runs alone comes to one end only.
-abbrev pub EndsOnce : Type 0
-EndsOnce = (rest : Rest) (words last last2 : List ℕ) (reply reply2 : Reply) → RunsAlone rest words last reply
-    → RunsAlone rest words last2 reply2
-    → (last ≡ last2) × (reply ≡ reply2)
 
 -- The call runs alone to the reply that the map has for it, and leaves a table at rest that means the map after the call.
 pub record DoesAlone (s : Shape) (variant : Variant) (n : ℕ) (words : List ℕ) (m : Contents) (call : Call) : Type 0 where

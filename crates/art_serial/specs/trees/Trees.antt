@@ -3,10 +3,10 @@ use Rattle.std.specs.Prelude.{◌≡◌, ◌≢◌, ◌⊎◌, ◌↔◌, ℕ, �
 use Rattle.map_object.specs.MapObject.{Contents, value_at, put, below, above}
 use Rattle.art_rows.specs.declared.table.Shape.{Shape}
 use Rattle.art_rows.specs.declared.table.Kind.{Kind}
-use Rattle.art_rows.specs.declared.table.Kind.TheVariants.{Four, Full}
+use Rattle.art_rows.specs.declared.table.Kind.TheVariants.{Four}
 use Rattle.art_rows.specs.declared.table.Child.{Child}
 use Rattle.art_rows.specs.declared.table.Child.TheVariants.{Empty, Row, Leaf}
-use Rattle.art_rows.specs.Table.{row_words, rows_of, table_words, claims_of, base_of, root_base, info_at, opening}
+use Rattle.art_rows.specs.Table.{row_words, rows_of, table_words, claims_of, base_of, info_at, opening}
 use Rattle.art_rows.specs.Words.{is_obsolete, key_bytes, first_difference, info_word}
 use Rattle.art_core.specs.Meaning.{Reached, child_on, Means, AllUnlocked, pairs_of}
 use Rattle.art_core.specs.Forms.{HasForm, IsTree, level_in, path_in}
@@ -79,14 +79,6 @@ TablesOpenAtRest = (s : Shape) → 1 ≤ s.rows256 → IsAtRest s 1 (opening s) 
 abbrev pub SameTreesAreOne : Type 0
 SameTreesAreOne = (s : Shape) (words later : List ℕ) (m : Contents) → IsTree s words → Means s words m → SameTree s words later
     → HasRows s words later m
-
--- A key's way leads to the root, and on from a row to the row on its byte there, if that row's path does not differ from the key.
-abbrev pub WaysGoDown : Type 0
-WaysGoDown = (s : Shape) (words : List ℕ) (key : ℕ) → IsTree s words
-    → LeadsTo s words key (root_base s) Full (slice_index (key_bytes key) 0)
-    × ((base : ℕ) (kind : Kind) (x b : ℕ) (k : Kind) → LeadsTo s words key base kind x → child_on s words base kind x ≡ Row b k
-    → first_difference (path_in words b k) (key_bytes key) ≡ None
-    → LeadsTo s words key b k (slice_index (key_bytes key) (level_in words b k)))
 
 -- Leaves have keys and values that a tree can hold, and two keys part at a byte.
 abbrev pub LeavesAreSmall : Type 0

@@ -1,16 +1,12 @@
 -- Laws of what the words of a row say.
-use Rattle.std.specs.Prelude.{◌≡◌, ◌≢◌, ℕ, ◌+◌, ◌<◌, ◌≤◌, ◌^◌, true, false, List, length, All, Some, None, option_map}
-use Rattle.std.specs.List.Sorted.{IsStrictlyIncreasing}
+use Rattle.std.specs.Prelude.{◌≡◌, ℕ, ◌<◌, ◌≤◌, ◌^◌, true, false, List, length, All}
 use Rattle.art_rows.specs.declared.table.Shape.{Shape}
 use Rattle.art_rows.specs.declared.table.Kind.{Kind}
 use Rattle.art_rows.specs.declared.table.Child.{Child}
-use Rattle.art_rows.specs.Table.{row_words, rows_of, table_words, base_of, kind_at}
 use Rattle.art_rows.specs.Words.{info_word, info_of, keys4_of, keys4_word, keys16_of, keys16_word, more_keys16_word, entries_of}
 use Rattle.art_rows.specs.Words.{entries_word}
 use Rattle.art_rows.specs.Words.{child_of, child_word, is_locked, is_obsolete, locked_word, released_word, obsolete_word}
-use Rattle.art_rows.specs.Words.{place_of, new_place, with_key}
 use Rattle.art_serial.specs.words.Stored.{IsStored, IsShort}
-use Rattle.art_serial.specs.words.Keys.{place_moved}
 
 -- What is written in a word of a row is what the word is read as.
 pub record WordsAreReadBack : Type 0 where
@@ -39,26 +35,3 @@ pub record VersionsSay : Type 0 where
   pub locked : (v : ℕ) → is_locked v ≡ false → (is_locked (locked_word v) ≡ true) × (is_obsolete (locked_word v) ≡ is_obsolete v)
   pub released : (v : ℕ) → (is_locked (released_word v) ≡ is_locked v) × (is_obsolete (released_word v) ≡ is_obsolete v)
   pub obsolete : (v : ℕ) → (is_locked (obsolete_word v) ≡ is_locked v) × (is_obsolete (obsolete_word v) ≡ true)
-
--- Each row is at its base, in the table behind the claims, and no word is of two rows.
-pub record RowsAreApart : Type 0 where
-  pub at : (s : Shape) (kind : Kind) (number : ℕ) → number < rows_of s kind → kind_at s (base_of s kind number) ≡ Some kind
-  pub number : (s : Shape) (base : ℕ) (kind : Kind) → kind_at s base ≡ Some kind
-      → (number : ℕ) × (number < rows_of s kind) × (base ≡ base_of s kind number)
-  pub once : (s : Shape) (ka kb : Kind) (m n : ℕ) → m < rows_of s ka → n < rows_of s kb → base_of s ka m ≡ base_of s kb n
-      → (ka ≡ kb) × (m ≡ n)
-  pub begins : (s : Shape) (base : ℕ) (kind : Kind) → kind_at s base ≡ Some kind → 5 ≤ base
-  pub ends : (s : Shape) (base : ℕ) (kind : Kind) → kind_at s base ≡ Some kind → base + row_words kind ≤ table_words s
-  pub apart : (s : Shape) (a b : ℕ) (ka kb : Kind) (word : ℕ) → kind_at s a ≡ Some ka → kind_at s b ≡ Some kb
-      → a ≤ word → word < a + row_words ka → b ≤ word → word < b + row_words kb → (a ≡ b) × (ka ≡ kb)
-
--- An absent byte that is put among rising keys: they rise, one more; the byte has the new place, and each other key the
--- place that it moves to.
-pub record KeysAreKept : Type 0 where
-  pub rising : (x : ℕ) (keys : List ℕ) → IsStrictlyIncreasing keys → place_of x keys ≡ None → IsStrictlyIncreasing (with_key x keys)
-  pub more : (x : ℕ) (keys : List ℕ) → length (with_key x keys) ≡ length keys + 1
-  pub within : (x : ℕ) (keys : List ℕ) → new_place x keys ≤ length keys
-  pub new : (x : ℕ) (keys : List ℕ) → IsStrictlyIncreasing keys → place_of x keys ≡ None
-      → place_of x (with_key x keys) ≡ Some (new_place x keys)
-  pub old : (x y : ℕ) (keys : List ℕ) → IsStrictlyIncreasing keys → y ≢ x
-      → place_of y (with_key x keys) ≡ option_map (place_moved (new_place x keys)) (place_of y keys)

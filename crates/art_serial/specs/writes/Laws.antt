@@ -1,26 +1,18 @@
 -- Laws of what inserts write where they run alone.
-use Rattle.std.specs.Prelude.{◌≡◌, ◌≢◌, ℕ, ◌+◌, ◌<◌, ◌≤◌, ◌^◌, List, length, take, slice_index, slice_set, Some, None}
+use Rattle.std.specs.Prelude.{◌≡◌, ◌≢◌, ℕ, ◌+◌, ◌<◌, ◌≤◌, ◌^◌, List, length, take, slice_index, None}
 use Rattle.events.specs.declared.event.Call.TheVariants.{Insert}
-use Rattle.art_rows.specs.declared.table.Shape.{Shape}
-use Rattle.art_rows.specs.declared.table.Kind.{Kind}
 use Rattle.art_rows.specs.declared.table.Kind.TheVariants.{Four}
 use Rattle.art_rows.specs.declared.table.Child.TheVariants.{Leaf}
-use Rattle.art_rows.specs.Table.{row_words, rows_of, table_words, claims_of, capacity, kind_at}
-use Rattle.art_rows.specs.Words.{key_bytes, info_word, row_word, obsolete_word}
+use Rattle.art_rows.specs.Table.{row_words, rows_of, table_words, claims_of, capacity}
+use Rattle.art_rows.specs.Words.{key_bytes}
 use Rattle.art_steps.specs.Rows.{Setting, Row, byte_at}
-use Rattle.art_steps.specs.Updates.{Under, put_in, pair_in, fill, grow, next_kind}
-use Rattle.art_core.specs.Meaning.{slot_of, child_on}
+use Rattle.art_steps.specs.Updates.{Under, put_in, pair_in, fill, next_kind}
+use Rattle.art_core.specs.Meaning.{slot_of}
 use Rattle.art_core.specs.Forms.{HasForm}
 use Rattle.art_serial.specs.words.Stored.{IsStored}
-use Rattle.art_serial.specs.alone.Alone.{Comes, unlocked_rows}
+use Rattle.art_serial.specs.alone.Alone.{Comes}
 use Rattle.art_serial.specs.alone.Finding.{keys_in_row, count_in_row}
-use Rattle.art_serial.specs.writes.Writes.{HasSameFields, HasPut, fresh_base, IsOutside, HasPair, IsApart, HasGrown, HasFresh}
-
--- A row whose keys and children are the same words has form, and has the same on each byte.
-abbrev pub RowsAreTheirFields : Type 0
-RowsAreTheirFields = (s : Shape) (words later : List ℕ) (base : ℕ) (kind : Kind) → HasForm words base kind
-    → HasSameFields words later base kind
-    → HasForm later base kind × ((x : ℕ) → x < 256 → child_on s later base kind x ≡ child_on s words base kind x)
+use Rattle.art_serial.specs.writes.Writes.{HasPut, fresh_base, IsOutside, HasPair, IsApart, HasGrown}
 
 -- PUT, of an insert that runs alone, in a row of the table that has form, lacks the byte and is not full.
 abbrev pub PutsWriteLeaves : Type 0
@@ -52,22 +44,3 @@ RowsAreFilled = (c : Setting) (n : Row) (base : ℕ) (words : List ℕ) (x key v
     → (later : List ℕ) × Comes (fill n.kind c n base x (keys_in_row words n.base n.kind x) (count_in_row c.call words n.base n.kind x))
     words tt later
     × HasGrown c.shape words later n.base n.kind base (next_kind n.kind) x (Leaf key value)
-
--- GROW, of an insert that runs alone, where a claim finds a row: the fresh row with the children and the new leaf hangs in the slot, the
--- full row is released as obsolete, and the rows above are unlocked.
-abbrev pub GrownRowsAreWritten : Type 0
-GrownRowsAreWritten = (c : Setting) (above : List Row) (slot : ℕ) (n : Row) (words : List ℕ) (key value : ℕ)
-    → c.call ≡ Insert key value → value < 2 ^ 30
-    → slice_index words (claims_of (next_kind n.kind)) < rows_of c.shape (next_kind n.kind) → table_words c.shape ≤ length words
-    → kind_at c.shape n.base ≡ Some n.kind
-    → ((word : ℕ) → fresh_base c.shape words (next_kind n.kind) ≤ word
-    → word < fresh_base c.shape words (next_kind n.kind) + row_words (next_kind n.kind) → slice_index words word ≡ 0)
-    → HasForm words n.base n.kind → slot_of words n.base n.kind (byte_at c n.level) ≡ None
-    → count_in_row c.call words n.base n.kind (byte_at c n.level) ≡ capacity n.kind
-    → (filled : List ℕ)
-    × Comes (grow c above slot n (keys_in_row words n.base n.kind (byte_at c n.level))
-    (count_in_row c.call words n.base n.kind (byte_at c n.level))) words tt
-    (unlocked_rows above (slice_set (slice_set filled slot (row_word (fresh_base c.shape words (next_kind n.kind)))) n.base
-    (obsolete_word n.kept)))
-    × HasFresh c.shape words filled n.base n.kind (fresh_base c.shape words (next_kind n.kind)) (next_kind n.kind)
-    (info_word (next_kind n.kind) n.level n.path) (byte_at c n.level) (Leaf key value)

@@ -1,14 +1,9 @@
 // Laws of calls that run alone: each function only carries its clause.
-ghost use Rattle.art_serial.specs.alone.Laws.{EndsOnce, SeeksAreTheMaps};
+ghost use Rattle.art_serial.specs.alone.Laws.{SeeksAreTheMaps};
 
 use crate::laws::trees::{
     leaves_are_put, leaves_are_removed, same_trees_are_one, ways_lead_to_values,
 };
-
-/// A call that runs alone comes to one end only.
-pub fn ends_once()
-    ensures { EndsOnce }
-{}
 
 /// A get, a remove or a replace, alone on a table at rest, is answered as the map answers it, and leaves a table at
 /// rest that means the map after the call. It stands on the laws of trees.

@@ -1,17 +1,11 @@
 // Laws of inserts that run alone: each function only carries its clause.
-ghost use Rattle.art_serial.specs.inserts.Laws.{InsertsAreTheMaps, SettledWordsRest};
+ghost use Rattle.art_serial.specs.inserts.Laws.{InsertsAreTheMaps};
 
 use crate::laws::trees::{
     grown_rows_are_hung, keys_part, leaves_are_put, leaves_are_small, pairs_are_hung,
     same_trees_are_one, ways_lead_to_values,
 };
 use crate::laws::words::{versions_say, words_are_read_back, words_are_small};
-
-/// Words in which one more claim was made of a kind at most, and what was written is inside of rows or of a row claimed
-/// since, are at rest again, if they are a tree of live rows.
-pub fn settled_words_rest()
-    ensures { SettledWordsRest }
-{}
 
 /// An insert, alone on a table at rest, is answered as the map answers it, or refused, and leaves a table at rest that
 /// means the map after it. It stands on the laws of trees and of words.

@@ -1,34 +1,14 @@
 -- A scan that runs alone on the words of its moment goes through the stages of the attempt that answers.
-use Rattle.std.proofs.Common.{◌≡◌, ℕ, zero, suc, ◌+◌, ◌*◌, ◌<◌, ◌≤◌, List, [], ◌∷◌, ◌++◌, length, take, refl, ap, sym, ◌∙◌, Bool, true}
-use Rattle.std.proofs.Common.{false}
-use Rattle.std.proofs.Common.{inl, inr, arith}
-use Rattle.std.specs.Prelude.{◌==◌, slice_index, Option, Some, None, if◌then◌else◌}
-use Rattle.std.proofs.lemmas.Bool.{false≢true, eqb-true}
-use Rattle.std.proofs.Math.Seq.{take-length}
-use Rattle.events.specs.declared.event.Call.{Call}
-use Rattle.events.specs.declared.event.Call.TheVariants.{Scan}
-use Rattle.events.specs.declared.event.Reply.{Reply}
+use Rattle.art_versions.proofs.Common.{◌≡◌, ℕ, zero, suc, ◌+◌, ◌*◌, ◌<◌, ◌≤◌, List, [], ◌∷◌, ◌++◌, length, take, refl, ap, sym, ◌∙◌, Bool, true}
+use Rattle.art_versions.proofs.Common.{false, inl, inr, arith, ◌==◌, slice_index, Option, Some, None, if◌then◌else◌, false≢true, eqb-true}
+use Rattle.art_versions.proofs.Common.{take-length, Call, Scan, Reply, Kind, Four, Sixteen, FortyEight, Full, Shape, row_words, kind_at, info_at}
+use Rattle.art_versions.proofs.Common.{keys_at, more_keys_at, index_at, count_at, is_locked, Optimistic, Load, Point, Asks, Answers, Setting}
+use Rattle.art_versions.proofs.Common.{act, Held, ScanStep, Lock, Exchange, Keys, FirstKeys, SecondKeys, Index, LoadChild, Release, held, Walk}
+use Rattle.art_versions.proofs.Common.{ScanAt, at, close_at, scan_start, scan_after, step_after, scan_turn, Plan}
 use Rattle.art_serial.proofs.trees.Bytes.{next_of}
-use Rattle.art_rows.specs.declared.table.Kind.{Kind}
-use Rattle.art_rows.specs.declared.table.Kind.TheVariants.{Four, Sixteen, FortyEight, Full}
-use Rattle.art_rows.specs.declared.table.Shape.{Shape}
-use Rattle.art_rows.specs.Table.{row_words, kind_at, info_at, keys_at, more_keys_at, index_at, count_at}
-use Rattle.art_rows.specs.Words.{is_locked}
-use Rattle.art_steps.specs.declared.variant.Variant.TheVariants.{Optimistic}
-use Rattle.art_steps.specs.declared.access.Access.TheVariants.{Load}
-use Rattle.art_steps.specs.declared.access.Point.{Point}
 use Rattle.art_steps.specs.declared.access.Point.TheVariants as point
-use Rattle.art_steps.specs.Steps.{Asks, Answers}
-use Rattle.art_steps.specs.Rows.{Setting}
-use Rattle.art_steps.specs.Act.{act}
-use Rattle.art_stages.specs.declared.stage.Held.{Held}
-use Rattle.art_stages.specs.declared.stage.ScanStep.{ScanStep}
-use Rattle.art_stages.specs.declared.stage.ScanStep.TheVariants.{Lock, Exchange, Wait, Info, Keys, FirstKeys, SecondKeys, Index}
-use Rattle.art_stages.specs.declared.stage.ScanStep.TheVariants.{Child as LoadChild, Release}
-use Rattle.art_stages.specs.declared.stage.ScanStep.TheVariants.{Over}
-use Rattle.art_stages.specs.Stages.{held}
-use Rattle.art_stages.specs.Scans.{Walk, ScanAt, at, entry_base, close_at, scan_start, scan_after, step_after, scan_turn}
-use Rattle.art_core.specs.Core.{Plan}
+use Rattle.art_stages.specs.declared.stage.ScanStep.TheVariants.{Wait, Info, Over}
+use Rattle.art_stages.specs.Scans.{entry_base}
 use Rattle.art_core.specs.Moments.{Reads, next_word, alone, AnswersAlone}
 use Rattle.art_versions.proofs.versions.KeyLemmas.{slot-behind}
 use Rattle.art_versions.proofs.moments.AttemptLemmas.{stage, fold-more, IsSettledWord, Walking, InRows}

@@ -1,23 +1,9 @@
 -- What an attempt of a scan has read.
-use Rattle.std.proofs.Common.{◌≡◌, ◌≢◌, ℕ, ◌+◌, ◌%◌, ◌<◌, ◌≤◌, List, [], ◌∷◌, ◌++◌, length, take, refl, ap, sym, subst, ◌∙◌, false}
-use Rattle.std.proofs.Common.{inl, inr, arith}
-use Rattle.std.specs.Prelude.{◌⊎◌, slice_index, Option, Some, None}
-use Rattle.std.proofs.lemmas.List.{length-append}
-use Rattle.std.proofs.lemmas.Bool.{cases_lt}
-use Rattle.std.proofs.Math.Seq.{take-length}
-use Rattle.events.specs.declared.event.Call.TheVariants.{Scan}
-use Rattle.art_rows.specs.declared.table.Shape.{Shape}
-use Rattle.art_rows.specs.Table.{row_words, kind_at}
-use Rattle.art_rows.specs.Words.{is_locked}
-use Rattle.art_steps.specs.declared.access.Access.TheVariants.{Load}
-use Rattle.art_steps.specs.declared.access.Point.{Point}
+use Rattle.art_versions.proofs.Common.{◌≡◌, ◌≢◌, ℕ, ◌+◌, ◌%◌, ◌<◌, ◌≤◌, List, [], ◌∷◌, ◌++◌, length, take, refl, ap, sym, subst, ◌∙◌, false, inl}
+use Rattle.art_versions.proofs.Common.{inr, arith, ◌⊎◌, slice_index, Option, Some, None, length-append, cases_lt, take-length, Scan, Shape}
+use Rattle.art_versions.proofs.Common.{row_words, kind_at, is_locked, Load, Point, Asks, Setting, Held, ScanAt, scan_start, scan_after}
+use Rattle.art_versions.proofs.Common.{scan_turn, optimistic, OfRows, IsAmong}
 use Rattle.art_steps.specs.declared.access.Point.TheVariants as point
-use Rattle.art_steps.specs.Steps.{Asks}
-use Rattle.art_steps.specs.Rows.{Setting}
-use Rattle.art_stages.specs.declared.stage.Held.{Held}
-use Rattle.art_stages.specs.Scans.{ScanAt, scan_start, scan_after, scan_turn}
-use Rattle.art_versions.specs.versions.Holding.{optimistic, OfRows}
-use Rattle.art_versions.specs.versions.Effects.{IsAmong}
 use Rattle.art_versions.proofs.moments.TimeLemmas.{take-more, index-more, index-last}
 
 module _ (s : Shape) (lo hi : ℕ) where

@@ -1,29 +1,11 @@
 -- An answered get was checked.
-use Rattle.std.proofs.Common.{◌≡◌, ℕ, ◌≤◌, List, [], ◌++◌, take, refl, ap, sym, ◌∙◌, inl, inr, false, arith}
-use Rattle.std.specs.Prelude.{◌⊎◌, slice_index, Option, Some, None}
-use Rattle.std.proofs.lemmas.List.{append-nil}
-use Rattle.std.proofs.lemmas.Option.{none-some}
-use Rattle.events.specs.declared.event.Call.{Call}
-use Rattle.events.specs.declared.event.Call.TheVariants.{Get}
-use Rattle.events.specs.declared.event.Reply.{Reply}
-use Rattle.art_rows.specs.declared.table.Kind.{Kind}
-use Rattle.art_rows.specs.Table.{kind_at, info_at}
-use Rattle.art_rows.specs.Words.{is_locked}
-use Rattle.art_rows.proofs.KindLemmas.{seven-words}
-use Rattle.art_steps.specs.declared.variant.Variant.TheVariants.{Optimistic}
-use Rattle.art_steps.specs.declared.access.Point.{Point}
+use Rattle.art_versions.proofs.Common.{◌≡◌, ℕ, ◌≤◌, List, [], ◌++◌, take, refl, ap, sym, ◌∙◌, inl, inr, false, arith, ◌⊎◌, slice_index, Option}
+use Rattle.art_versions.proofs.Common.{Some, None, append-nil, none-some, Call, Get, Reply, Kind, kind_at, info_at, is_locked, seven-words}
+use Rattle.art_versions.proofs.Common.{Optimistic, Point, Answers, Setting, act, Root, Wait, turn_at, OnKey, call_turn, after_all, call_begun}
+use Rattle.art_versions.proofs.Common.{call_behind, call_next, behind, Plan, BeginsAttempt, Enters, IsCheckedGet}
 use Rattle.art_steps.specs.declared.access.Point.TheVariants as point
-use Rattle.art_steps.specs.Steps.{Answers}
-use Rattle.art_steps.specs.Rows.{Setting}
-use Rattle.art_steps.specs.Act.{act}
-use Rattle.art_stages.specs.declared.stage.Target.TheVariants.{Root}
-use Rattle.art_stages.specs.declared.stage.Stage.TheVariants.{Wait}
-use Rattle.art_stages.specs.Automaton.{turn_at}
-use Rattle.art_stages.specs.Calls.{OnKey, call_turn, after_all, call_begun, call_behind}
-use Rattle.art_stages.proofs.BehindLemmas.{call_next, behind}
-use Rattle.art_core.specs.Core.{Plan}
-use Rattle.art_core.specs.Moments.{BeginsAttempt, Reads, Enters}
-use Rattle.art_versions.specs.moments.Gets.{IsCheckedGet, AnsweredGetsAreChecked, GoesBy, HasRead}
+use Rattle.art_core.specs.Moments.{Reads}
+use Rattle.art_versions.specs.moments.Gets.{GoesBy, HasRead}
 use Rattle.art_versions.proofs.moments.RowLemmas.{row-within}
 use Rattle.art_versions.proofs.moments.SeekLemmas.{stage, Loads, Entered, InfoOf, Agrees, AllSeek, all-fold, all-append, at-end, attempted}
 use Rattle.art_versions.proofs.moments.SeekLemmas.{answered}
@@ -128,6 +110,3 @@ module _ (plan : Plan) (key : ℕ) (v : plan.variant ≡ Optimistic) (some : 1 �
         stages = λ words. all-append plan.shape some key (call_begun c) x.earlier words
             ∙ (ap (λ y. after_all c y words) x.begins ∙ all-fold plan.shape some key (Wait Root) words);
       }
-
-pub answered-checked : AnsweredGetsAreChecked
-answered-checked plan key got reply v some answers = (checked plan key v some got reply answers).is

@@ -1,45 +1,20 @@
 -- Where an answered scan was validated, its words are those of one moment; so are those that an answered get read of its last row.
-use Rattle.std.proofs.Common.{◌≡◌, ℕ, zero, suc, ◌+◌, ◌-◌, ◌^◌, ◌<◌, ◌≤◌, List, [], ◌∷◌, ◌++◌, length, take, refl, ap, sym, subst, ◌∙◌, inl}
-use Rattle.std.proofs.Common.{inr, arith, false}
-use Rattle.std.specs.Prelude.{slice_get, slice_index, Some}
-use Rattle.std.proofs.lemmas.Bool.{cases_lt}
-use Rattle.std.proofs.lemmas.List.{length-append, length-take}
-use Rattle.std.proofs.lemmas.Option.{same_Some, none-some}
-use Rattle.std.proofs.Math.Seq.{take-length}
-use Rattle.events.specs.declared.event.Call.{Call}
-use Rattle.events.specs.declared.event.Call.TheVariants.{Get, Scan}
-use Rattle.events.specs.declared.event.Reply.{Reply}
-use Rattle.map_object.specs.MapObject.{Contents}
-use Rattle.art_rows.specs.declared.table.Kind.{Kind}
-use Rattle.art_rows.specs.Table.{row_words}
-use Rattle.art_rows.specs.Words.{is_locked}
-use Rattle.art_rows.proofs.KindLemmas.{some-words}
-use Rattle.art_serial.proofs.words.TableLemmas.{rows_apart}
-use Rattle.art_steps.specs.declared.variant.Variant.TheVariants.{Optimistic}
-use Rattle.art_steps.specs.declared.access.Access.TheVariants.{Load}
-use Rattle.art_steps.specs.Steps.{Asks, Answers}
-use Rattle.art_steps.specs.Act.{act}
-use Rattle.art_steps.proofs.TurnLemmas.{asks-same, answers-of}
-use Rattle.art_stages.specs.Scans.{scan_start, scan_turn}
-use Rattle.art_stages.specs.Calls.{call_turn, call_behind}
-use Rattle.art_core.specs.declared.process.Process.{Process}
-use Rattle.art_core.specs.Core.{Plan, State, opened_on, begun, known_reply}
-use Rattle.art_core.specs.Runs.{run_on, At}
-use Rattle.art_core.specs.Plans.{IsRun}
+use Rattle.art_versions.proofs.Common.{◌≡◌, ℕ, zero, suc, ◌+◌, ◌-◌, ◌^◌, ◌<◌, ◌≤◌, List, [], ◌∷◌, ◌++◌, length, take, refl, ap, sym, subst, ◌∙◌}
+use Rattle.art_versions.proofs.Common.{inl, inr, arith, false, slice_get, slice_index, Some, cases_lt, length-append, same_Some, none-some}
+use Rattle.art_versions.proofs.Common.{take-length, Call, Get, Scan, Reply, Contents, Kind, row_words, is_locked, some-words, rows_apart}
+use Rattle.art_versions.proofs.Common.{Optimistic, Load, Asks, Answers, act, asks-same, scan_start, scan_turn, call_turn, call_behind, Process}
+use Rattle.art_versions.proofs.Common.{Plan, State, opened_on, begun, run_on, At, IsRun, HasGot, BeginsAttempt, Enters, run-steps, Knows}
+use Rattle.art_versions.proofs.Common.{optimistic, IsSettled, IsSound, IsSteady, SameWords, GotAt, IsValidated, IsCheckedGet}
+use Rattle.std.proofs.lemmas.List.{length-take}
+use Rattle.art_steps.proofs.TurnLemmas.{answers-of}
+use Rattle.art_core.specs.Core.{known_reply}
 use Rattle.art_core.specs.Claims.{ScanHasMoment}
 use Rattle.art_core.specs.Meaning.{row_in}
-use Rattle.art_core.specs.Moments.{HasGot, BeginsAttempt, Reads, Enters, Checks, IsOfEnteredRow, StandsFrom, HasMoment}
-use Rattle.art_core.proofs.StartLemmas.{run-steps}
-use Rattle.art_versions.specs.versions.Holding.{Knows, optimistic}
-use Rattle.art_versions.specs.versions.Versions.{IsSettled, IsSound}
-use Rattle.art_versions.specs.versions.Steady.{IsSteady, SameWords}
+use Rattle.art_core.specs.Moments.{Reads, Checks, IsOfEnteredRow, StandsFrom, HasMoment}
 use Rattle.art_versions.proofs.versions.MoveLemmas.{settled-row}
 use Rattle.art_versions.proofs.versions.StepLemmas.{one-step, next-turn}
 use Rattle.art_versions.proofs.versions.RunLemmas.{StartsSound, start-sound, steady-refl, steady-trans}
 use Rattle.art_versions.proofs.versions.SettledLemmas.{loads-known}
-use Rattle.art_versions.specs.moments.Times.{GotAt}
-use Rattle.art_versions.specs.moments.Attempts.{IsValidated}
-use Rattle.art_versions.specs.moments.Gets.{IsCheckedGet}
 use Rattle.art_versions.specs.moments.LastRows.{HasMomentOfLastRow, GetsHaveOneMoment}
 use Rattle.art_versions.proofs.moments.TimeLemmas.{at-before, was-got, ordered}
 use Rattle.art_versions.proofs.moments.AttemptLemmas.{stage}

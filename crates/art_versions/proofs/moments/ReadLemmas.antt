@@ -1,10 +1,6 @@
 -- The moments of reads that were answered before a schedule came to its end.
-use Rattle.std.proofs.Common.{ℕ, zero, suc, ◌≤◌, List, [], ◌∷◌, length, take, arith}
-use Rattle.map_object.specs.MapObject.{Contents}
-use Rattle.art_core.specs.Core.{Plan, State, opened_on}
-use Rattle.art_core.specs.Runs.{At}
-use Rattle.art_core.specs.Plans.{IsRun}
-use Rattle.art_core.proofs.StartLemmas.{run-steps}
+use Rattle.art_versions.proofs.Common.{ℕ, zero, suc, ◌≤◌, List, [], ◌∷◌, length, take, arith, Contents, Plan, State, opened_on, At, IsRun}
+use Rattle.art_versions.proofs.Common.{run-steps}
 use Rattle.art_versions.specs.moments.Reads.{RunsHaveMomentsOfScans, RunsHaveMomentsOfGets}
 use Rattle.art_versions.proofs.moments.MomentLemmas.{scan-has-moment, get-has-moment}
 

@@ -1,13 +1,8 @@
 -- The words of rows: lists that agree from one place to another have the same part there, and no row begins within another.
-use Rattle.std.proofs.Common.{◌≡◌, ℕ, zero, suc, ◌+◌, ◌<◌, ◌≤◌, List, [], ◌∷◌, length, take, drop, refl, ap, ◌∙◌, inl, inr, arith}
-use Rattle.std.specs.Prelude.{slice_index, Option, Some, None}
-use Rattle.std.proofs.lemmas.Bool.{cases_lt}
-use Rattle.std.proofs.Math.Seq.{take-length}
-use Rattle.art_serial.proofs.words.TableLemmas.{rows_apart}
-use Rattle.art_rows.specs.declared.table.Kind.{Kind}
-use Rattle.art_rows.specs.declared.table.Shape.{Shape}
-use Rattle.art_rows.specs.Table.{row_words, kind_at}
-use Rattle.art_rows.proofs.KindLemmas.{some-words}
+use Rattle.art_versions.proofs.Common.{◌≡◌, ℕ, zero, suc, ◌+◌, ◌<◌, ◌≤◌, List, [], ◌∷◌, length, take, refl, ap, ◌∙◌, inl, inr, arith}
+use Rattle.art_versions.proofs.Common.{slice_index, Option, Some, None, cases_lt, take-length, rows_apart, Kind, Shape, row_words, kind_at}
+use Rattle.art_versions.proofs.Common.{some-words}
+use Rattle.std.proofs.Common.{drop}
 use Rattle.art_rows.proofs.WriterLemmas.{take_whole}
 
 take-same : (n : ℕ) (xs ys : List ℕ) → length xs ≡ length ys → ((k : ℕ) → k < n → slice_index xs k ≡ slice_index ys k)

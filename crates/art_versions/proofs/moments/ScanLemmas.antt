@@ -1,43 +1,19 @@
 -- The attempt of a scan that answers: all rows that it read were checked at its end.
-use Rattle.std.proofs.Common.{◌≡◌, ℕ, zero, suc, ◌+◌, ◌*◌, ◌/◌, ◌%◌, ◌<◌, ◌≤◌, List, [], ◌∷◌, ◌++◌, length, take, refl, ap, sym, subst, ◌∙◌}
-use Rattle.std.proofs.Common.{Bool, true, false}
-use Rattle.std.proofs.Common.{inl, inr, arith, append_assoc}
-use Rattle.std.specs.Prelude.{◌⊎◌, ◌==◌, Option, Some, None, if◌then◌else◌}
-use Rattle.std.proofs.lemmas.List.{length-append, append-nil}
-use Rattle.std.proofs.lemmas.Bool.{cases_lt, eqb-true}
-use Rattle.std.proofs.Math.Seq.{take-length}
-use Rattle.events.specs.declared.event.Reply.{Reply}
-use Rattle.art_rows.specs.declared.table.Kind.{Kind}
-use Rattle.art_rows.specs.declared.table.Kind.TheVariants.{Four, Sixteen, FortyEight, Full}
-use Rattle.art_rows.specs.declared.table.Shape.{Shape}
-use Rattle.art_rows.specs.declared.table.Child.{Child}
-use Rattle.art_rows.specs.declared.table.Child.TheVariants.{Empty, Row as ChildRow, Leaf}
-use Rattle.art_rows.specs.Table.{row_words, kind_at, keys_at, more_keys_at, count_at, index_at}
-use Rattle.art_rows.specs.Words.{child_of, row_child}
-use Rattle.art_steps.specs.declared.access.Access.{Access}
-use Rattle.art_steps.specs.declared.access.Point.{Point}
+use Rattle.art_versions.proofs.Common.{◌≡◌, ℕ, zero, suc, ◌+◌, ◌*◌, ◌/◌, ◌%◌, ◌<◌, ◌≤◌, List, [], ◌∷◌, ◌++◌, length, take, refl, ap, sym, subst}
+use Rattle.art_versions.proofs.Common.{◌∙◌, Bool, true, false, inl, inr, arith, append_assoc, ◌⊎◌, ◌==◌, Option, Some, None, if◌then◌else◌}
+use Rattle.art_versions.proofs.Common.{length-append, append-nil, cases_lt, eqb-true, take-length, Reply, Kind, Four, Sixteen, FortyEight, Full}
+use Rattle.art_versions.proofs.Common.{Shape, Child, Empty, ChildRow, Leaf, row_words, kind_at, keys_at, more_keys_at, count_at, index_at}
+use Rattle.art_versions.proofs.Common.{child_of, row_child, Access, Point, Asks, Answers, Setting, with_leaf, answers-asks, Held, Below}
+use Rattle.art_versions.proofs.Common.{ScanStep, Lock, Exchange, Keys, FirstKeys, SecondKeys, Index, LoadChild, Release, held, keys_one, Walk}
+use Rattle.art_versions.proofs.Common.{ScanAt, at, walked, frame_of, keys16, close_at, with_frame, child_after, scan_start, scan_after}
+use Rattle.art_versions.proofs.Common.{scan_turn, CallAt, OnScan, after_all, call_begun, call_behind, OfRows, Each, FitsFrame}
 use Rattle.art_steps.specs.declared.access.Point.TheVariants as point
-use Rattle.art_steps.specs.Steps.{Asks, Answers}
-use Rattle.art_steps.specs.Rows.{Setting}
-use Rattle.art_steps.specs.Scan.{with_leaf}
-use Rattle.art_steps.proofs.TurnLemmas.{answers-asks}
-use Rattle.art_stages.specs.declared.stage.Held.{Held}
-use Rattle.art_stages.specs.declared.stage.Entry.TheVariants.{Root, Below}
-use Rattle.art_stages.specs.declared.stage.ScanStep.{ScanStep}
-use Rattle.art_stages.specs.declared.stage.ScanStep.TheVariants.{Lock, Exchange, Wait, Info, Keys, FirstKeys, SecondKeys, Index}
-use Rattle.art_stages.specs.declared.stage.ScanStep.TheVariants.{Child as LoadChild, Release}
-use Rattle.art_stages.specs.declared.stage.ScanStep.TheVariants.{Over}
-use Rattle.art_stages.specs.Stages.{held}
-use Rattle.art_stages.specs.Automaton.{keys_one}
-use Rattle.art_stages.specs.Scans.{Walk, ScanAt, at, walked, frame_of, keys16, close_at, with_frame}
-use Rattle.art_stages.specs.Scans.{child_after, scan_start, scan_after, scan_turn}
-use Rattle.art_stages.specs.Calls.{CallAt, OnScan, after_all, call_begun, call_behind}
-use Rattle.art_versions.specs.versions.Holding.{OfRows, Each, FitsFrame}
+use Rattle.art_stages.specs.declared.stage.Entry.TheVariants.{Root}
+use Rattle.art_stages.specs.declared.stage.ScanStep.TheVariants.{Wait, Info, Over}
 use Rattle.art_versions.proofs.versions.KeyLemmas.{slot-behind}
 use Rattle.art_versions.proofs.moments.TimeLemmas.{take-more, index-more}
-use Rattle.art_versions.proofs.moments.AttemptLemmas.{stage, fold, fold-more, IsSettledWord, loads-more, loads-cases, entered-more}
-use Rattle.art_versions.proofs.moments.AttemptLemmas.{covers-more, Walking}
-use Rattle.art_versions.proofs.moments.AttemptLemmas.{InRows}
+use Rattle.art_versions.proofs.moments.AttemptLemmas.{stage, fold, fold-more, IsSettledWord, loads-more, loads-cases, entered-more, covers-more}
+use Rattle.art_versions.proofs.moments.AttemptLemmas.{Walking, InRows}
 use Rattle.art_versions.proofs.moments.StandsLemmas.{Releasing, Stands, StandsAt, Next, waits-root, waits-below, visits, checks, reads-on}
 use Rattle.art_versions.proofs.moments.StandsLemmas.{resumes, released}
 

@@ -1,49 +1,28 @@
 -- The attempt of a get that answers: the row that it entered last was checked with the version with which it was entered, and the reply is
 -- what its words say.
-use Rattle.std.proofs.Common.{◌≡◌, ◌≢◌, ℕ, zero, suc, ◌+◌, ◌-◌, ◌%◌, ◌<◌, ◌≤◌, List, [], ◌∷◌, ◌++◌, length, take, refl, ap, sym, subst, ◌∙◌}
-use Rattle.std.proofs.Common.{Bool, true, false}
-use Rattle.std.proofs.Common.{inl, inr, arith, append_assoc}
-use Rattle.std.specs.Prelude.{◌⊎◌, ◌==◌, slice_index, Option, Some, None, option_map, if◌then◌else◌}
-use Rattle.std.proofs.lemmas.List.{length-append, append-nil}
-use Rattle.std.proofs.lemmas.Bool.{cases_lt, false≢true, eqb-true}
-use Rattle.std.proofs.lemmas.Option.{none-some, same_Some}
-use Rattle.std.proofs.Math.Seq.{take-length}
-use Rattle.events.specs.declared.event.Call.TheVariants.{Get}
-use Rattle.events.specs.declared.event.Reply.{Reply}
+use Rattle.art_versions.proofs.Common.{◌≡◌, ◌≢◌, ℕ, zero, suc, ◌+◌, ◌-◌, ◌%◌, ◌<◌, ◌≤◌, List, [], ◌∷◌, ◌++◌, length, take, refl, ap, sym, subst}
+use Rattle.art_versions.proofs.Common.{◌∙◌, Bool, true, false, inl, inr, arith, append_assoc, ◌⊎◌, ◌==◌, slice_index, Option, Some, None}
+use Rattle.art_versions.proofs.Common.{if◌then◌else◌, length-append, append-nil, cases_lt, false≢true, eqb-true, none-some, same_Some}
+use Rattle.art_versions.proofs.Common.{take-length, Get, Reply, kind_at-base_of, Kind, Four, Sixteen, FortyEight, Full, Shape, Child, Empty}
+use Rattle.art_versions.proofs.Common.{ChildRow, Leaf, row_words, kind_at, root_base, info_at, keys_at, more_keys_at, index_at, count_at}
+use Rattle.art_versions.proofs.Common.{child_at, is_locked, is_obsolete, entries_of, place_of, child_of, key_bytes, seven-words, key_byte-small}
+use Rattle.art_versions.proofs.Common.{Load, Point, Asks, Answers, Setting, key_of, path_differs_at, loads-same, answers-asks, asks-answers}
+use Rattle.art_versions.proofs.Common.{Held, Finding, Lacks, Position, Down, Outcome, Root, Stage, Wait, Between, Info, Find, FindKeys, FindMore}
+use Rattle.art_versions.proofs.Common.{Slot, Check, CheckLast, Over, row_at, held, keys_among, byte_in, turn_at, find_at, among_at, keys_one}
+use Rattle.art_versions.proofs.Common.{no_value, seek_unlocked, below_at, CallAt, OnKey, call_after, after_all, call_begun, call_behind}
+use Rattle.art_versions.proofs.Common.{optimistic, IsSlot, OfRows, KnowsKey}
+use Rattle.std.specs.Prelude.{option_map}
 use Rattle.events.specs.declared.event.Reply.TheVariants as replies
-use Rattle.art_serial.proofs.words.TableLemmas.{kind_at-base_of}
-use Rattle.art_rows.specs.declared.table.Kind.{Kind}
-use Rattle.art_rows.specs.declared.table.Kind.TheVariants.{Four, Sixteen, FortyEight, Full}
-use Rattle.art_rows.specs.declared.table.Shape.{Shape}
-use Rattle.art_rows.specs.declared.table.Child.{Child}
-use Rattle.art_rows.specs.declared.table.Child.TheVariants.{Empty, Row as ChildRow, Leaf}
-use Rattle.art_rows.specs.Table.{row_words, kind_at, root_base, info_at, keys_at, more_keys_at, index_at, count_at, child_at}
-use Rattle.art_rows.specs.Words.{is_locked, is_obsolete, entries_of, place_of, child_of, key_bytes, first_difference, info_of}
-use Rattle.art_rows.proofs.KindLemmas.{seven-words}
-use Rattle.art_rows.proofs.ByteLemmas.{key_byte-small}
-use Rattle.art_steps.specs.declared.access.Access.TheVariants.{Load}
-use Rattle.art_steps.specs.declared.access.Point.{Point}
+use Rattle.art_rows.specs.Words.{first_difference, info_of}
 use Rattle.art_steps.specs.declared.access.Point.TheVariants as point
-use Rattle.art_steps.specs.Steps.{Asks, Answers}
-use Rattle.art_steps.specs.Rows.{Setting, key_of, path_differs_at}
-use Rattle.art_steps.proofs.TurnLemmas.{loads-same, answers-same, answers-asks, asks-answers}
-use Rattle.art_stages.specs.declared.stage.Held.{Held}
+use Rattle.art_steps.proofs.TurnLemmas.{answers-same}
 use Rattle.art_stages.specs.declared.stage.Keys.{Keys}
-use Rattle.art_stages.specs.declared.stage.Finding.{Finding}
-use Rattle.art_stages.specs.declared.stage.Finding.TheVariants.{Has, Lacks}
-use Rattle.art_stages.specs.declared.stage.Position.{Position}
-use Rattle.art_stages.specs.declared.stage.Down.{Down}
-use Rattle.art_stages.specs.declared.stage.Outcome.{Outcome}
+use Rattle.art_stages.specs.declared.stage.Finding.TheVariants.{Has}
 use Rattle.art_stages.specs.declared.stage.Outcome.TheVariants.{Value}
-use Rattle.art_stages.specs.declared.stage.Target.TheVariants.{Root, Below}
-use Rattle.art_stages.specs.declared.stage.Stage.{Stage}
-use Rattle.art_stages.specs.declared.stage.Stage.TheVariants.{Wait, Between, Info, Find, FindKeys, FindMore, Slot, Check, CheckLast, Over}
-use Rattle.art_stages.specs.Stages.{row_at, held, root_place, keys_among, byte_in, reply_for}
-use Rattle.art_stages.specs.Automaton.{stage_after, turn_at, find_turn, find_at, words_at, among_at, keys_one, no_value, seek_unlocked}
-use Rattle.art_stages.specs.Automaton.{below_at}
-use Rattle.art_stages.specs.Calls.{CallAt, OnKey, call_after, after_all, call_begun, call_behind}
+use Rattle.art_stages.specs.declared.stage.Target.TheVariants.{Below}
+use Rattle.art_stages.specs.Stages.{root_place, reply_for}
+use Rattle.art_stages.specs.Automaton.{stage_after, find_turn, words_at}
 use Rattle.art_core.specs.Meaning.{slot_of, entry_slot, child_in, child_on}
-use Rattle.art_versions.specs.versions.Holding.{optimistic, IsSlot, OfRows, KnowsKey}
 use Rattle.art_versions.proofs.versions.KeyLemmas.{slot-behind}
 use Rattle.art_versions.proofs.versions.WordFacts.{place-fits, entry-fits}
 use Rattle.art_versions.specs.moments.RowReplies.{reply_of_child, reply_behind, row_reply}

@@ -1,44 +1,19 @@
 -- What is so of an attempt of a scan at each of its stages.
-use Rattle.std.proofs.Common.{◌≡◌, ◌≢◌, ℕ, ◌+◌, ◌%◌, ◌<◌, ◌≤◌, List, [], ◌∷◌, ◌++◌, length, take, refl, ap, sym, subst, ◌∙◌, Bool, true}
-use Rattle.std.proofs.Common.{false}
-use Rattle.std.proofs.Common.{inl, inr, arith}
-use Rattle.std.specs.Prelude.{◌⊎◌, slice_index, map, Option, Some, None, if◌then◌else◌}
-use Rattle.std.proofs.lemmas.List.{length-append}
-use Rattle.std.proofs.lemmas.Bool.{false≢true}
-use Rattle.std.proofs.lemmas.Option.{none-some, same_Some}
-use Rattle.art_serial.proofs.words.TableLemmas.{kind_at-base_of}
-use Rattle.art_rows.specs.declared.table.Kind.{Kind}
-use Rattle.art_rows.specs.declared.table.Kind.TheVariants.{FortyEight, Full}
-use Rattle.art_rows.specs.declared.table.Shape.{Shape}
-use Rattle.art_rows.specs.Table.{row_words, kind_at, root_base, info_at}
-use Rattle.art_rows.specs.Words.{is_locked, is_obsolete}
-use Rattle.art_rows.proofs.KindLemmas.{seven-words}
-use Rattle.art_steps.specs.declared.access.Access.TheVariants.{Load}
-use Rattle.art_steps.specs.declared.access.Point.{Point}
+use Rattle.art_versions.proofs.Common.{◌≡◌, ◌≢◌, ℕ, ◌+◌, ◌%◌, ◌<◌, ◌≤◌, List, [], ◌∷◌, ◌++◌, length, take, refl, ap, sym, subst, ◌∙◌, Bool, true}
+use Rattle.art_versions.proofs.Common.{false, inl, inr, arith, ◌⊎◌, slice_index, map, Option, Some, None, if◌then◌else◌, length-append}
+use Rattle.art_versions.proofs.Common.{false≢true, none-some, same_Some, kind_at-base_of, Kind, FortyEight, Full, Shape, row_words, kind_at}
+use Rattle.art_versions.proofs.Common.{root_base, info_at, is_locked, is_obsolete, seven-words, Load, Point, Asks, Setting, bytes_of, has_row}
+use Rattle.art_versions.proofs.Common.{loads-same, Held, Below, Frame, ScanStep, Lock, Exchange, Keys, FirstKeys, SecondKeys, Index, LoadChild}
+use Rattle.art_versions.proofs.Common.{Release, row_at, held, Walk, ScanAt, at, release_rows, resume_at, visit_list, entry_at, scan_start}
+use Rattle.art_versions.proofs.Common.{step_after, scan_turn, OfRows, Each, IsSlot, FitsFrame, IsAmong}
 use Rattle.art_steps.specs.declared.access.Point.TheVariants as point
-use Rattle.art_steps.specs.Steps.{Asks}
-use Rattle.art_steps.specs.Rows.{Setting}
-use Rattle.art_steps.specs.Scan.{bytes_of, has_row}
-use Rattle.art_steps.proofs.TurnLemmas.{loads-same}
-use Rattle.art_stages.specs.declared.stage.Held.{Held}
-use Rattle.art_stages.specs.declared.stage.Entry.TheVariants.{Root, Below}
-use Rattle.art_stages.specs.declared.stage.Frame.{Frame}
-use Rattle.art_stages.specs.declared.stage.ScanStep.{ScanStep}
-use Rattle.art_stages.specs.declared.stage.ScanStep.TheVariants.{Lock, Exchange, Wait, Info, Keys, FirstKeys, SecondKeys, Index}
-use Rattle.art_stages.specs.declared.stage.ScanStep.TheVariants.{Child as LoadChild, Release}
-use Rattle.art_stages.specs.declared.stage.ScanStep.TheVariants.{Over}
-use Rattle.art_stages.specs.Stages.{row_at, held}
-use Rattle.art_stages.specs.Scans.{Walk, ScanAt, at, release_rows, resume_at, visit_list}
-use Rattle.art_stages.specs.Scans.{entry_at, scan_start, step_after, scan_turn}
-use Rattle.art_versions.specs.versions.Holding.{OfRows, Each, IsSlot, FitsFrame}
-use Rattle.art_versions.specs.versions.Effects.{IsAmong}
+use Rattle.art_stages.specs.declared.stage.Entry.TheVariants.{Root}
+use Rattle.art_stages.specs.declared.stage.ScanStep.TheVariants.{Wait, Info, Over}
 use Rattle.art_versions.proofs.versions.WordFacts.{free-version}
 use Rattle.art_versions.proofs.versions.KeyLemmas.{each-weaker}
 use Rattle.art_versions.proofs.moments.TimeLemmas.{index-more, index-last}
 use Rattle.art_versions.proofs.moments.AttemptLemmas.{stage, Loads, IsSettledWord, loads-more, loads-cases, Entered, entered-more, Covers}
-use Rattle.art_versions.proofs.moments.AttemptLemmas.{Walking, InRows}
-use Rattle.art_versions.proofs.moments.AttemptLemmas.{covers-more}
-use Rattle.art_versions.proofs.moments.AttemptLemmas.{walks-on, no-check}
+use Rattle.art_versions.proofs.moments.AttemptLemmas.{Walking, InRows, covers-more, walks-on, no-check}
 use Rattle.art_versions.proofs.moments.WalkLemmas.{resumed, listed}
 use Rattle.art_versions.proofs.versions.KnownLemmas.{among-front, among-last, found-row}
 

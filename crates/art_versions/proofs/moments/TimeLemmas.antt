@@ -1,28 +1,14 @@
 -- Each word got was got at a moment; and how a process goes on.
-use Rattle.std.proofs.Common.{◌≡◌, ℕ, zero, suc, ◌+◌, ◌-◌, ◌<◌, ◌≤◌, List, [], ◌∷◌, ◌++◌, length, take, refl, ap, sym, subst, ◌∙◌, inl, inr}
-use Rattle.std.proofs.Common.{arith}
-use Rattle.std.specs.Prelude.{◌⊎◌, slice_get, slice_index, Option, Some, None}
-use Rattle.std.proofs.lemmas.List.{length-append, get_or_append_left}
-use Rattle.std.proofs.lemmas.Bool.{cases_lt}
-use Rattle.std.proofs.lemmas.Option.{same_Some, none-some}
-use Rattle.std.proofs.Math.Seq.{take-length, get_or-append_seam}
-use Rattle.events.specs.declared.event.Call.{Call}
+use Rattle.art_versions.proofs.Common.{◌≡◌, ℕ, zero, suc, ◌+◌, ◌-◌, ◌<◌, ◌≤◌, List, [], ◌∷◌, ◌++◌, length, take, refl, ap, sym, subst, ◌∙◌, inl}
+use Rattle.art_versions.proofs.Common.{inr, arith, ◌⊎◌, slice_get, slice_index, Option, Some, None, length-append, cases_lt, same_Some}
+use Rattle.art_versions.proofs.Common.{none-some, take-length, Call, Reply, Access, Point, Turn, Asks, Answers, act, word_of, Process, told}
+use Rattle.art_versions.proofs.Common.{Plan, State, Move, Invokes, Makes, Responds, opened_on, begun, step, move_of, move_from, next_call}
+use Rattle.art_versions.proofs.Common.{invocation, after_move, run_on, At, HasGot, nowhere, all-idle, is-moved, changed-at, GotAt}
+use Rattle.std.proofs.lemmas.List.{get_or_append_left}
+use Rattle.std.proofs.Math.Seq.{get_or-append_seam}
 use Rattle.events.specs.declared.event.Event.TheVariants.{Invoke, Answer}
-use Rattle.events.specs.declared.event.Reply.{Reply}
-use Rattle.art_steps.specs.declared.access.Access.{Access}
-use Rattle.art_steps.specs.declared.access.Point.{Point}
-use Rattle.art_steps.specs.Steps.{Turn, Asks, Answers}
-use Rattle.art_steps.specs.Act.{act}
-use Rattle.art_steps.specs.Fits.{word_of}
-use Rattle.art_core.specs.declared.process.Process.{Process}
-use Rattle.art_core.specs.Accesses.{told}
-use Rattle.art_core.specs.Core.{Plan, State, Move, Invokes, Makes, Responds, opened_on, begun, step, move_of, move_from, next_call}
-use Rattle.art_core.specs.Core.{invocation, after_move, word_of_move}
-use Rattle.art_core.specs.Runs.{run_on, At}
-use Rattle.art_core.specs.Moments.{HasGot}
-use Rattle.art_core.proofs.HistoryLemmas.{nowhere, all-idle, is-moved, changed-at}
+use Rattle.art_core.specs.Core.{word_of_move}
 use Rattle.art_core.proofs.RunLemmas.{begun-more}
-use Rattle.art_versions.specs.moments.Times.{GotAt, WordsWereGot}
 
 -- the moment before
 pub record Before (plan : Plan) (first : State) (schedule : List ℕ) (t : ℕ) (b : State) : Type 0 where
@@ -245,9 +231,3 @@ module _ (plan : Plan) (first : State) (schedule : List ℕ) (p : ℕ) where
         | inl none ↦ none-some gb.call (sym none ∙ gb.is_open)
         | inr most ↦ omega (arith, most, ga.count, gb.count, less)
       ]
-
-pub words-were-got : WordsWereGot
-words-were-got plan words schedule s p q call i gives own is less =
-    was-got plan words schedule p (length schedule) (omega arith) s
-    (ap (run_on plan (Some (opened_on plan words))) (take-length schedule) ∙ gives) q own call is i
-    less

@@ -1,27 +1,12 @@
 -- An answered scan was validated.
-use Rattle.std.proofs.Common.{◌≡◌, ◌≢◌, ℕ, ◌+◌, ◌/◌, ◌%◌, ◌<◌, ◌≤◌, List, [], ◌++◌, take, refl, ap, sym, subst, ◌∙◌, inl, inr, arith, false}
-use Rattle.std.specs.Prelude.{◌⊎◌, slice_index, Option, Some, None}
-use Rattle.std.proofs.lemmas.List.{append-nil}
+use Rattle.art_versions.proofs.Common.{◌≡◌, ◌≢◌, ℕ, ◌+◌, ◌/◌, ◌%◌, ◌<◌, ◌≤◌, List, [], ◌++◌, take, refl, ap, sym, subst, ◌∙◌, inl, inr, arith}
+use Rattle.art_versions.proofs.Common.{false, ◌⊎◌, slice_index, Option, Some, None, append-nil, Call, Scan, Reply, row_words, kind_at, is_locked}
+use Rattle.art_versions.proofs.Common.{some-words, Optimistic, Point, Answers, Setting, act, Held, scan_start, scan_turn, OnScan, call_turn}
+use Rattle.art_versions.proofs.Common.{after_all, call_begun, call_behind, call_next, behind, Plan, BeginsAttempt, Enters, IsValidated}
 use Rattle.std.proofs.lemmas.Bool.{ne_eqb}
-use Rattle.events.specs.declared.event.Call.{Call}
-use Rattle.events.specs.declared.event.Call.TheVariants.{Scan}
-use Rattle.events.specs.declared.event.Reply.{Reply}
-use Rattle.art_rows.specs.Table.{row_words, kind_at}
-use Rattle.art_rows.specs.Words.{is_locked}
-use Rattle.art_rows.proofs.KindLemmas.{some-words}
-use Rattle.art_steps.specs.declared.variant.Variant.TheVariants.{Optimistic}
-use Rattle.art_steps.specs.declared.access.Point.{Point}
 use Rattle.art_steps.specs.declared.access.Point.TheVariants as point
-use Rattle.art_steps.specs.Steps.{Answers}
-use Rattle.art_steps.specs.Rows.{Setting}
-use Rattle.art_steps.specs.Act.{act}
-use Rattle.art_stages.specs.declared.stage.Held.{Held}
-use Rattle.art_stages.specs.Scans.{scan_start, scan_turn}
-use Rattle.art_stages.specs.Calls.{OnScan, call_turn, after_all, call_begun, call_behind}
-use Rattle.art_stages.proofs.BehindLemmas.{call_next, behind}
-use Rattle.art_core.specs.Core.{Plan}
-use Rattle.art_core.specs.Moments.{BeginsAttempt, Reads, Enters}
-use Rattle.art_versions.specs.moments.Attempts.{IsOfCheckedRow, IsValidated, AnsweredScansAreValidated}
+use Rattle.art_core.specs.Moments.{Reads}
+use Rattle.art_versions.specs.moments.Attempts.{IsOfCheckedRow}
 use Rattle.art_versions.proofs.moments.AttemptLemmas.{stage, Loads, Entered, no-check}
 use Rattle.art_versions.proofs.moments.StandsLemmas.{Releasing}
 use Rattle.art_versions.proofs.moments.ScanLemmas.{all-fold, all-append, AllStand, at-end, attempted, answered}
@@ -141,6 +126,3 @@ module _ (plan : Plan) (lo hi : ℕ) (v : plan.variant ≡ Optimistic) (some : 1
         };
         stands = x.stands;
       }
-
-pub answered-validated : AnsweredScansAreValidated
-answered-validated plan low high got reply v some answers = (validated plan low high v some got reply answers).is

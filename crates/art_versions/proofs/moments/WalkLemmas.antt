@@ -1,23 +1,10 @@
 -- The stages of an attempt of a scan, and what it has read there.
-use Rattle.std.proofs.Common.{◌≡◌, ℕ, zero, suc, ◌+◌, ◌<◌, ◌≤◌, List, [], ◌∷◌, refl, sym, subst, Bool, true, false}
-use Rattle.std.proofs.Common.{arith}
-use Rattle.std.specs.Prelude.{if◌then◌else◌, filter, Option, Some, None}
-use Rattle.std.proofs.lemmas.Option.{same_Some}
-use Rattle.art_rows.specs.declared.table.Kind.{Kind}
-use Rattle.art_rows.specs.declared.table.Kind.TheVariants.{Four, Sixteen, FortyEight, Full}
-use Rattle.art_rows.specs.declared.table.Shape.{Shape}
-use Rattle.art_rows.specs.Table.{child_at}
-use Rattle.art_steps.specs.Rows.{Setting}
-use Rattle.art_steps.specs.Scan.{bytes_of}
-use Rattle.art_stages.specs.declared.stage.Held.{Held}
-use Rattle.art_stages.specs.declared.stage.Keys.{Keys as KeyWords}
-use Rattle.art_stages.specs.declared.stage.Frame.{Frame}
-use Rattle.art_stages.specs.declared.stage.ScanStep.TheVariants.{Keys, Index, Child as LoadChild}
-use Rattle.art_stages.specs.Stages.{row_at, held}
-use Rattle.art_stages.specs.Automaton.{keys_one}
-use Rattle.art_stages.specs.Scans.{Walk, ScanAt, at, on_way, in_word, release_rows, slot_at, bytes_at, index_at_list}
-use Rattle.art_stages.specs.Scans.{words_at, child_from, frame_at, way_at, resume_at, row_begins, visit_list}
-use Rattle.art_versions.specs.versions.Holding.{OfRows, Each, IsSlot, FitsFrame}
+use Rattle.art_versions.proofs.Common.{◌≡◌, ℕ, zero, suc, ◌+◌, ◌<◌, ◌≤◌, List, [], ◌∷◌, refl, sym, subst, Bool, true, false, arith}
+use Rattle.art_versions.proofs.Common.{if◌then◌else◌, filter, Option, Some, None, same_Some, Kind, Four, Sixteen, FortyEight, Full, Shape}
+use Rattle.art_versions.proofs.Common.{child_at, Setting, bytes_of, Held, KeyWords, Frame, Keys, Index, LoadChild, row_at, held, keys_one, Walk}
+use Rattle.art_versions.proofs.Common.{ScanAt, at, on_way, in_word, release_rows, slot_at, bytes_at, index_at_list, words_at, child_from}
+use Rattle.art_versions.proofs.Common.{frame_at, way_at, resume_at, visit_list, OfRows, Each, IsSlot, FitsFrame}
+use Rattle.art_stages.specs.Scans.{row_begins}
 use Rattle.art_versions.proofs.versions.ByteLemmas.{index-small}
 use Rattle.art_versions.proofs.versions.ScanLemmas.{place-good, entry-good}
 

@@ -1,31 +1,14 @@
 -- Each access of an open call keeps rows and versions sound, and is steady.
-use Rattle.art_versions.specs.versions.Writers.{IsHeldBy, IsTakenBy, MayWrite, WritesOwn}
-use Rattle.std.proofs.Common.{◌≡◌, ◌≢◌, ℕ, ◌+◌, ◌*◌, ◌^◌, ◌<◌, ◌≤◌, List, [], length, refl, ap, sym, subst, ◌∙◌, inl, inr, arith, Bool}
-use Rattle.std.proofs.Common.{true, false}
-use Rattle.std.specs.Prelude.{◌⊎◌, slice_get, slice_index, slice_set, Some}
-use Rattle.std.proofs.lemmas.Bool.{cases_eq}
-use Rattle.std.proofs.lemmas.Option.{same_Some}
-use Rattle.events.specs.declared.event.Call.{Call}
-use Rattle.art_rows.specs.declared.table.Shape.{Shape}
-use Rattle.art_rows.specs.declared.table.Kind.{Kind}
-use Rattle.art_rows.specs.Table.{row_words, claims_of, kind_at}
-use Rattle.art_rows.specs.Words.{is_locked, locked_word, released_word, obsolete_word}
-use Rattle.art_rows.proofs.KindLemmas.{some-words, claims-few}
-use Rattle.art_serial.proofs.words.TableLemmas.{row_begins, row_ends, rows_apart}
-use Rattle.art_serial.proofs.writes.StoreLemmas.{stored-at}
-use Rattle.art_serial.proofs.serial.OrderlyLemmas.{set-here}
+use Rattle.art_versions.proofs.Common.{MayWrite, WritesOwn, ◌≡◌, ◌≢◌, ℕ, ◌+◌, ◌*◌, ◌^◌, ◌<◌, ◌≤◌, List, [], length, refl, ap, sym, subst, ◌∙◌}
+use Rattle.art_versions.proofs.Common.{inl, inr, arith, Bool, true, false, ◌⊎◌, slice_get, slice_index, slice_set, Some, cases_eq, same_Some}
+use Rattle.art_versions.proofs.Common.{Call, Shape, Kind, row_words, claims_of, kind_at, is_locked, locked_word, some-words, claims-few}
+use Rattle.art_versions.proofs.Common.{row_begins, rows_apart, stored-at, set-here, Variant, Setting, locks, Held, setting, CallAt, Process}
+use Rattle.art_versions.proofs.Common.{State, OfRows, Named, IsSlot, IsKept, Knows, holds, fills, IsGoodAt, IsAmong, IsWith, IsBehindVersion}
+use Rattle.art_versions.proofs.Common.{Has, IsOpen, stage_of, held_by, IsSettled, IsHeld, AreDistinct, IsSound, IsSteady, SameWords}
+use Rattle.art_versions.specs.versions.Writers.{IsHeldBy, IsTakenBy}
+use Rattle.art_rows.specs.Words.{released_word, obsolete_word}
+use Rattle.art_serial.proofs.words.TableLemmas.{row_ends}
 use Rattle.art_serial.proofs.words.VersionLemmas.{even-free, taken-locked}
-use Rattle.art_steps.specs.declared.variant.Variant.{Variant}
-use Rattle.art_steps.specs.Rows.{Setting, locks}
-use Rattle.art_stages.specs.declared.stage.Held.{Held}
-use Rattle.art_stages.specs.Stages.{setting}
-use Rattle.art_stages.specs.Calls.{CallAt}
-use Rattle.art_core.specs.declared.process.Process.{Process}
-use Rattle.art_core.specs.Core.{State}
-use Rattle.art_versions.specs.versions.Holding.{OfRows, Named, IsSlot, IsKept, Knows, holds, fills}
-use Rattle.art_versions.specs.versions.Effects.{IsGoodAt, IsAmong, IsWith, IsBehindVersion, Has}
-use Rattle.art_versions.specs.versions.Versions.{IsOpen, stage_of, held_by, IsSettled, IsHeld, AreDistinct, IsSound}
-use Rattle.art_versions.specs.versions.Steady.{IsSteady, SameWords}
 use Rattle.art_versions.proofs.versions.KeyLemmas.{slot-behind}
 use Rattle.art_versions.proofs.versions.KnownLemmas.{knows-more}
 use Rattle.art_versions.proofs.versions.WordFacts.{version-free}

@@ -1,32 +1,17 @@
 -- What a call on a key of a full tree knows at its beginning and its end, behind FIND, and as it works on the rows that it holds.
-use Rattle.std.proofs.Common.{◌≡◌, ℕ, zero, suc, ◌+◌, ◌-◌, ◌<◌, List, [], ◌∷◌, refl, sym, subst, Bool, true, false, arith, inl}
-use Rattle.std.specs.Prelude.{◌==◌, Option, Some, None, if◌then◌else◌}
-use Rattle.events.specs.declared.event.Call.{Call}
-use Rattle.art_rows.specs.declared.table.Kind.{Kind}
-use Rattle.art_rows.specs.declared.table.Kind.TheVariants.{Four, Sixteen, FortyEight, Full}
-use Rattle.art_rows.specs.declared.table.Shape.{Shape}
-use Rattle.art_rows.specs.Table.{capacity, kind_at, child_at, root_base}
-use Rattle.art_rows.specs.Words.{place_of, child_of}
-use Rattle.art_rows.proofs.WriterLemmas.{new_place-most}
-use Rattle.art_rows.proofs.ByteLemmas.{key_byte-small}
-use Rattle.art_steps.specs.Rows.{Setting, key_of, is_insert, locks, releases_early}
-use Rattle.art_stages.specs.declared.stage.Held.{Held}
+use Rattle.art_versions.proofs.Common.{◌≡◌, ℕ, zero, suc, ◌+◌, ◌-◌, ◌<◌, List, [], ◌∷◌, refl, sym, subst, Bool, true, false, arith, inl, ◌==◌}
+use Rattle.art_versions.proofs.Common.{Option, Some, None, if◌then◌else◌, Call, Kind, Four, Sixteen, FortyEight, Full, Shape, capacity, kind_at}
+use Rattle.art_versions.proofs.Common.{child_at, root_base, place_of, child_of, new_place-most, key_byte-small, Setting, key_of, is_insert}
+use Rattle.art_versions.proofs.Common.{locks, releases_early, Held, Finding, Lacks, Position, Hold, Work, Stage, FindCount, Slot, Over, row_at}
+use Rattle.art_versions.proofs.Common.{held, count_in, keys_in, keys_among, byte_in, place_in, leaf_place, setting, start_at, work_at}
+use Rattle.art_versions.proofs.Common.{checked_at, among_at, find_at, release_at, keys_one, OfRows, Each, IsSlot, child_rows, row_filled}
+use Rattle.art_versions.proofs.Common.{IsUnder, IsFound, FitsWork, IsKept, IsNamed, KnowsKey, rows_of_work, rows_found, FitsPlace, HasSlot}
+use Rattle.art_versions.proofs.Common.{kept_at_place, KnowsRows, Variant, all_of, held_at_place, locks_of, rows_of_hold, held_at_stage}
 use Rattle.art_stages.specs.declared.stage.Keys.{Keys}
-use Rattle.art_stages.specs.declared.stage.Finding.{Finding}
-use Rattle.art_stages.specs.declared.stage.Finding.TheVariants.{Has, Lacks}
-use Rattle.art_stages.specs.declared.stage.Position.{Position}
-use Rattle.art_stages.specs.declared.stage.Hold.{Hold}
-use Rattle.art_stages.specs.declared.stage.Work.{Work}
-use Rattle.art_stages.specs.declared.stage.Stage.{Stage}
-use Rattle.art_stages.specs.declared.stage.Stage.TheVariants.{FindCount, Slot, Over}
-use Rattle.art_stages.specs.Stages.{row_at, held, count_in, keys_in, keys_among, byte_in, place_in, leaf_place, setting}
-use Rattle.art_stages.specs.Automaton.{start_at, moves_at, put_at, work_at, checked_at, among_at, words_at, find_at, release_at, keys_one}
-use Rattle.art_versions.specs.versions.Holding.{OfRows, Each, IsSlot, child_rows, row_filled, IsUnder, IsFound, HasPlace, FitsWork, IsKept}
-use Rattle.art_versions.specs.versions.Holding.{IsNamed, KnowsKey}
-use Rattle.art_versions.specs.versions.Holding.{rows_of_work, rows_found, FitsPlace, HasSlot, kept_at_place, KnowsRows}
+use Rattle.art_stages.specs.declared.stage.Finding.TheVariants.{Has}
+use Rattle.art_stages.specs.Automaton.{moves_at, put_at, words_at}
+use Rattle.art_versions.specs.versions.Holding.{HasPlace}
 use Rattle.art_versions.proofs.versions.WordFacts.{place-fits, entry-fits}
-use Rattle.art_steps.specs.declared.variant.Variant.{Variant}
-use Rattle.art_versions.specs.versions.Locking.{all_of, held_at_place, locks_of, rows_of_hold, held_at_stage}
 use Rattle.art_stages.specs.declared.stage.Work.TheVariants as work
 
 own-slot : (l : Bool) (h : Hold) (slot : ℕ) → IsSlot h.row.base h.row.kind slot → HasSlot l h slot

@@ -1,13 +1,10 @@
 -- Index words that a scan loads.
-use Rattle.std.proofs.Common.{◌≡◌, ℕ, zero, suc, ◌+◌, ◌/◌, ◌<◌, ◌≤◌, List, [], ◌∷◌, refl, ap, sym, subst, ◌∙◌, Bool, true, false, arith}
-use Rattle.std.proofs.lemmas.Bool.{eqb-true}
-use Rattle.std.specs.Prelude.{filter, if◌then◌else◌}
+use Rattle.art_versions.proofs.Common.{◌≡◌, ℕ, zero, suc, ◌+◌, ◌/◌, ◌<◌, ◌≤◌, List, [], ◌∷◌, refl, ap, sym, subst, ◌∙◌, Bool, true, false, arith}
+use Rattle.art_versions.proofs.Common.{eqb-true, filter, if◌then◌else◌, bytes_of, in_word, Each}
 use Rattle.art_serial.proofs.alone.DifferLemmas.{heads}
 use Rattle.art_steps.specs.Steps.{numbers}
 use Rattle.art_steps.specs.Rows.{Row}
-use Rattle.art_steps.specs.Scan.{can_lie, bytes_of}
-use Rattle.art_stages.specs.Scans.{in_word}
-use Rattle.art_versions.specs.versions.Holding.{Each}
+use Rattle.art_steps.specs.Scan.{can_lie}
 
 -- an index word that holds a byte is one of the 32
 

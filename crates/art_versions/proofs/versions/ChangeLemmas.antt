@@ -1,31 +1,10 @@
 -- What has to be shown of a step, so that rows and versions stay sound.
-use Rattle.art_rows.specs.Table.{row_words}
-use Rattle.art_versions.specs.versions.Writers.{MayWrite, WritesOwn}
-use Rattle.std.proofs.Common.{◌≡◌, ◌≢◌, ℕ, zero, suc, ◌+◌, ◌*◌, ◌<◌, ◌≤◌, true, List, [], ◌∷◌, length, refl, ap, sym, subst, ◌∙◌, inl, inr}
-use Rattle.std.proofs.Common.{arith}
+use Rattle.art_versions.proofs.Common.{row_words, MayWrite, WritesOwn, ◌≡◌, ◌≢◌, ℕ, zero, suc, ◌+◌, ◌*◌, ◌<◌, ◌≤◌, true, List, [], ◌∷◌, length}
+use Rattle.art_versions.proofs.Common.{refl, ap, sym, subst, ◌∙◌, inl, inr, arith, ◌⊎◌, slice_get, slice_index, slice_set, Some, length-set}
+use Rattle.art_versions.proofs.Common.{cases_eq, same_Some, Call, Shape, Kind, Full, claims_of, root_base, kind_at, is_locked, child_of, Held}
+use Rattle.art_versions.proofs.Common.{setting, Variant, Process, State, changed-at, stored-at, set-here, IsClaimed, OfRows, IsNamed, child_rows}
+use Rattle.art_versions.proofs.Common.{Knows, IsGoodAt, IsAmong, IsOpen, stage_of, held_by, filled_by, IsSettled, IsHeld, AreDistinct, IsSound}
 use Rattle.std.proofs.Common.{get_or-set_other}
-use Rattle.std.specs.Prelude.{◌⊎◌, slice_get, slice_index, slice_set, Some}
-use Rattle.std.proofs.lemmas.List.{length-set}
-use Rattle.std.proofs.lemmas.Bool.{cases_eq}
-use Rattle.std.proofs.lemmas.Option.{same_Some}
-use Rattle.events.specs.declared.event.Call.{Call}
-use Rattle.art_rows.specs.declared.table.Shape.{Shape}
-use Rattle.art_rows.specs.declared.table.Kind.{Kind}
-use Rattle.art_rows.specs.declared.table.Kind.TheVariants.{Full}
-use Rattle.art_rows.specs.Table.{claims_of, root_base, kind_at}
-use Rattle.art_rows.specs.Words.{is_locked, child_of}
-use Rattle.art_stages.specs.declared.stage.Held.{Held}
-use Rattle.art_stages.specs.Stages.{setting}
-use Rattle.art_steps.specs.declared.variant.Variant.{Variant}
-use Rattle.art_core.specs.declared.process.Process.{Process}
-use Rattle.art_core.specs.Core.{State}
-use Rattle.art_core.proofs.HistoryLemmas.{changed-at}
-use Rattle.art_serial.proofs.writes.StoreLemmas.{stored-at}
-use Rattle.art_serial.proofs.serial.OrderlyLemmas.{set-here}
-use Rattle.art_serial.specs.trees.Trees.{IsClaimed}
-use Rattle.art_versions.specs.versions.Holding.{OfRows, IsNamed, child_rows, Knows}
-use Rattle.art_versions.specs.versions.Effects.{IsGoodAt, IsAmong}
-use Rattle.art_versions.specs.versions.Versions.{IsOpen, stage_of, held_by, filled_by, IsSettled, IsHeld, AreDistinct, IsSound}
 use Rattle.art_versions.proofs.versions.KeyLemmas.{each-weaker}
 use Rattle.art_versions.proofs.versions.KnownLemmas.{knows-more}
 

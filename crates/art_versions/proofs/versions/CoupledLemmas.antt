@@ -1,46 +1,24 @@
 -- What a call on a key of the coupled tree knows behind FIND and LOCK, and what it does there.
-use Rattle.std.proofs.lemmas.Bool.{false≢true}
-use Rattle.std.proofs.Common.{◌∙◌}
-use Rattle.art_versions.specs.versions.Effects.{Reads, Releases, Takes}
-use Rattle.art_stages.specs.Stages.{held, target_base}
+use Rattle.art_versions.proofs.Common.{false≢true, ◌∙◌, Reads, Releases, Takes, held, ◌≡◌, ℕ, List, [], ◌∷◌, refl, sym, subst, Bool, true, false}
+use Rattle.art_versions.proofs.Common.{inl, inr, ap, eq-eqb, ne_eqb, ◌==◌, if◌then◌else◌, None, Option, Some, slice_index, Leads, AccessDoes}
+use Rattle.art_versions.proofs.Common.{Empty, ChildRow, Leaf, Asks, Root, Taken, Between, ClaimGrow, ClaimPair, Info, LetGo, Unlock, Write, Call}
+use Rattle.art_versions.proofs.Common.{Coupled, Down, Each, FitsPlace, IsFound, IsKept, IsNamed, IsSlot, IsUnder, IsVersion, KnowsKey, OfRows}
+use Rattle.art_versions.proofs.Common.{kept_at_place, kept_below, row_filled, rows_found, KnowsRows, Finding, FortyEight, Four, Full, Sixteen}
+use Rattle.art_versions.proofs.Common.{Lacks, Held, Kind, OnKey, Outcome, Position, Setting, is_insert, key_of, path_differs_at, Shape, Stage}
+use Rattle.art_versions.proofs.Common.{Target, all_of, held_at_place, held_below, lock_of, locks_of, held_at_stage, below_at, entered_at}
+use Rattle.art_versions.proofs.Common.{found_at, no_value, work_at, capacity, kind_at, root_base, child_word, is_locked, key_bytes, locked_word}
+use Rattle.art_versions.proofs.Common.{count_in, row_at, setting, keys_differ_at, new_leaf, overwriting, not_full}
+use Rattle.art_stages.specs.Stages.{target_base}
 use Rattle.art_stages.specs.declared.stage.Keys.{Keys}
 use Rattle.art_versions.proofs.versions.WordFacts.{full-not-less, count-most, child-good, new-leaf-rows, overwriting-good}
-use Rattle.std.proofs.Common.{◌≡◌, ℕ, List, [], ◌∷◌, refl, sym, subst, Bool, true, false, inl, inr, ap, eq-eqb, ne_eqb}
-use Rattle.std.specs.Prelude.{◌==◌, if◌then◌else◌, None, Option, Some, slice_index}
-use Rattle.art_versions.specs.versions.Effects.{Has as Leads, AccessDoes}
 use Rattle.art_steps.specs.declared.access.Access.TheVariants.{Exchange as Swap}
-use Rattle.art_rows.specs.declared.table.Child.TheVariants.{Empty, Row as ChildRow, Leaf}
-use Rattle.art_steps.specs.Steps.{Asks}
-use Rattle.art_stages.specs.declared.stage.Target.TheVariants.{Below, Root, Taken}
-use Rattle.art_stages.specs.declared.stage.Stage.TheVariants.{Between, ClaimGrow, ClaimPair, Exchange, Info, LetGo, Lock, Unlock, Write}
-use Rattle.events.specs.declared.event.Call.{Call}
-use Rattle.art_steps.specs.declared.variant.Variant.TheVariants.{Coupled}
-use Rattle.art_stages.specs.declared.stage.Down.{Down}
-use Rattle.art_versions.specs.versions.Holding.{Each, FitsDown, FitsPlace, FitsTarget, HasRoom, IsFound, IsKept, IsNamed, IsSlot, IsUnder}
-use Rattle.art_versions.specs.versions.Holding.{IsVersion, KnowsKey}
-use Rattle.art_versions.specs.versions.Holding.{OfRows, kept_at_place, kept_below, row_filled, rows_found, rows_of_wait, KnowsRows}
-use Rattle.art_stages.specs.declared.stage.Finding.{Finding}
-use Rattle.art_rows.specs.declared.table.Kind.TheVariants.{FortyEight, Four, Full, Sixteen}
-use Rattle.art_stages.specs.declared.stage.Finding.TheVariants.{Has, Lacks}
-use Rattle.art_stages.specs.declared.stage.Held.{Held}
-use Rattle.art_rows.specs.declared.table.Kind.{Kind}
-use Rattle.art_stages.specs.Calls.{OnKey}
-use Rattle.art_stages.specs.declared.stage.Outcome.{Outcome}
+use Rattle.art_stages.specs.declared.stage.Target.TheVariants.{Below}
+use Rattle.art_stages.specs.declared.stage.Stage.TheVariants.{Exchange, Lock}
+use Rattle.art_versions.specs.versions.Holding.{FitsDown, FitsTarget, HasRoom, rows_of_wait}
+use Rattle.art_stages.specs.declared.stage.Finding.TheVariants.{Has}
 use Rattle.art_versions.proofs.versions.KeyLemmas.{Own}
-use Rattle.art_stages.specs.declared.stage.Position.{Position}
-use Rattle.art_steps.specs.Rows.{Setting, is_insert, key_of, path_differs_at}
-use Rattle.art_rows.specs.declared.table.Shape.{Shape}
-use Rattle.art_stages.specs.declared.stage.Stage.{Stage}
-use Rattle.art_stages.specs.declared.stage.Target.{Target}
-use Rattle.art_versions.specs.versions.Locking.{all_of, held_at_place, held_below, lock_of, locks_of, rows_of_target, held_at_stage}
-use Rattle.art_stages.specs.Automaton.{below_at, down_from, entered_at, found_at, hold_alone, insert_coupled, let_go_at, no_value}
-use Rattle.art_stages.specs.Automaton.{overwrite_at}
-use Rattle.art_stages.specs.Automaton.{place_coupled, seek_coupled, work_at}
-use Rattle.art_rows.specs.Table.{capacity, kind_at, root_base}
-use Rattle.art_rows.specs.Words.{child_word, is_locked, key_bytes, locked_word}
-use Rattle.art_stages.specs.Stages.{count_in, row_at, setting}
-use Rattle.art_steps.specs.Updates.{keys_differ_at, new_leaf, overwriting}
-use Rattle.art_steps.proofs.AccessLemmas.{not_full}
+use Rattle.art_versions.specs.versions.Locking.{rows_of_target}
+use Rattle.art_stages.specs.Automaton.{down_from, hold_alone, insert_coupled, let_go_at, overwrite_at, place_coupled, seek_coupled}
 use Rattle.art_versions.proofs.versions.AfterLemmas.{works}
 use Rattle.art_stages.specs.declared.stage.Work.TheVariants as work
 

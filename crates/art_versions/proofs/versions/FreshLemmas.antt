@@ -1,28 +1,11 @@
 -- A row that no claim has reached is written by nobody.
-use Rattle.std.proofs.Common.{◌≡◌, ◌≢◌, ℕ, ◌+◌, ◌^◌, ◌<◌, ◌≤◌, List, [], ◌∷◌, length, refl, ap, sym, subst, ◌∙◌, arith}
-use Rattle.std.proofs.Common.{inl, inr}
-use Rattle.std.specs.Prelude.{slice_index, slice_set, Option, Some, None}
-use Rattle.std.proofs.lemmas.Bool.{cases_eq}
-use Rattle.std.proofs.lemmas.Option.{same_Some}
-use Rattle.map_object.specs.MapObject.{Contents}
-use Rattle.art_rows.specs.declared.table.Shape.{Shape}
-use Rattle.art_rows.specs.declared.table.Kind.{Kind}
-use Rattle.art_rows.specs.declared.table.Kind.TheVariants.{Four, Sixteen, FortyEight, Full}
-use Rattle.art_rows.specs.Table.{opening, rows_of, claims_of, base_of, root_base, kind_at}
-use Rattle.art_serial.proofs.words.TableLemmas.{kind_at-base_of, base_of-once, row_begins, rows_apart}
-use Rattle.art_serial.specs.trees.Trees.{IsClaimed, AreZeroPastClaims}
-use Rattle.art_steps.specs.declared.variant.Variant.{Variant}
-use Rattle.art_stages.specs.Stages.{setting}
-use Rattle.art_core.specs.Core.{Plan, State, opened, opened_on, step}
-use Rattle.art_core.specs.Runs.{run_on}
-use Rattle.art_core.specs.Starts.{StartsOn, start_plan}
-use Rattle.art_core.specs.Plans.{IsRun}
-use Rattle.art_core.proofs.HistoryLemmas.{nowhere}
-use Rattle.art_core.proofs.StartLemmas.{run-steps}
-use Rattle.art_versions.specs.versions.Versions.{IsHeld, IsSettled, IsSound, stage_of}
-use Rattle.art_versions.specs.versions.Steady.{IsSteady}
-use Rattle.art_versions.specs.versions.Writers.{MayWrite, WritesOwn}
-use Rattle.art_versions.specs.versions.Laws.{IsFull}
+use Rattle.art_versions.proofs.Common.{◌≡◌, ◌≢◌, ℕ, ◌+◌, ◌^◌, ◌<◌, ◌≤◌, List, [], ◌∷◌, length, refl, ap, sym, subst, ◌∙◌, arith, inl, inr}
+use Rattle.art_versions.proofs.Common.{slice_index, slice_set, Option, Some, None, cases_eq, same_Some, Contents, Shape, Kind, Four, Sixteen}
+use Rattle.art_versions.proofs.Common.{FortyEight, Full, opening, rows_of, claims_of, base_of, root_base, kind_at, kind_at-base_of, base_of-once}
+use Rattle.art_versions.proofs.Common.{row_begins, rows_apart, IsClaimed, Variant, setting, Plan, State, opened, opened_on, step, run_on}
+use Rattle.art_versions.proofs.Common.{StartsOn, start_plan, IsRun, nowhere, run-steps, IsHeld, IsSettled, IsSound, stage_of, IsSteady, MayWrite}
+use Rattle.art_versions.proofs.Common.{WritesOwn, IsFull}
+use Rattle.art_serial.specs.trees.Trees.{AreZeroPastClaims}
 use Rattle.art_versions.proofs.versions.KnownLemmas.{held-is-kept}
 use Rattle.art_versions.proofs.versions.ChangeLemmas.{index-other}
 use Rattle.art_versions.proofs.versions.MoveLemmas.{differ-from}

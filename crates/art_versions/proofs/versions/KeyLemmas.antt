@@ -1,60 +1,34 @@
 -- What each access of a call on a key does, where both full trees do the same.
-use Rattle.std.proofs.Common.{◌≡◌, ℕ, zero, suc, ◌+◌, ◌-◌, ◌*◌, ◌<◌, ◌≤◌, List, [], ◌∷◌, ◌++◌, refl, ap, sym, subst, ◌∙◌, Bool, true, false}
-use Rattle.std.proofs.Common.{arith}
-use Rattle.std.proofs.Common.{inl, inr}
+use Rattle.art_versions.proofs.Common.{◌≡◌, ℕ, zero, suc, ◌+◌, ◌-◌, ◌*◌, ◌<◌, ◌≤◌, List, [], ◌∷◌, ◌++◌, refl, ap, sym, subst, ◌∙◌, Bool, true}
+use Rattle.art_versions.proofs.Common.{false, arith, inl, inr, ◌⊎◌, ◌==◌, slice_index, Option, Some, None, if◌then◌else◌, Call, Kind, Four}
+use Rattle.art_versions.proofs.Common.{Sixteen, FortyEight, Full, Shape, Child, ChildRow, capacity, kind_at, child_at, root_base, rows_of}
+use Rattle.art_versions.proofs.Common.{base_of, info_at, keys_at, more_keys_at, index_at, count_at, entries_of, child_of, row_word}
+use Rattle.art_versions.proofs.Common.{new_place-most, key_byte-small, keys4-few, keys16-few, kind_at-base_of, rows_apart, Setting, key_of}
+use Rattle.art_versions.proofs.Common.{is_insert, locks, releases_early, new_leaf, Held, Hold, Stage, Wait, Leave, Between, Info, Find, FindKeys}
+use Rattle.art_versions.proofs.Common.{FindMore, FindCount, Slot, Check, CheckLast, LetGo, Take, Write, ClaimPair, StorePair, PutLoad, PutStore}
+use Rattle.art_versions.proofs.Common.{PutLeaf, PutKeys, PutMore, PutCount, ClaimGrow, GrowInfo, GrowLoad, GrowStore, SpreadIndex, SpreadLoad}
+use Rattle.art_versions.proofs.Common.{SpreadStore, GrowLeaf, GrowKeys, GrowCount, Hang, Obsolete, Unlock, Over, row_at, held, count_in, keys_in}
+use Rattle.art_versions.proofs.Common.{byte_in, place_in, leaf_place, setting, checked_at, Turn, OnKey, OfRows, Named, Each, IsSlot, child_rows}
+use Rattle.art_versions.proofs.Common.{IsKept, IsNamed, KnowsKey, FitsPlace, HasSlot, IsFound, kept_at_place, rows_found, IsAmong, With}
+use Rattle.art_versions.proofs.Common.{IsBehindVersion, Has, Reads, Writes, Fills, Ends, Releases, Claims, Answered, AccessDoes, Down, Finding}
+use Rattle.art_versions.proofs.Common.{Position, Target, Variant, all_of, held_at_place, lock_of, locks_of, rows_of_hold, behind}
 use Rattle.std.proofs.lemmas.Bool.{lt-ltb, le-ltb}
-use Rattle.std.specs.Prelude.{◌⊎◌, nat_lt, ◌==◌, slice_index, Option, Some, None, if◌then◌else◌}
-use Rattle.events.specs.declared.event.Call.{Call}
-use Rattle.art_rows.specs.declared.table.Kind.{Kind}
-use Rattle.art_rows.specs.declared.table.Kind.TheVariants.{Four, Sixteen, FortyEight, Full}
-use Rattle.art_rows.specs.declared.table.Shape.{Shape}
-use Rattle.art_rows.specs.declared.table.Child.{Child}
-use Rattle.art_rows.specs.declared.table.Child.TheVariants.{Row as ChildRow}
-use Rattle.art_rows.specs.Table.{capacity, kind_at, child_at, root_base, rows_of, base_of, info_at, keys_at, more_keys_at, index_at}
-use Rattle.art_rows.specs.Table.{count_at}
-use Rattle.art_rows.specs.Words.{entries_of, child_of, row_word, keys16_word, more_keys16_word}
-use Rattle.art_rows.proofs.WriterLemmas.{new_place-most}
-use Rattle.art_rows.proofs.ByteLemmas.{key_byte-small, keys4-few, keys16-few}
-use Rattle.art_serial.proofs.words.TableLemmas.{kind_at-base_of, rows_apart}
-use Rattle.art_steps.specs.Rows.{Setting, key_of, is_insert, locks, releases_early}
-use Rattle.art_steps.specs.Updates.{new_leaf, lesser, greater, Under, next_kind}
-use Rattle.art_stages.specs.declared.stage.Held.{Held}
+use Rattle.std.specs.Prelude.{nat_lt}
+use Rattle.art_rows.specs.Words.{keys16_word, more_keys16_word}
+use Rattle.art_steps.specs.Updates.{lesser, greater, Under, next_kind}
 use Rattle.art_stages.specs.declared.stage.Keys.{Keys}
 use Rattle.art_stages.specs.declared.stage.Finding.TheVariants.{Has as Seen}
-use Rattle.art_stages.specs.declared.stage.Hold.{Hold}
 use Rattle.art_stages.specs.declared.stage.Pair.{Pair}
 use Rattle.art_stages.specs.declared.stage.PairWord.{PairWord}
 use Rattle.art_stages.specs.declared.stage.Growing.{Growing}
 use Rattle.art_stages.specs.declared.stage.Spread.{Spread}
 use Rattle.art_stages.specs.declared.stage.Outcome.TheVariants.{Refused}
-use Rattle.art_stages.specs.declared.stage.Stage.{Stage}
-use Rattle.art_stages.specs.declared.stage.Stage.TheVariants.{Lock, Exchange, Wait, Leave, Between, Info, Find, FindKeys, FindMore}
-use Rattle.art_stages.specs.declared.stage.Stage.TheVariants.{FindCount, Slot}
-use Rattle.art_stages.specs.declared.stage.Stage.TheVariants.{Check, CheckLast, LetGo, Take, Write, ClaimPair, StorePair, PutLoad, PutStore}
-use Rattle.art_stages.specs.declared.stage.Stage.TheVariants.{PutLeaf}
-use Rattle.art_stages.specs.declared.stage.Stage.TheVariants.{PutKeys, PutMore, PutCount, ClaimGrow, GrowInfo, GrowLoad, GrowStore}
-use Rattle.art_stages.specs.declared.stage.Stage.TheVariants.{SpreadIndex}
-use Rattle.art_stages.specs.declared.stage.Stage.TheVariants.{SpreadLoad, SpreadStore, GrowLeaf, GrowKeys, GrowCount, Hang, Obsolete}
-use Rattle.art_stages.specs.declared.stage.Stage.TheVariants.{Unlock, Over}
-use Rattle.art_stages.specs.Stages.{row_at, held, count_in, keys_in, byte_in, place_in, leaf_place, keys_after, old_child, new_child}
-use Rattle.art_stages.specs.Stages.{setting}
-use Rattle.art_stages.specs.Automaton.{copies_at, spreads_at, entries_at, keys_at_after, store_of, checked_at}
-use Rattle.art_steps.specs.Steps.{Turn}
-use Rattle.art_stages.specs.Calls.{OnKey}
-use Rattle.art_versions.specs.versions.Holding.{OfRows, Named, Each, IsSlot, child_rows, row_grown, HangsIn, IsCopied, FitsGrowing, IsKept}
-use Rattle.art_versions.specs.versions.Holding.{IsNamed, KnowsKey}
-use Rattle.art_versions.specs.versions.Holding.{FitsPlace, HasSlot, IsFound, kept_at_place, rows_found}
-use Rattle.art_versions.specs.versions.Effects.{IsAmong, With, IsBehindVersion, Has, Reads, Writes, Fills, Ends, Releases, Claims, Answered}
-use Rattle.art_versions.specs.versions.Effects.{AccessDoes}
+use Rattle.art_stages.specs.declared.stage.Stage.TheVariants.{Lock, Exchange}
+use Rattle.art_stages.specs.Stages.{keys_after, old_child, new_child}
+use Rattle.art_stages.specs.Automaton.{copies_at, spreads_at, entries_at, keys_at_after, store_of}
+use Rattle.art_versions.specs.versions.Holding.{row_grown, HangsIn, IsCopied, FitsGrowing}
 use Rattle.art_versions.proofs.versions.WordFacts.{entry-fits, child-good, new-leaf-rows}
 use Rattle.art_versions.proofs.versions.AfterLemmas.{among, finds, released, moves, IsAt}
-use Rattle.art_stages.specs.declared.stage.Down.{Down}
-use Rattle.art_stages.specs.declared.stage.Finding.{Finding}
-use Rattle.art_stages.specs.declared.stage.Position.{Position}
-use Rattle.art_stages.specs.declared.stage.Target.{Target}
-use Rattle.art_steps.specs.declared.variant.Variant.{Variant}
-use Rattle.art_versions.specs.versions.Locking.{all_of, held_at_place, lock_of, locks_of, rows_of_hold}
-use Rattle.art_stages.proofs.BehindLemmas.{behind}
 use Rattle.art_stages.specs.declared.stage.Taking.{Taking}
 use Rattle.art_stages.specs.declared.stage.PairWord.TheVariants as pair_word
 

@@ -1,38 +1,17 @@
 -- What a call knows stays known, and rows that it holds are rows that it knows.
-use Rattle.std.proofs.Common.{ℕ, List, [], ◌∷◌, sym, subst, Bool, true, false, inl, inr, ◌++◌, refl, ◌≡◌, ◌∙◌, ap, if◌then◌else◌}
-use Rattle.std.specs.Prelude.{◌==◌, map}
-use Rattle.std.proofs.lemmas.Bool.{false≢true, eqb-true}
-use Rattle.std.proofs.lemmas.Option.{same_Some}
-use Rattle.events.specs.declared.event.Call.{Call}
-use Rattle.art_rows.specs.declared.table.Kind.{Kind}
-use Rattle.art_steps.specs.Rows.{Setting, is_insert, locks}
-use Rattle.art_steps.specs.Scan.{has_row}
-use Rattle.art_core.specs.declared.process.Process.{Process}
-use Rattle.art_core.specs.Core.{State}
-use Rattle.art_stages.specs.declared.stage.Held.{Held}
-use Rattle.art_stages.specs.declared.stage.Frame.{Frame}
-use Rattle.art_stages.specs.declared.stage.ScanStep.{ScanStep}
-use Rattle.art_stages.specs.declared.stage.Stage.{Stage}
-use Rattle.art_stages.specs.declared.stage.Stage.TheVariants.{Lock, Exchange, Wait, Leave, Between, Info, Find, FindKeys, FindMore}
-use Rattle.art_stages.specs.declared.stage.Stage.TheVariants.{FindCount, Slot}
-use Rattle.art_stages.specs.declared.stage.Stage.TheVariants.{Check, CheckLast, LetGo, Take, Write, ClaimPair, StorePair, PutLoad, PutStore}
-use Rattle.art_stages.specs.declared.stage.Stage.TheVariants.{PutLeaf}
-use Rattle.art_stages.specs.declared.stage.Stage.TheVariants.{PutKeys, PutMore, PutCount, ClaimGrow, GrowInfo, GrowLoad, GrowStore}
-use Rattle.art_stages.specs.declared.stage.Stage.TheVariants.{SpreadIndex}
-use Rattle.art_stages.specs.declared.stage.Stage.TheVariants.{SpreadLoad, SpreadStore, GrowLeaf, GrowKeys, GrowCount, Hang, Obsolete}
-use Rattle.art_stages.specs.declared.stage.Stage.TheVariants.{Unlock, Over}
-use Rattle.art_stages.specs.declared.stage.Position.{Position}
-use Rattle.art_stages.specs.declared.stage.Down.{Down}
-use Rattle.art_stages.specs.Stages.{held, row_at}
-use Rattle.art_stages.specs.Scans.{Walk}
-use Rattle.art_stages.specs.Calls.{CallAt, OnKey, OnScan}
-use Rattle.art_versions.specs.versions.Locking.{all_of, locks_of, held_at_place, held_between, held_below, scan_held, held_at_stage}
-use Rattle.art_versions.specs.versions.Holding.{OfRows, Each, kept_at_place, kept_below, FitsFrame, FitsScan, IsKept, IsNamed, Knows, holds}
-use Rattle.art_versions.specs.versions.Holding.{KnowsRows}
-use Rattle.art_versions.specs.versions.Effects.{IsAmong}
+use Rattle.art_versions.proofs.Common.{ℕ, List, [], ◌∷◌, sym, subst, Bool, true, false, inl, inr, ◌++◌, refl, ◌≡◌, ◌∙◌, ap, ◌==◌, map}
+use Rattle.art_versions.proofs.Common.{false≢true, eqb-true, same_Some, Call, Kind, Setting, is_insert, locks, has_row, Process, State, Held}
+use Rattle.art_versions.proofs.Common.{Frame, ScanStep, Stage, Wait, Leave, Between, Info, Find, FindKeys, FindMore, FindCount, Slot, Check}
+use Rattle.art_versions.proofs.Common.{CheckLast, LetGo, Take, Write, ClaimPair, StorePair, PutLoad, PutStore, PutLeaf, PutKeys, PutMore}
+use Rattle.art_versions.proofs.Common.{PutCount, ClaimGrow, GrowInfo, GrowLoad, GrowStore, SpreadIndex, SpreadLoad, SpreadStore, GrowLeaf}
+use Rattle.art_versions.proofs.Common.{GrowKeys, GrowCount, Hang, Obsolete, Unlock, Over, Position, Down, held, row_at, Walk, CallAt, OnKey}
+use Rattle.art_versions.proofs.Common.{OnScan, all_of, locks_of, held_at_place, held_below, scan_held, held_at_stage, OfRows, Each}
+use Rattle.art_versions.proofs.Common.{kept_at_place, kept_below, FitsFrame, FitsScan, IsKept, IsNamed, Knows, holds, KnowsRows, IsAmong, IsOpen}
+use Rattle.art_versions.proofs.Common.{FirstKeys, Index, Release, SecondKeys}
+use Rattle.std.proofs.Common.{if◌then◌else◌}
+use Rattle.art_stages.specs.declared.stage.Stage.TheVariants.{Lock, Exchange}
+use Rattle.art_versions.specs.versions.Locking.{held_between}
 use Rattle.art_versions.proofs.versions.KeyLemmas.{each-weaker, each-split}
-use Rattle.art_versions.specs.versions.Versions.{IsOpen}
-use Rattle.art_stages.specs.declared.stage.ScanStep.TheVariants.{FirstKeys, Index, Release, SecondKeys}
 use Rattle.art_stages.specs.declared.stage.ScanStep.TheVariants as scan
 
 pub among-each : (P : Held → Type 0) (h : Held) (xs : List Held) → IsAmong h xs → Each P xs → P h

@@ -1,35 +1,14 @@
 -- Claims and stamps keep rows and versions sound: they change no word of a row.
-use Rattle.art_versions.specs.versions.Writers.{MayWrite, WritesOwn}
-use Rattle.art_versions.proofs.versions.ChangeLemmas.{written}
-use Rattle.art_rows.specs.Table.{row_words}
-use Rattle.std.proofs.Common.{◌≡◌, ◌≢◌, ℕ, ◌+◌, ◌*◌, ◌^◌, ◌<◌, ◌≤◌, List, [], ◌∷◌, length, ap, sym, subst, ◌∙◌, inl, inr, arith}
-use Rattle.std.specs.Prelude.{◌⊎◌, slice_get, slice_index, slice_set, Some}
-use Rattle.std.proofs.lemmas.Bool.{cases_eq}
-use Rattle.std.proofs.lemmas.Option.{same_Some}
-use Rattle.events.specs.declared.event.Call.{Call}
-use Rattle.art_rows.specs.declared.table.Shape.{Shape}
-use Rattle.art_rows.specs.declared.table.Kind.{Kind}
-use Rattle.art_rows.specs.declared.table.Kind.TheVariants.{Full}
-use Rattle.art_rows.specs.Table.{rows_of, claims_of, base_of, root_base, kind_at}
-use Rattle.art_rows.specs.Words.{is_locked}
-use Rattle.art_rows.proofs.KindLemmas.{claims-few}
-use Rattle.art_serial.proofs.words.TableLemmas.{row_begins, base_of-once}
-use Rattle.art_stages.specs.declared.stage.Held.{Held}
-use Rattle.art_stages.specs.Stages.{setting}
-use Rattle.art_steps.specs.declared.variant.Variant.{Variant}
-use Rattle.art_steps.specs.Rows.{locks}
-use Rattle.art_core.specs.declared.process.Process.{Process}
-use Rattle.art_core.specs.Core.{State}
-use Rattle.art_versions.specs.versions.Holding.{OfRows, Named, IsKept, Knows}
-use Rattle.art_versions.specs.versions.Effects.{IsGoodAt, IsAmong, Has}
-use Rattle.art_versions.specs.versions.Versions.{IsOpen, stage_of, held_by, filled_by, IsSettled, AreDistinct, IsSound}
-use Rattle.art_versions.specs.versions.Steady.{IsSteady}
+use Rattle.art_versions.proofs.Common.{MayWrite, WritesOwn, row_words, ◌≡◌, ◌≢◌, ℕ, ◌+◌, ◌*◌, ◌^◌, ◌<◌, ◌≤◌, List, [], ◌∷◌, length, ap, sym}
+use Rattle.art_versions.proofs.Common.{subst, ◌∙◌, inl, inr, arith, ◌⊎◌, slice_get, slice_index, slice_set, Some, cases_eq, same_Some, Call}
+use Rattle.art_versions.proofs.Common.{Shape, Kind, Full, rows_of, claims_of, base_of, root_base, kind_at, is_locked, claims-few, row_begins}
+use Rattle.art_versions.proofs.Common.{base_of-once, Held, setting, Variant, locks, Process, State, OfRows, Named, IsKept, Knows, IsGoodAt}
+use Rattle.art_versions.proofs.Common.{IsAmong, Has, IsOpen, stage_of, held_by, filled_by, IsSettled, AreDistinct, IsSound, IsSteady, stored-at}
+use Rattle.art_versions.proofs.Common.{IsClaimed}
+use Rattle.art_versions.proofs.versions.ChangeLemmas.{written, index-other, held-still, Claims, settled-more, sound-now}
 use Rattle.art_versions.proofs.versions.KeyLemmas.{slot-behind}
 use Rattle.art_versions.proofs.versions.KnownLemmas.{knows-more, held-is-kept}
-use Rattle.art_versions.proofs.versions.ChangeLemmas.{index-other, held-still, Claims, settled-more, sound-now}
 use Rattle.art_versions.proofs.versions.MoveLemmas.{settled-row, no-items, differ-from}
-use Rattle.art_serial.proofs.writes.StoreLemmas.{stored-at}
-use Rattle.art_serial.specs.trees.Trees.{IsClaimed}
 use Rattle.art_versions.proofs.versions.MoveLemmas as m
 
 pub first-item : {x y : Named} → ◌≡◌ {A = List Named} (x ∷ []) (y ∷ []) → x ≡ y

@@ -1,31 +1,12 @@
 -- Each access of an open call keeps rows and versions sound.
-use Rattle.std.proofs.Common.{◌≡◌, ◌≢◌, ℕ, ◌+◌, ◌*◌, ◌^◌, ◌<◌, ◌≤◌, List, [], ◌∷◌, length, refl, ap, sym, subst, ◌∙◌, inl, inr, arith, true}
-use Rattle.std.proofs.Common.{false}
-use Rattle.std.specs.Prelude.{◌⊎◌, slice_get, slice_index, slice_set, Some}
-use Rattle.std.proofs.lemmas.Bool.{cases_eq}
-use Rattle.std.proofs.lemmas.Option.{same_Some}
-use Rattle.events.specs.declared.event.Call.{Call}
-use Rattle.art_rows.specs.declared.table.Shape.{Shape}
-use Rattle.art_rows.specs.declared.table.Kind.{Kind}
-use Rattle.art_rows.specs.Table.{claims_of, kind_at}
-use Rattle.art_rows.specs.Words.{is_locked}
-use Rattle.art_rows.proofs.KindLemmas.{some-words, claims-few}
-use Rattle.art_serial.proofs.words.TableLemmas.{kind_at-base_of, rows_apart}
-use Rattle.art_serial.proofs.writes.StoreLemmas.{stored-at}
-use Rattle.art_serial.specs.trees.Trees.{IsClaimed}
-use Rattle.art_steps.specs.Rows.{Setting, locks}
-use Rattle.art_stages.specs.declared.stage.Held.{Held}
-use Rattle.art_stages.specs.Calls.{CallAt}
-use Rattle.art_stages.specs.Stages.{setting}
-use Rattle.art_steps.specs.declared.variant.Variant.{Variant}
-use Rattle.art_core.specs.declared.process.Process.{Process}
-use Rattle.art_core.specs.Core.{State}
-use Rattle.art_versions.specs.versions.Holding.{Named, IsKept, Knows, holds, fills}
-use Rattle.art_versions.specs.versions.Effects.{IsGoodAt, IsAmong, IsBehindVersion, Has}
-use Rattle.art_versions.specs.versions.Versions.{IsOpen, stage_of, held_by, filled_by, IsSettled, AreDistinct, IsSound}
+use Rattle.art_versions.proofs.Common.{◌≡◌, ◌≢◌, ℕ, ◌+◌, ◌*◌, ◌^◌, ◌<◌, ◌≤◌, List, [], ◌∷◌, length, refl, ap, sym, subst, ◌∙◌, inl, inr, arith}
+use Rattle.art_versions.proofs.Common.{true, false, ◌⊎◌, slice_get, slice_index, slice_set, Some, cases_eq, same_Some, Call, Shape, Kind}
+use Rattle.art_versions.proofs.Common.{claims_of, kind_at, is_locked, some-words, claims-few, kind_at-base_of, rows_apart, stored-at, IsClaimed}
+use Rattle.art_versions.proofs.Common.{Setting, locks, Held, CallAt, setting, Variant, Process, State, Named, IsKept, Knows, holds, fills}
+use Rattle.art_versions.proofs.Common.{IsGoodAt, IsAmong, IsBehindVersion, Has, IsOpen, stage_of, held_by, filled_by, IsSettled, AreDistinct}
+use Rattle.art_versions.proofs.Common.{IsSound, behind}
 use Rattle.art_versions.proofs.versions.KnownLemmas.{held-is-kept}
 use Rattle.art_versions.proofs.versions.ChangeLemmas.{index-other, next, now, held-still, Claims, settled-more, sound-now}
-use Rattle.art_stages.proofs.BehindLemmas.{behind}
 
 pub settled-row : (variant : Variant) (shape : Shape) (s : State) (b : ℕ) (k : Kind) → IsSettled variant shape s b k
     → kind_at shape b ≡ Some k

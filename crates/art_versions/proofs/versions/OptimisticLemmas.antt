@@ -1,43 +1,22 @@
 -- What a call on a key of the optimistic tree knows behind FIND, WAIT and TAKE, and what it does there.
-use Rattle.std.proofs.lemmas.Bool.{false≢true}
-use Rattle.art_versions.specs.versions.Effects.{Reads, Takes}
-use Rattle.art_stages.specs.Stages.{held}
+use Rattle.art_versions.proofs.Common.{false≢true, Reads, Takes, held, ◌≡◌, ℕ, ◌%◌, List, [], ◌∷◌, refl, sym, subst, Bool, true, false, inl}
+use Rattle.art_versions.proofs.Common.{eq-eqb, ne_eqb, ◌==◌, if◌then◌else◌, None, Option, Some, slice_index, Leads, AccessDoes, Empty, ChildRow}
+use Rattle.art_versions.proofs.Common.{Leaf, Between, Check, CheckLast, Take, Info, Over, Wait, Call, Down, Each, FitsPlace, FitsWork, IsFound}
+use Rattle.art_versions.proofs.Common.{IsKept, IsNamed, IsSlot, IsUnder, KnowsKey, OfRows, rows_found, rows_of_work, Finding, FortyEight, Four}
+use Rattle.art_versions.proofs.Common.{Full, Sixteen, Held, Kind, Lacks, OnKey, Optimistic, Position, Setting, is_insert, key_of}
+use Rattle.art_versions.proofs.Common.{path_differs_at, Shape, Stage, Taken, Root, Target, Work, below_at, checked_at, entered_at, found_at}
+use Rattle.art_versions.proofs.Common.{no_value, release_at, seek_unlocked, start_at, all_of, lock_of, locks_of, capacity, kind_at, root_base}
+use Rattle.art_versions.proofs.Common.{child_word, is_locked, is_obsolete, key_bytes, count_in, row_at, setting, keys_differ_at, new_leaf}
+use Rattle.art_versions.proofs.Common.{overwriting, not_full}
 use Rattle.art_stages.specs.declared.stage.Keys.{Keys}
 use Rattle.art_versions.proofs.versions.WordFacts.{count-most, free-version, child-good, new-leaf-rows, overwriting-good}
-use Rattle.std.proofs.Common.{◌≡◌, ℕ, ◌%◌, List, [], ◌∷◌, refl, sym, subst, Bool, true, false, inl, eq-eqb, ne_eqb}
-use Rattle.std.specs.Prelude.{◌==◌, if◌then◌else◌, None, Option, Some, nat_le, slice_index}
-use Rattle.art_versions.specs.versions.Effects.{Has as Leads, AccessDoes}
-use Rattle.art_rows.specs.declared.table.Child.TheVariants.{Empty, Row as ChildRow, Leaf}
-use Rattle.art_stages.specs.declared.stage.Stage.TheVariants.{Between, Check, CheckLast, Take, Info, Over, Wait}
-use Rattle.events.specs.declared.event.Call.{Call}
-use Rattle.art_stages.specs.declared.stage.Down.{Down}
-use Rattle.art_versions.specs.versions.Holding.{Each, FitsPlace, FitsTaking, FitsWork, IsFound, IsKept, IsNamed, IsSlot, IsUnder, KnowsKey}
-use Rattle.art_versions.specs.versions.Holding.{OfRows, rows_found}
-use Rattle.art_versions.specs.versions.Holding.{rows_of_work}
-use Rattle.art_stages.specs.declared.stage.Finding.{Finding}
-use Rattle.art_rows.specs.declared.table.Kind.TheVariants.{FortyEight, Four, Full, Sixteen}
-use Rattle.art_stages.specs.declared.stage.Held.{Held}
+use Rattle.std.specs.Prelude.{nat_le}
+use Rattle.art_versions.specs.versions.Holding.{FitsTaking}
 use Rattle.art_versions.proofs.versions.AfterLemmas.{IsAt, at-end, at-start, released, works}
-use Rattle.art_rows.specs.declared.table.Kind.{Kind}
-use Rattle.art_stages.specs.declared.stage.Finding.TheVariants.{Lacks, Has}
-use Rattle.art_stages.specs.Calls.{OnKey}
-use Rattle.art_steps.specs.declared.variant.Variant.TheVariants.{Optimistic}
+use Rattle.art_stages.specs.declared.stage.Finding.TheVariants.{Has}
 use Rattle.art_versions.proofs.versions.KeyLemmas.{Own, each-split}
-use Rattle.art_stages.specs.declared.stage.Position.{Position}
-use Rattle.art_steps.specs.Rows.{Setting, is_insert, key_of, path_differs_at}
-use Rattle.art_rows.specs.declared.table.Shape.{Shape}
-use Rattle.art_stages.specs.declared.stage.Stage.{Stage}
-use Rattle.art_stages.specs.declared.stage.Target.TheVariants.{Taken, Below, Root}
-use Rattle.art_stages.specs.declared.stage.Target.{Target}
-use Rattle.art_stages.specs.declared.stage.Work.{Work}
-use Rattle.art_stages.specs.Automaton.{after_with, below_at, checked_at, entered_at, found_at, grow_unlocked, insert_unlocked, no_value}
-use Rattle.art_stages.specs.Automaton.{overwrite_unlocked, release_at, seek_unlocked, start_at, take_alone, taken_at}
-use Rattle.art_versions.specs.versions.Locking.{all_of, lock_of, locks_of}
-use Rattle.art_rows.specs.Table.{capacity, kind_at, root_base}
-use Rattle.art_rows.specs.Words.{child_word, is_locked, is_obsolete, key_bytes}
-use Rattle.art_stages.specs.Stages.{count_in, row_at, setting}
-use Rattle.art_steps.specs.Updates.{keys_differ_at, new_leaf, overwriting}
-use Rattle.art_steps.proofs.AccessLemmas.{not_full}
+use Rattle.art_stages.specs.declared.stage.Target.TheVariants.{Below}
+use Rattle.art_stages.specs.Automaton.{after_with, grow_unlocked, insert_unlocked, overwrite_unlocked, take_alone, taken_at}
 use Rattle.art_stages.specs.declared.stage.Work.TheVariants as work
 
 module _ (s : Shape) (call : Call) (P : OfRows) (is_row : (b : ℕ) (k : Kind) → P b k → kind_at s b ≡ Some k)

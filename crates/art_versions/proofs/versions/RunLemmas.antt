@@ -1,33 +1,18 @@
 -- Every run of a full tree keeps rows and versions sound, and is steady.
-use Rattle.art_versions.specs.versions.Writers.{WritesOwn}
-use Rattle.std.proofs.Common.{◌≡◌, ◌≢◌, ℕ, ◌+◌, ◌^◌, ◌<◌, ◌≤◌, true, List, [], ◌∷◌, ◌++◌, length, refl, ap, sym, subst, ◌∙◌, arith}
-use Rattle.std.specs.Prelude.{slice_get, slice_index, slice_set, replicate, Option, Some, None}
-use Rattle.std.proofs.lemmas.List.{length-replicate, length-set, length-append}
+use Rattle.art_versions.proofs.Common.{WritesOwn, ◌≡◌, ◌≢◌, ℕ, ◌+◌, ◌^◌, ◌<◌, ◌≤◌, true, List, [], ◌∷◌, ◌++◌, length, refl, ap, sym, subst, ◌∙◌}
+use Rattle.art_versions.proofs.Common.{arith, slice_get, slice_index, slice_set, Option, Some, None, length-set, length-append, same_Some}
+use Rattle.art_versions.proofs.Common.{none-some, Call, Contents, Shape, Kind, Four, Sixteen, FortyEight, Full, opening, row_words, claims_of}
+use Rattle.art_versions.proofs.Common.{root_base, kind_at, is_locked, child_of, some-words, kind_at-base_of, row_begins, rows_apart, stored-at}
+use Rattle.art_versions.proofs.Common.{Variant, Process, Plan, State, move_from, opened, opened_on, step, run_on, StartsOn, start_plan, IsRun}
+use Rattle.art_versions.proofs.Common.{nowhere, all-idle, run-steps, IsSlot, Each, IsNamed, child_rows, IsOpen, IsSettled, IsSound, IsFull}
+use Rattle.art_versions.proofs.Common.{IsSteady}
+use Rattle.std.specs.Prelude.{replicate}
+use Rattle.std.proofs.lemmas.List.{length-replicate}
 use Rattle.art_core.proofs.RunLemmas.{run-on-append}
-use Rattle.std.proofs.lemmas.Option.{same_Some, none-some, slice_get_within}
-use Rattle.events.specs.declared.event.Call.{Call}
-use Rattle.map_object.specs.MapObject.{Contents}
-use Rattle.art_rows.specs.declared.table.Shape.{Shape}
-use Rattle.art_rows.specs.declared.table.Kind.{Kind}
-use Rattle.art_rows.specs.declared.table.Kind.TheVariants.{Four, Sixteen, FortyEight, Full}
-use Rattle.art_rows.specs.Table.{opening, table_words, row_words, claims_of, root_base, kind_at}
-use Rattle.art_rows.specs.Words.{is_locked, child_of}
-use Rattle.art_rows.proofs.KindLemmas.{some-words}
-use Rattle.art_serial.proofs.words.TableLemmas.{kind_at-base_of, row_begins, rows_apart}
-use Rattle.art_serial.proofs.writes.StoreLemmas.{stored-at}
+use Rattle.std.proofs.lemmas.Option.{slice_get_within}
+use Rattle.art_rows.specs.Table.{table_words}
 use Rattle.art_serial.proofs.trees.Opening.{only-zeros}
-use Rattle.art_steps.specs.declared.variant.Variant.{Variant}
-use Rattle.art_core.specs.declared.process.Process.{Process}
-use Rattle.art_core.specs.Core.{Plan, State, move_from, opened, opened_on, step}
-use Rattle.art_core.specs.Runs.{run_on}
-use Rattle.art_core.specs.Starts.{StartsOn, start_plan}
-use Rattle.art_core.specs.Plans.{IsRun}
-use Rattle.art_core.proofs.HistoryLemmas.{nowhere, all-idle, opening-length, run-lengths}
-use Rattle.art_core.proofs.StartLemmas.{run-steps}
-use Rattle.art_versions.specs.versions.Holding.{IsSlot, Each, IsNamed, child_rows}
-use Rattle.art_versions.specs.versions.Versions.{IsOpen, IsSettled, IsSound}
-use Rattle.art_versions.specs.versions.Laws.{IsFull}
-use Rattle.art_versions.specs.versions.Steady.{IsSteady}
+use Rattle.art_core.proofs.HistoryLemmas.{opening-length, run-lengths}
 use Rattle.art_versions.proofs.versions.KeyLemmas.{slot-behind}
 use Rattle.art_versions.proofs.versions.ChangeLemmas.{index-other, good-more}
 use Rattle.art_versions.proofs.versions.MoveLemmas.{true-false, differ, differ-from}
@@ -274,24 +259,6 @@ pub later-part : (plan : Plan) (first s t : State) (earlier later : List ℕ) �
     → run_on plan (Some first) (earlier ++ later) ≡ Some t → run_on plan (Some s) later ≡ Some t
 later-part plan first s t earlier later e k = ap (λ o. run_on plan o later) (sym e)
     ∙ (sym (run-on-append plan (Some first) earlier later) ∙ k)
-
-pub steady-between : (variant : Variant) → IsFull variant → (plan : Plan) (start : Contents) (words earlier later : List ℕ) (s t : State)
-    → IsRun plan start words (earlier ++ later) t
-    → plan.variant ≡ variant → run_on plan (Some (opened_on plan words)) earlier ≡ Some s → IsSteady variant plan.shape s t × (n : ℕ)
-    × IsSound variant plan.shape n s
-steady-between variant full plan start words earlier later s t run v e =
-    let first = start-sound variant full plan start words v run.within.shape.root run.starts in
-    let steps = run-steps plan (earlier ++ later) (opened_on plan words) t run.gives in
-    let long = length-append earlier later in
-    let few : first.steps + length earlier + length later < 2 ^ 62 = omega (arith, first.few, steps, run.few_steps, long) in
-    let here = (run-sound variant full plan v run.within.shape.root earlier first.steps (opened_on plan words) s (omega (arith, few))
-    first.sound e).0 in
-    let on = later-part plan (opened_on plan words) s t earlier later e run.gives in (
-      (run-sound variant full plan v run.within.shape.root later (first.steps + length earlier) s t few here on).1,
-      first.steps
-          + length earlier,
-      here,
-    )
 
 -- The last step of a run.
 

@@ -1,48 +1,24 @@
 -- What each access of a scan does.
-use Rattle.art_steps.specs.declared.variant.Variant.{Variant}
-use Rattle.art_steps.specs.declared.variant.Variant.TheVariants.{Coupled, Optimistic}
-use Rattle.std.proofs.lemmas.Bool.{false≢true}
-use Rattle.art_steps.specs.Rows.{locks, leaves_out_check}
-use Rattle.art_stages.specs.Stages.{setting}
-use Rattle.art_stages.specs.Scans.{enter_at}
-use Rattle.art_versions.specs.versions.Locking.{lock_of, locks_of, scan_locked, scan_held}
-use Rattle.art_versions.specs.versions.Holding.{FitsScan, IsKept, rows_entered, rows_walked, holds}
-use Rattle.art_versions.specs.versions.Effects.{IsAmong, IsWith, Has, Releases, Takes}
+use Rattle.art_versions.proofs.Common.{Variant, Coupled, Optimistic, false≢true, locks, setting, lock_of, locks_of, scan_held, FitsScan, IsKept}
+use Rattle.art_versions.proofs.Common.{holds, IsAmong, IsWith, Has, Releases, Takes, ◌≡◌, ◌≢◌, ◌∙◌, eq-eqb, ne_eqb, inl, inr, ap, subst, ℕ, zero}
+use Rattle.art_versions.proofs.Common.{suc, ◌+◌, ◌-◌, ◌%◌, ◌<◌, ◌≤◌, List, [], ◌∷◌, ◌++◌, refl, sym, Bool, true, false, arith, ◌==◌}
+use Rattle.art_versions.proofs.Common.{if◌then◌else◌, slice_index, map, filter, Option, Some, None, none-some, same_Some, Call, Kind, Four}
+use Rattle.art_versions.proofs.Common.{Sixteen, FortyEight, Full, Shape, Child, Empty, ChildRow, Leaf, kind_at, child_at, root_base, is_locked}
+use Rattle.art_versions.proofs.Common.{is_obsolete, entries_of, place_of, child_of, Setting, bytes_of, with_leaf, has_row, Held, KeyWords, Below}
+use Rattle.art_versions.proofs.Common.{Frame, ScanStep, Lock, Exchange, Keys, FirstKeys, SecondKeys, Index, LoadChild, Release, row_at, held}
+use Rattle.art_versions.proofs.Common.{keys_among, keys_one, Walk, ScanAt, at, walked, on_way, in_word, frame_of, keys16, release_rows, close_at}
+use Rattle.art_versions.proofs.Common.{slot_at, bytes_at, index_at_list, words_at, child_from, frame_at, way_at, resume_at, with_frame}
+use Rattle.art_versions.proofs.Common.{visit_list, entry_at, child_after, scan_start, step_after, OnScan, OfRows, Each, IsSlot, child_rows}
+use Rattle.art_versions.proofs.Common.{IsNamed, FitsFrame, KnowsScanRows, Reads, Answered, AccessDoes}
+use Rattle.art_steps.specs.Rows.{leaves_out_check}
+use Rattle.art_stages.specs.Scans.{enter_at, place_slot, row_begins, visit_at}
+use Rattle.art_versions.specs.versions.Locking.{scan_locked}
+use Rattle.art_versions.specs.versions.Holding.{rows_entered, rows_walked}
 use Rattle.art_versions.proofs.versions.WithLemmas.{with-last}
-use Rattle.std.proofs.Common.{◌≡◌, ◌≢◌, ◌∙◌, eq-eqb, ne_eqb, inl, inr, ap, subst, ℕ, zero, suc, ◌+◌, ◌-◌, ◌%◌, ◌<◌, ◌≤◌, List, [], ◌∷◌}
-use Rattle.std.proofs.Common.{◌++◌, refl, sym, Bool}
-use Rattle.std.proofs.Common.{true, false, arith}
-use Rattle.std.specs.Prelude.{◌==◌, if◌then◌else◌, slice_index, map, filter, Option, Some, None}
-use Rattle.std.proofs.lemmas.Option.{none-some, same_Some}
-use Rattle.events.specs.declared.event.Call.{Call}
-use Rattle.art_rows.specs.declared.table.Kind.{Kind}
-use Rattle.art_rows.specs.declared.table.Kind.TheVariants.{Four, Sixteen, FortyEight, Full}
-use Rattle.art_rows.specs.declared.table.Shape.{Shape}
-use Rattle.art_rows.specs.declared.table.Child.{Child}
-use Rattle.art_rows.specs.declared.table.Child.TheVariants.{Empty, Row as ChildRow, Leaf}
-use Rattle.art_rows.specs.Table.{kind_at, child_at, root_base}
-use Rattle.art_rows.specs.Words.{is_locked, is_obsolete, entries_of, place_of, child_of}
-use Rattle.art_steps.specs.Rows.{Setting}
-use Rattle.art_steps.specs.Scan.{bytes_of, with_leaf, has_row}
 use Rattle.art_steps.proofs.AccessLemmas.{each-append}
-use Rattle.art_stages.specs.declared.stage.Held.{Held}
-use Rattle.art_stages.specs.declared.stage.Keys.{Keys as KeyWords}
 use Rattle.art_stages.specs.declared.stage.Entry.{Entry}
-use Rattle.art_stages.specs.declared.stage.Entry.TheVariants.{Root, Below}
-use Rattle.art_stages.specs.declared.stage.Frame.{Frame}
-use Rattle.art_stages.specs.declared.stage.ScanStep.{ScanStep}
-use Rattle.art_stages.specs.declared.stage.ScanStep.TheVariants.{Lock, Exchange, Wait, Info, Keys, FirstKeys, SecondKeys, Index}
-use Rattle.art_stages.specs.declared.stage.ScanStep.TheVariants.{Child as LoadChild, Release}
-use Rattle.art_stages.specs.declared.stage.ScanStep.TheVariants.{Over}
-use Rattle.art_stages.specs.Stages.{row_at, held, keys_among}
-use Rattle.art_stages.specs.Automaton.{keys_one}
-use Rattle.art_stages.specs.Scans.{Walk, ScanAt, at, walked, on_way, in_word, frame_of, keys16, release_rows, close_at, slot_at, bytes_at}
-use Rattle.art_stages.specs.Scans.{index_at_list}
-use Rattle.art_stages.specs.Scans.{words_at, place_slot, child_from, frame_at, way_at, resume_at, with_frame, row_begins}
-use Rattle.art_stages.specs.Scans.{visit_list, visit_at, entry_at, child_after, scan_start, step_after}
-use Rattle.art_stages.specs.Calls.{OnScan}
-use Rattle.art_versions.specs.versions.Holding.{OfRows, Each, IsSlot, child_rows, IsNamed, FitsFrame, KnowsScanRows}
-use Rattle.art_versions.specs.versions.Effects.{Reads, Answered, AccessDoes}
+use Rattle.art_stages.specs.declared.stage.Entry.TheVariants.{Root}
+use Rattle.art_stages.specs.declared.stage.ScanStep.TheVariants.{Wait, Info, Over}
 use Rattle.art_versions.proofs.versions.ByteLemmas.{index-small}
 use Rattle.art_versions.proofs.versions.WordFacts.{place-fits, entry-fits}
 

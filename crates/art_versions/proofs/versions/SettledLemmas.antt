@@ -1,25 +1,13 @@
 -- What a scan loads before its checks lies in a row that it knows.
-use Rattle.std.proofs.Common.{◌≡◌, ◌≢◌, ℕ, ◌+◌, ◌*◌, ◌<◌, ◌≤◌, refl, sym, subst, false, arith}
-use Rattle.std.specs.Prelude.{Option, Some}
-use Rattle.events.specs.declared.event.Call.{Call}
-use Rattle.art_rows.specs.declared.table.Kind.{Kind}
-use Rattle.art_rows.specs.declared.table.Kind.TheVariants.{Four, Sixteen, FortyEight, Full}
-use Rattle.art_rows.specs.declared.table.Shape.{Shape}
-use Rattle.art_rows.specs.Table.{row_words, root_base, info_at, keys_at, more_keys_at, index_at, count_at}
-use Rattle.art_rows.proofs.KindLemmas.{seven-words}
-use Rattle.art_steps.specs.declared.access.Access.TheVariants.{Load}
-use Rattle.art_steps.specs.declared.access.Point.{Point}
+use Rattle.art_versions.proofs.Common.{◌≡◌, ◌≢◌, ℕ, ◌+◌, ◌*◌, ◌<◌, ◌≤◌, refl, sym, subst, false, arith, Option, Some, Call, Kind, Four, Sixteen}
+use Rattle.art_versions.proofs.Common.{FortyEight, Full, Shape, row_words, root_base, info_at, keys_at, more_keys_at, index_at, count_at}
+use Rattle.art_versions.proofs.Common.{seven-words, Load, Point, Asks, loads-same, answers-asks, Held, Below, ScanStep, Lock, Exchange, Keys}
+use Rattle.art_versions.proofs.Common.{FirstKeys, SecondKeys, Index, LoadChild, Release, Walk, ScanAt, at, scan_turn, optimistic, OfRows}
+use Rattle.art_versions.proofs.Common.{KnowsScanRows}
 use Rattle.art_steps.specs.declared.access.Point.TheVariants as point
-use Rattle.art_steps.specs.Steps.{Asks}
-use Rattle.art_steps.proofs.TurnLemmas.{loads-same, answers-asks}
-use Rattle.art_stages.specs.declared.stage.Held.{Held}
-use Rattle.art_stages.specs.declared.stage.Entry.TheVariants.{Root, Below}
-use Rattle.art_stages.specs.declared.stage.ScanStep.{ScanStep}
-use Rattle.art_stages.specs.declared.stage.ScanStep.TheVariants.{Lock, Exchange, Wait, Info, Keys, FirstKeys, SecondKeys, Index}
-use Rattle.art_stages.specs.declared.stage.ScanStep.TheVariants.{Child as LoadChild, Release}
-use Rattle.art_stages.specs.declared.stage.ScanStep.TheVariants.{Over}
-use Rattle.art_stages.specs.Scans.{Walk, ScanAt, at, scan_turn, keys_turn}
-use Rattle.art_versions.specs.versions.Holding.{optimistic, OfRows, KnowsScanRows}
+use Rattle.art_stages.specs.declared.stage.Entry.TheVariants.{Root}
+use Rattle.art_stages.specs.declared.stage.ScanStep.TheVariants.{Wait, Info, Over}
+use Rattle.art_stages.specs.Scans.{keys_turn}
 use Rattle.art_versions.proofs.versions.KeyLemmas.{slot-behind}
 
 module _ (s : Shape) (call : Call) (P : OfRows) (root : P (root_base s) Full) where

@@ -1,66 +1,32 @@
 -- Each step of a full tree keeps rows and versions sound, and is steady.
-use Rattle.art_versions.specs.versions.Writers.{WritesOwn}
-use Rattle.std.proofs.Common.{true, false}
-use Rattle.art_steps.specs.Rows.{locks}
-use Rattle.std.proofs.Common.{◌≡◌, ◌≢◌, ℕ, ◌+◌, ◌%◌, ◌^◌, ◌<◌, ◌≤◌, List, [], ◌∷◌, ◌++◌, length, refl, ap, sym, subst, ◌∙◌, inl, inr, arith}
-use Rattle.std.proofs.Common.{eq-eqb}
-use Rattle.std.proofs.Common.{ne_eqb}
-use Rattle.std.specs.Prelude.{Bool, slice_get, slice_index, slice_set, Option, Some, None, if◌then◌else◌}
-use Rattle.std.proofs.lemmas.List.{append-nil}
-use Rattle.std.proofs.lemmas.Bool.{cases_eq, cases_lt}
-use Rattle.std.proofs.lemmas.Option.{same_Some, none-some}
-use Rattle.events.specs.declared.event.Call.{Call}
-use Rattle.events.specs.declared.event.Call.TheVariants.{Get, Insert, Remove, Scan, Replace}
-use Rattle.events.specs.declared.event.Reply.{Reply}
-use Rattle.art_rows.specs.declared.table.Shape.{Shape}
-use Rattle.art_rows.specs.declared.table.Kind.{Kind}
-use Rattle.art_rows.specs.declared.table.Kind.TheVariants.{Four, Sixteen, FortyEight, Full}
-use Rattle.art_rows.specs.Table.{rows_of, claims_of, base_of, root_base, kind_at}
-use Rattle.art_rows.specs.Words.{locked_word}
-use Rattle.art_rows.proofs.KindLemmas.{claims-few}
-use Rattle.art_steps.specs.declared.variant.Variant.TheVariants.{Optimistic}
-use Rattle.art_steps.specs.declared.access.Access.{Access}
-use Rattle.art_steps.specs.declared.access.Access.TheVariants.{Load, Store, Exchange, Add}
-use Rattle.art_steps.specs.declared.access.Point.{Point}
-use Rattle.art_steps.specs.Steps.{Turn, Asks, Answers}
-use Rattle.art_steps.specs.Rows.{Setting}
-use Rattle.art_steps.specs.Act.{act}
-use Rattle.art_steps.specs.Fits.{word_of}
+use Rattle.art_versions.proofs.Common.{WritesOwn, true, false, locks, ◌≡◌, ◌≢◌, ℕ, ◌+◌, ◌%◌, ◌^◌, ◌<◌, ◌≤◌, List, [], ◌∷◌, ◌++◌, length, refl}
+use Rattle.art_versions.proofs.Common.{ap, sym, subst, ◌∙◌, inl, inr, arith, eq-eqb, ne_eqb, slice_get, slice_index, slice_set, Option, Some}
+use Rattle.art_versions.proofs.Common.{None, if◌then◌else◌, append-nil, cases_eq, cases_lt, same_Some, none-some, Call, Get, Insert, Remove}
+use Rattle.art_versions.proofs.Common.{Scan, Replace, Reply, Shape, Kind, Four, Sixteen, FortyEight, Full, rows_of, claims_of, base_of}
+use Rattle.art_versions.proofs.Common.{root_base, kind_at, locked_word, claims-few, Optimistic, Access, Load, Point, Turn, Asks, Answers}
+use Rattle.art_versions.proofs.Common.{Setting, act, word_of, row_begins, IsClaimed, Held, CallAt, OnKey, OnScan, call_turn, call_after}
+use Rattle.art_versions.proofs.Common.{call_begun, after_all, call_next, behind, Variant, Process, told, Plan, State, Move, Invokes, Makes}
+use Rattle.art_versions.proofs.Common.{Responds, after_move, move_of, invocation, next_call, move_from, step, is-moved, OfRows, Named, Knows}
+use Rattle.art_versions.proofs.Common.{holds, fills, With, Has, Reads, Writes, Fills, Ends, Releases, Takes, Claims, Answered, AccessDoes}
+use Rattle.art_versions.proofs.Common.{IsOpen, stage_of, held_by, filled_by, IsSettled, IsSound, IsSteady, IsFull, Coupled, is_insert, asks-same}
+use Rattle.art_versions.proofs.Common.{asks-answers, start_at, ScanAt, at, locks_of, scan_held, held_at_stage, row_filled, KnowsRows}
+use Rattle.art_versions.proofs.Common.{KnowsScanRows, setting}
+use Rattle.std.specs.Prelude.{Bool}
+use Rattle.art_steps.specs.declared.access.Access.TheVariants.{Store, Exchange, Add}
 use Rattle.art_steps.proofs.AccessLemmas.{act-stays}
-use Rattle.art_serial.proofs.words.TableLemmas.{row_begins}
-use Rattle.art_serial.specs.trees.Trees.{IsClaimed}
-use Rattle.art_stages.specs.declared.stage.Held.{Held}
-use Rattle.art_stages.specs.Calls.{CallAt, OnKey, OnScan, call_turn, call_after, call_begun, begun_as, after_all}
-use Rattle.art_stages.proofs.BehindLemmas.{call_next, behind}
-use Rattle.art_steps.specs.declared.variant.Variant.{Variant}
-use Rattle.art_core.specs.declared.process.Process.{Process}
-use Rattle.art_core.specs.Accesses.{told}
-use Rattle.art_core.specs.Core.{Plan, State, Move, Invokes, Makes, Responds, after_move, moved, move_of, invocation, next_call, move_from}
-use Rattle.art_core.specs.Core.{step}
-use Rattle.art_core.proofs.HistoryLemmas.{is-moved}
-use Rattle.art_versions.specs.versions.Holding.{OfRows, Named, Knows, holds, fills}
-use Rattle.art_versions.specs.versions.Effects.{With, Has, Reads, Writes, Fills, Ends, Releases, Takes, Claims, Answered, AccessDoes}
-use Rattle.art_versions.specs.versions.Versions.{IsOpen, stage_of, held_by, filled_by, IsSettled, IsSound}
-use Rattle.art_versions.specs.versions.Steady.{IsSteady}
+use Rattle.art_stages.specs.Calls.{begun_as}
+use Rattle.art_core.specs.Core.{moved}
 use Rattle.art_versions.proofs.versions.KeyLemmas.{key-does}
 use Rattle.art_versions.proofs.versions.ScanLemmas.{coupled-scan-does, optimistic-scan-does}
 use Rattle.art_versions.proofs.versions.CoupledLemmas.{coupled-own}
 use Rattle.art_versions.proofs.versions.OptimisticLemmas.{optimistic-own}
-use Rattle.art_versions.specs.versions.Laws.{IsFull}
-use Rattle.art_steps.specs.declared.variant.Variant.TheVariants.{Coupled}
-use Rattle.art_steps.specs.Rows.{is_insert}
-use Rattle.art_steps.proofs.TurnLemmas.{asks-same, asks-answers}
-use Rattle.art_stages.specs.Automaton.{start_at}
-use Rattle.art_stages.specs.Scans.{ScanAt, at, no_walk}
+use Rattle.art_stages.specs.Scans.{no_walk}
 use Rattle.art_stages.specs.declared.stage.Entry.TheVariants.{Root as EntryRoot}
 use Rattle.art_stages.specs.declared.stage.ScanStep.TheVariants as scan
-use Rattle.art_versions.specs.versions.Locking.{locks_of, scan_held, held_at_stage}
-use Rattle.art_versions.specs.versions.Holding.{row_filled, KnowsRows, KnowsScanRows}
 use Rattle.art_versions.proofs.versions.ChangeLemmas.{whose, own-call, index-other}
 use Rattle.art_versions.proofs.versions.MoveLemmas.{settled-row, true-false, no-items, differ}
 use Rattle.art_versions.proofs.versions.AccessLemmas.{keeps-words, keeps-versions, is-locked, takes, releases}
 use Rattle.art_versions.proofs.versions.LowLemmas.{keeps-idle, keeps-claim}
-use Rattle.art_stages.specs.Stages.{setting}
 
 pub after-more : (c : Setting) (at : CallAt) (got : List ℕ) (w : ℕ) → after_all c at (got ++ w ∷ []) ≡ call_after c (after_all c at got) w
 after-more c at [] w = refl

@@ -1,9 +1,6 @@
 -- A row put among rows.
-use Rattle.std.proofs.Common.{◌≡◌, ◌≢◌, List, [], ◌∷◌, ◌++◌, refl, ap, sym, subst, ◌∙◌, inl, inr}
-use Rattle.std.specs.Prelude.{◌⊎◌}
-use Rattle.art_stages.specs.declared.stage.Held.{Held}
-use Rattle.art_versions.specs.versions.Effects.{IsAmong, IsWith}
-use Rattle.art_versions.specs.versions.Versions.{AreDistinct}
+use Rattle.art_versions.proofs.Common.{◌≡◌, ◌≢◌, List, [], ◌∷◌, ◌++◌, refl, ap, sym, subst, ◌∙◌, inl, inr, ◌⊎◌, Held, IsAmong, IsWith}
+use Rattle.art_versions.proofs.Common.{AreDistinct}
 
 pub with-here : (h : Held) (rest all : List Held) → IsWith h rest all → IsAmong h all
 with-here h rest [] w = absurd w

@@ -1,24 +1,14 @@
 -- Facts on counts, places and child words.
-use Rattle.std.proofs.Common.{◌≡◌, ℕ, ◌+◌, ◌*◌, ◌-◌, ◌/◌, ◌%◌, ◌^◌, ◌<◌, ◌≤◌, [], length, refl, ap, sym, subst, ◌∙◌, Bool, true, false}
-use Rattle.std.proofs.Common.{arith}
-use Rattle.std.specs.Prelude.{◌==◌, slice_index, Some, None, if◌then◌else◌}
-use Rattle.std.proofs.lemmas.Option.{none-some, same_Some}
-use Rattle.events.specs.declared.event.Call.{Call}
-use Rattle.events.specs.declared.event.Call.TheVariants.{Get, Insert, Remove, Scan, Replace}
-use Rattle.art_rows.specs.declared.table.Kind.{Kind}
-use Rattle.art_rows.specs.declared.table.Kind.TheVariants.{Four, Sixteen, FortyEight, Full}
-use Rattle.art_rows.specs.declared.table.Shape.{Shape}
-use Rattle.art_rows.specs.declared.table.Child.{Child}
-use Rattle.art_rows.specs.declared.table.Child.TheVariants.{Empty, Row as ChildRow, Leaf}
-use Rattle.art_rows.specs.Table.{capacity, kind_at}
-use Rattle.art_rows.specs.Words.{is_locked, is_obsolete, count_of, entries_of, child_of, child_word, row_child}
-use Rattle.art_rows.specs.Words.{leaf_word, row_word, place_of}
-use Rattle.art_rows.proofs.ByteLemmas.{entries-most, place-within, keys4-few, keys16-few}
-use Rattle.art_steps.specs.Updates.{overwriting, new_leaf}
+use Rattle.art_versions.proofs.Common.{◌≡◌, ℕ, ◌+◌, ◌*◌, ◌-◌, ◌/◌, ◌%◌, ◌^◌, ◌<◌, ◌≤◌, [], length, refl, ap, sym, subst, ◌∙◌, Bool, true, false}
+use Rattle.art_versions.proofs.Common.{arith, ◌==◌, slice_index, Some, None, if◌then◌else◌, none-some, same_Some, Call, Get, Insert, Remove}
+use Rattle.art_versions.proofs.Common.{Scan, Replace, Kind, Four, Sixteen, FortyEight, Full, Shape, Child, Empty, ChildRow, Leaf, capacity}
+use Rattle.art_versions.proofs.Common.{kind_at, is_locked, is_obsolete, entries_of, child_of, child_word, row_child, row_word, place_of}
+use Rattle.art_versions.proofs.Common.{keys4-few, keys16-few, overwriting, new_leaf, count_in, keys_among, OfRows, Each, IsNamed, IsVersion}
+use Rattle.art_versions.proofs.Common.{child_rows}
+use Rattle.art_rows.specs.Words.{count_of, leaf_word}
+use Rattle.art_rows.proofs.ByteLemmas.{entries-most, place-within}
 use Rattle.art_serial.proofs.words.WordLemmas.{row_as}
 use Rattle.art_stages.specs.declared.stage.Keys.{Keys}
-use Rattle.art_stages.specs.Stages.{count_in, keys_among}
-use Rattle.art_versions.specs.versions.Holding.{OfRows, Each, IsNamed, IsVersion, child_rows}
 
 count48-most : (w : ℕ) → count_of 48 w ≤ 48
 count48-most w = grind arith

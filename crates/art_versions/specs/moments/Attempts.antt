@@ -1,14 +1,9 @@
 -- What an answered scan has read and checked: a law of the scan's steps alone, whatever words it got.
 use Rattle.std.specs.Prelude.{◌≡◌, ◌≢◌, ◌⊎◌, ℕ, ◌+◌, ◌%◌, ◌<◌, ◌≤◌, List, ◌++◌, length, slice_index, Some}
 use Rattle.events.specs.declared.event.Call.{Call}
-use Rattle.events.specs.declared.event.Call.TheVariants.{Scan}
-use Rattle.events.specs.declared.event.Reply.{Reply}
 use Rattle.art_rows.specs.declared.table.Kind.{Kind}
 use Rattle.art_rows.specs.Table.{row_words}
-use Rattle.art_steps.specs.declared.variant.Variant.TheVariants.{Optimistic}
 use Rattle.art_steps.specs.declared.access.Point.TheVariants as point
-use Rattle.art_steps.specs.Steps.{Answers}
-use Rattle.art_steps.specs.Act.{act}
 use Rattle.art_core.specs.Core.{Plan}
 use Rattle.art_core.specs.Moments.{BeginsAttempt, Reads, Enters, Checks}
 
@@ -43,8 +38,3 @@ pub record IsValidated (plan : Plan) (call : Call) (got : List ℕ) : Type 0 whe
   pub reads : (i word : ℕ) → Reads plan call attempt i word → IsOfCheckedRow plan call attempt m i word
   pub parts : (i word : ℕ) (r : Reads plan call attempt i word) → ((i < m) × (r.mark ≢ Some point.Check))
       ⊎ ((m ≤ i) × (r.mark ≡ Some point.Check))
-
--- An answered scan of the optimistic tree was validated, whatever words it got.
-abbrev pub AnsweredScansAreValidated : Type 0
-AnsweredScansAreValidated = (plan : Plan) (low high : ℕ) (got : List ℕ) (reply : Reply) → plan.variant ≡ Optimistic → 1 ≤ plan.shape.rows256
-    → act plan.shape plan.variant (Scan low high) got ≡ Answers reply → IsValidated plan (Scan low high) got

@@ -5,9 +5,6 @@ use Rattle.events.specs.declared.event.Call.TheVariants.{Get}
 use Rattle.events.specs.declared.event.Reply.{Reply}
 use Rattle.art_rows.specs.declared.table.Kind.{Kind}
 use Rattle.art_rows.specs.Table.{row_words, root_base, info_at}
-use Rattle.art_steps.specs.declared.variant.Variant.TheVariants.{Optimistic}
-use Rattle.art_steps.specs.Steps.{Answers}
-use Rattle.art_steps.specs.Act.{act}
 use Rattle.art_core.specs.Core.{Plan}
 use Rattle.art_core.specs.Moments.{BeginsAttempt, Reads, Enters, Checks}
 use Rattle.art_versions.specs.moments.RowReplies.{row_reply}
@@ -48,8 +45,3 @@ pub record IsCheckedGet (plan : Plan) (key : ℕ) (got : List ℕ) (reply : Repl
   pub goes_by : GoesBy plan (Get key) attempt entry base info
   pub replies : (words : List ℕ) → HasRead plan (Get key) attempt entry base kind words
       → row_reply plan.shape words base kind info key ≡ Some reply
-
--- An answered get of the optimistic tree was checked, whatever words it got.
-abbrev pub AnsweredGetsAreChecked : Type 0
-AnsweredGetsAreChecked = (plan : Plan) (key : ℕ) (got : List ℕ) (reply : Reply) → plan.variant ≡ Optimistic → 1 ≤ plan.shape.rows256
-    → act plan.shape plan.variant (Get key) got ≡ Answers reply → IsCheckedGet plan key got reply

@@ -8,8 +8,8 @@ use Rattle.art_steps.specs.Act.{act}
 use Rattle.art_steps.specs.Fits.{word_of}
 use Rattle.art_core.specs.declared.process.Process.{Process}
 use Rattle.art_core.specs.Accesses.{told}
-use Rattle.art_core.specs.Core.{Plan, State, opened_on, begun}
-use Rattle.art_core.specs.Runs.{Gives, At}
+use Rattle.art_core.specs.Core.{Plan, State, begun}
+use Rattle.art_core.specs.Runs.{At}
 use Rattle.art_core.specs.Moments.{HasGot}
 
 -- Before moment t process p had got the first i of these words in the same call, and made the access that got the next one.
@@ -30,8 +30,3 @@ pub record GotAt (plan : Plan) (first : State) (schedule : List ℕ) (t p : ℕ)
   pub after : State
   pub at_after : At plan first schedule (suc u) after
   pub got_it : HasGot (length (begun q)) (suc i) after p
-
-abbrev pub WordsWereGot : Type 0
-WordsWereGot = (plan : Plan) (words schedule : List ℕ) (s : State) (p : ℕ) (q : Process) (call : Call) (i : ℕ)
-    → Gives plan (opened_on plan words) schedule s → slice_get s.processes p ≡ Some q → q.call ≡ Some call → i < length q.got
-    → GotAt plan (opened_on plan words) schedule (length schedule) p q call i

@@ -6,10 +6,7 @@ use Rattle.art_steps.specs.declared.variant.Variant.TheVariants.{Coupled, Optimi
 use Rattle.art_core.specs.Core.{Plan, State, opened_on}
 use Rattle.art_core.specs.Runs.{Gives}
 use Rattle.art_core.specs.Plans.{IsRun}
-use Rattle.art_serial.specs.trees.Trees.{AreZeroPastClaims}
-use Rattle.art_versions.specs.versions.Locks.{LocksAreHeld}
 use Rattle.art_versions.specs.versions.Versions.{IsSound}
-use Rattle.art_versions.specs.versions.Steady.{IsSteady, ObsoleteStand}
 use Rattle.art_versions.specs.versions.Writers.{WritesOwn}
 
 -- a tree that leaves out no lock and no check
@@ -22,33 +19,8 @@ RowsAreSound = (plan : Plan) (start : Contents) (words schedule : List ℕ) (s :
     → IsFull plan.variant
     → (n : ℕ) × (n < 2 ^ 62) × IsSound plan.variant plan.shape n s
 
--- From each state of a schedule to each later one, settled rows stay settled, versions do not fall, and a row whose version is the same
--- stands still.
-abbrev pub RowsStandStill : Type 0
-RowsStandStill = (plan : Plan) (start : Contents) (words earlier later : List ℕ) (s t : State) → IsRun plan start words (earlier ++ later) t
-    → IsFull plan.variant → Gives plan (opened_on plan words) earlier s → IsSteady plan.variant plan.shape s t
-
 -- In each step a process writes only words of rows that it holds, takes or fills.
 abbrev pub HoldersWrite : Type 0
 HoldersWrite = (plan : Plan) (start : Contents) (words schedule : List ℕ) (p : ℕ) (s t : State)
     → IsRun plan start words (schedule ++ p ∷ []) t
     → IsFull plan.variant → Gives plan (opened_on plan words) schedule s → WritesOwn plan.variant plan.shape s p t
-
--- In every state that a schedule gives, a version is locked exactly where one process has locked it by an access and has not released it
--- since.
-abbrev pub LocksAreHeldInRuns : Type 0
-LocksAreHeldInRuns = (plan : Plan) (start : Contents) (words schedule : List ℕ) (s : State) → IsRun plan start words schedule s
-    → IsFull plan.variant
-    → LocksAreHeld plan s
-
--- In the optimistic tree an obsolete row is as it was, from each state of a schedule to each later one.
-abbrev pub ObsoleteRowsRest : Type 0
-ObsoleteRowsRest = (plan : Plan) (start : Contents) (words earlier later : List ℕ) (s t : State)
-    → IsRun plan start words (earlier ++ later) t
-    → plan.variant ≡ Optimistic → Gives plan (opened_on plan words) earlier s → ObsoleteStand Optimistic plan.shape s t
-
--- In every state that a schedule gives, rows that no claim has reached have only zeros.
-abbrev pub FreshRowsAreZero : Type 0
-FreshRowsAreZero = (plan : Plan) (start : Contents) (words schedule : List ℕ) (s : State) → IsRun plan start words schedule s
-    → IsFull plan.variant
-    → AreZeroPastClaims plan.shape s.words

@@ -1,9 +1,9 @@
 -- A row whose version stays is a row that stands still.
-use Rattle.std.specs.Prelude.{◌≡◌, ℕ, ◌+◌, ◌<◌, ◌≤◌, true, false, List, slice_index}
+use Rattle.std.specs.Prelude.{◌≡◌, ℕ, ◌+◌, ◌<◌, ◌≤◌, false, List, slice_index}
 use Rattle.art_rows.specs.declared.table.Shape.{Shape}
 use Rattle.art_rows.specs.declared.table.Kind.{Kind}
 use Rattle.art_rows.specs.Table.{row_words, claims_of}
-use Rattle.art_rows.specs.Words.{is_locked, is_obsolete}
+use Rattle.art_rows.specs.Words.{is_locked}
 use Rattle.art_steps.specs.declared.variant.Variant.{Variant}
 use Rattle.art_core.specs.Core.{State}
 use Rattle.art_versions.specs.versions.Versions.{IsSettled}
@@ -21,9 +21,3 @@ pub record IsSteady (variant : Variant) (shape : Shape) (s later : State) : Type
   pub rises : (base : ℕ) (kind : Kind) → IsSettled variant shape s base kind → slice_index s.words base ≤ slice_index later.words base
   pub stands : (base : ℕ) (kind : Kind) → IsSettled variant shape s base kind → slice_index later.words base ≡ slice_index s.words base
       → is_locked (slice_index s.words base) ≡ false → SameWords s.words later.words base kind
-
--- a settled row that is obsolete has the same words
-abbrev pub ObsoleteStand : Variant → Shape → State → State → Type 0
-ObsoleteStand variant shape s later = (base : ℕ) (kind : Kind) → IsSettled variant shape s base kind
-    → is_obsolete (slice_index s.words base) ≡ true
-    → SameWords s.words later.words base kind

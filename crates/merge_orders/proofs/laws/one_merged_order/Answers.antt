@@ -1,6 +1,5 @@
-use Rattle.events.specs.Operations.{operations}
+use Rattle.merge_orders.proofs.Common.{operations, inv_rises}
 use Rattle.merge_orders.proofs.MergeLemmas.{known-orders}
-use Rattle.events.proofs.TimeLemmas.{inv_rises}
 use Rattle.merge_orders.proofs.UniqueMergeLemmas.{merged_unique}
 use Rattle.merge_orders.proofs.laws.one_merged_order.Goals as goal
 

@@ -1,8 +1,4 @@
-use Rattle.std.proofs.Common.{get_or, subst, arith}
-use Rattle.std.specs.Prelude.{Contains}
-use Rattle.std.proofs.lemmas.List.Elements.{Contains-get_or}
-use Rattle.events.specs.Operations.{operations}
-use Rattle.events.proofs.TimeLemmas.{inv_rises}
+use Rattle.merge_orders.proofs.Common.{get_or, subst, arith, Contains, Contains-get_or, operations, inv_rises}
 use Rattle.merge_orders.proofs.UniqueMergeLemmas.{same_order-from_point}
 use Rattle.merge_orders.proofs.OnceLemmas.{NameCallsOnce-from_segments}
 use Rattle.merge_orders.proofs.laws.segments_share_no_point.Goals as goal

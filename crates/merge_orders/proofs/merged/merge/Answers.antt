@@ -1,13 +1,9 @@
-use Rattle.std.proofs.Common.{map, sym, ap, ◌∙◌, subst, rules}
-use Rattle.std.specs.List.{concat}
+use Rattle.merge_orders.proofs.Common.{map, sym, ap, ◌∙◌, subst, concat, IsMergedOrder, operations, IsOrder, at_point}
+use Rattle.std.proofs.Common.{rules}
 use Rattle.std.proofs.lemmas.List.Sorted.{answers_always}
 use Rattle.std.proofs.lemmas.Result.{IfOk-weaker}
-use Rattle.merge_orders.specs.Merge.{IsMergedOrder}
-use Rattle.events.specs.Operations.{operations}
-use Rattle.orders.specs.Orders.{IsOrder}
 use Rattle.merge_orders.proofs.MergeLemmas.{IsOrder-from_merged}
 use Rattle.events.proofs.TimeLemmas.{NonePrecedesItself-operations}
-use Rattle.merge_orders.specs.Points.{at_point}
 use Rattle.merge_orders.proofs.OnceLemmas.{NameCallsOnce-from_segments}
 use Rattle.merge_orders.proofs.SortedLemmas.{IsMergedOrder-sorted}
 use Rattle.merge_orders.proofs.merged.merge.Goals as goal

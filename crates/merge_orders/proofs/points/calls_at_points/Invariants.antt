@@ -1,6 +1,4 @@
-use Rattle.std.proofs.Common.{◌≡◌, map, take}
-use Rattle.std.specs.List.{concat}
-use Rattle.merge_orders.specs.Points.{at_point}
+use Rattle.merge_orders.proofs.Common.{◌≡◌, map, take, concat, at_point}
 use Rattle.merge_orders.proofs.points.calls_at_points.Given as goal
 
 abbrev pub invariant-loop-order : goal.invariant-loop-order

@@ -1,7 +1,4 @@
-use Rattle.std.proofs.Common.{◌≡◌, ℕ, ◌+◌, Some, length, get_or, refl, ap, ◌∙◌}
-use Rattle.std.specs.Prelude.{slice_get}
-use Rattle.std.proofs.lemmas.Option.{slice_get_read}
-use Rattle.merge_orders.specs.declared.points.CallAtPoint.{CallAtPoint}
+use Rattle.merge_orders.proofs.Common.{◌≡◌, ℕ, ◌+◌, Some, length, get_or, refl, ap, ◌∙◌, slice_get, slice_get_read, CallAtPoint}
 use Rattle.merge_orders.proofs.PlacedLemmas.{latest, latest-more, at_point_in-more, behind-more}
 use Rattle.merge_orders.proofs.points.push_order.Goals as goal
 

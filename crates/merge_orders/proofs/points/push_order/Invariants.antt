@@ -1,5 +1,4 @@
-use Rattle.std.proofs.Common.{◌≡◌, ◌++◌, map, take}
-use Rattle.merge_orders.specs.Points.{at_point_in}
+use Rattle.merge_orders.proofs.Common.{◌≡◌, ◌++◌, map, take, at_point_in}
 use Rattle.merge_orders.proofs.PlacedLemmas.{latest}
 use Rattle.merge_orders.proofs.points.push_order.Given as goal
 

@@ -1,4 +1,4 @@
-use Rattle.std.proofs.Common.{refl}
+use Rattle.art_versions.proofs.Common.{refl}
 use Rattle.art_versions.proofs.versions.RunLemmas.{written-at}
 use Rattle.art_versions.proofs.laws.versions.only_holders_write.Goals as goal
 

@@ -1,4 +1,4 @@
-use Rattle.std.proofs.Common.{refl}
+use Rattle.art_versions.proofs.Common.{refl}
 use Rattle.art_versions.proofs.versions.RunLemmas.{sound-at}
 use Rattle.art_versions.proofs.laws.versions.rows_are_sound.Goals as goal
 
