@@ -3,3 +3,4 @@ mod FirstLineLemmas
 mod LineLemmas
 mod ValueLemmas
 mod LineBufferLemmas
+mod CompactLemmas

@@ -4,3 +4,4 @@ pub mod LineFaults
 pub mod Cuts
 pub mod LineBuffers
 pub mod LineLaws
+pub mod Compact

@@ -6,6 +6,7 @@
 //! What an event is called, and which of its faults comes first, is as in the texts of histories.
 #![tactic(auto)]
 
+mod compact;
 mod cutting;
 mod event;
 mod feeds;

@@ -13,6 +13,7 @@ ghost use Rattle.stream_text.specs.Lines.{MayStandIn, IsFirstOf, SpellsEvent, Sp
 ghost use Rattle.stream_text.specs.LineFaults.{IsByteFault, IsEventFault, IsStartFault, IsPairFault, IsFirstFault, IsEventLineFault, IsFirstLineFault};
 
 use crate::MAX_LINE;
+use crate::compact::compact_event;
 use crate::event::{FirstLine, StreamEvent};
 use crate::line_fault::LineFault;
 use events::{Pairs, is_above};
@@ -27,6 +28,25 @@ use std::alloc::Global;
 /// `Memory`: its length is tested first, then that it is JSON, then its shape, what may not stand
 /// in that version among it, then its process number. A line without bytes is no JSON.
 pub fn read_event_line(
+    alloc: Global,
+    version: TextVersion,
+    line: &[u8],
+) -> Result<StreamEvent, LineFault>
+    ensures spelled { IfOk result (λ e. SpellsEvent version line.now (as_event e)) }
+    ensures refused { IfErr result (IsEventLineFault version line.now) }
+    ensures accepted { (e : Event) → SpellsEvent version line.now e
+        → IfErr result (λ fault. fault ≡ faults.Memory) }
+{
+    if let Some(event) = compact_event(alloc, version, line) {
+        return Ok(event);
+    }
+    event_by_value(alloc, version, line)
+}
+
+/// The same of a line in any form, by its tree of values. It is a call of its own, so that a line
+/// in the compact form does not pay for what the tree needs.
+#[inline(never)]
+fn event_by_value(
     alloc: Global,
     version: TextVersion,
     line: &[u8],
