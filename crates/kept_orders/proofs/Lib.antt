@@ -2,4 +2,5 @@ mod AnswerLemmas
 mod BeginLemmas
 mod FindLemmas
 mod MoveLemmas
+mod RoomLemmas
 mod InsertLemmas

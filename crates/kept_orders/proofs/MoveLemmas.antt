@@ -31,7 +31,7 @@ use Rattle.kept_fronts.specs.declared.front.Level.{Level}
 
 -- ---- the new places
 
-moved_low : (p n : ℕ) → n < p → moved_up p n ≡ n
+pub moved_low : (p n : ℕ) → n < p → moved_up p n ≡ n
 moved_low p n lt = ap (λ b. cond b n (n + 1)) (lt-ltb n p lt)
 
 moved_high : (p n : ℕ) → p ≤ n → moved_up p n ≡ n + 1

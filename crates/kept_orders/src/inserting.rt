@@ -15,9 +15,9 @@ use std::alloc::Global;
 impl KeptOrder {
     /// Inserts a completed call at its place by rising invocation, such as a scan that is one of
     /// the calls only from its answer on. The places from there on rise by one, and the order is
-    /// mended. At the end of the order that costs a pass over the calls after its place and over
-    /// the order. At an earlier place of the order it also costs the calls after it, and again
-    /// those of each try in vain. Otherwise it costs searches too. `Memory` if memory runs out, and
+    /// mended. At the end of the order that costs a pass over the calls after its place, and over
+    /// those in the order after the last that ended before it began. At an earlier place of the
+    /// order it also costs the calls after it, and again those of each try in vain. Otherwise it costs searches too. `Memory` if memory runs out, and
     /// at 4,294,967,294 calls, which no memory holds: then the order is lost.
     pub fn insert(self, alloc: Global, operation: Operation, budget: u32) -> Result<Kept, Memory>
         requires { MayCome self.calls operation }
@@ -59,7 +59,7 @@ fn insert_in_order(
     ensures whole { IfOk result (λ done. done ≡ true → IsWhole calls.new.items front.new) }
 {
     let place = place_for(calls, operation.inv);
-    make_room(front, place)?;
+    make_room(front, calls, place, operation.inv)?;
     calls.insert(place, operation)?;
     let placed = mend(alloc, calls, front, place as u32)?;
     Ok(placed)

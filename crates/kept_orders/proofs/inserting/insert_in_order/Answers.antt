@@ -16,6 +16,17 @@ pub make_room-requires-clause-few : goal.make_room-requires-clause-few
 make_room-requires-clause-few c =
     few_places c.args.front.now.levels.items (length c.args.calls.now.items) c.requires.room c.requires.stands.is_front.known
 
+pub make_room-requires-clause-stands : goal.make_room-requires-clause-stands
+make_room-requires-clause-stands c =
+    subst (λ (xs : List Operation). Stands xs c.args.front.now) (sym c.deref-2.ensures.value) c.requires.stands
+
+pub make_room-requires-clause-greater : goal.make_room-requires-clause-greater
+make_room-requires-clause-greater c =
+    let p = c.place_for-place.result in
+    let op = c.args.operation in
+    subst (λ (xs : List Operation). All (λ (a : Operation). op.inv < a.inv) (drop p xs)) (c.deref.ensures.value ∙ sym c.deref-2.ensures.value)
+    c.place_for-place.ensures.greater
+
 pub mend-requires-clause-stands : goal.mend-requires-clause-stands
 mend-requires-clause-stands c =
     let calls = c.args.calls.now.items in
@@ -25,7 +36,7 @@ mend-requires-clause-stands c =
     let p = c.place_for-place.result in
     let is = c.in_ok-make_room.ensures in
     let within : p ≤ length calls = subst (λ (xs : List Operation). p ≤ length xs) c.deref.ensures.value c.place_for-place.ensures.within in
-    subst (λ (xs : List Operation). Stands xs n) (sym (c.deref-2.ensures.value ∙ c.in_ok-insert.ensures.items))
+    subst (λ (xs : List Operation). Stands xs n) (sym (c.deref-3.ensures.value ∙ c.in_ok-insert.ensures.items))
     (stands-as (insert calls p op) w.start n.start (map (moved p) w.levels.items) n.levels.items w.map n.map (insert w.taken.items p false)
     n.taken.items (min w.low p) n.low is.start is.levels is.map is.taken is.low
     (stands_moved calls op p within c.requires.comes w.start w.levels.items w.map w.taken.items w.low c.requires.stands))
@@ -40,7 +51,7 @@ mend-requires-clause-closed c =
     let within : p ≤ length calls = subst (λ (xs : List Operation). p ≤ length xs) c.deref.ensures.value c.place_for-place.ensures.within in
     let path_is = ap places c.in_ok-make_room.ensures.levels ∙ places_moved p w.levels.items in
     subst (λ (xs : List Operation). IsClosed xs (places c.make_room.new.front.levels.items ++ p ∷ []))
-    (sym (c.deref-2.ensures.value ∙ c.in_ok-insert.ensures.items))
+    (sym (c.deref-3.ensures.value ∙ c.in_ok-insert.ensures.items))
     (subst (λ path. IsClosed (insert calls p op) (path ++ p ∷ [])) (sym path_is)
     (closed_last calls op p within c.requires.comes order c.requires.whole.complete
     (IsClosed-from_front w.start calls order c.requires.stands.is_front)))
@@ -55,7 +66,7 @@ mend-requires-clause-complete c =
     let within : p ≤ length calls = subst (λ (xs : List Operation). p ≤ length xs) c.deref.ensures.value c.place_for-place.ensures.within in
     let path_is = ap places c.in_ok-make_room.ensures.levels ∙ places_moved p w.levels.items in
     subst (λ (xs : List Operation). HasCompleted xs (places c.make_room.new.front.levels.items ++ p ∷ []))
-    (sym (c.deref-2.ensures.value ∙ c.in_ok-insert.ensures.items))
+    (sym (c.deref-3.ensures.value ∙ c.in_ok-insert.ensures.items))
     (subst (λ path. HasCompleted (insert calls p op) (path ++ p ∷ [])) (sym path_is)
     (complete_last calls op p within c.requires.comes order c.requires.whole.complete))
 

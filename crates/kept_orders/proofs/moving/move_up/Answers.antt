@@ -3,6 +3,7 @@ use Rattle.std.proofs.lemmas.List.{get_or_default}
 use Rattle.std.proofs.lemmas.List.Edits.{map_over_more}
 use Rattle.kept_orders.specs.Moving.{moved}
 use Rattle.kept_fronts.specs.declared.front.Level.{Level}
+use Rattle.kept_orders.proofs.RoomLemmas.{moved_from}
 use Rattle.kept_orders.proofs.moving.move_up.Goals as goal
 
 -- a call more has moved
@@ -13,7 +14,10 @@ moved_more p xs ys i n none lt there so_far is =
     ap (λ k. set ys i (record { place = k; undo = (get_or ys i none).undo })) is
     ∙ map_over_more (moved p) xs ys i (get_or ys i none) lt so_far (get_or_default ys i none (get_or ys i none) there)
 
-pub loop-level-preserved : goal.loop-level-preserved
-loop-level-preserved c =
-    moved_more c.args.place c.args.levels.now c.loop-level.levels c.loop-level.level-index c.place_after-level.result
-    (record { place = 0; undo = None }) (omega arith) (omega arith) c.loop-level.invariant c.place_after-level.ensures
+pub loop-at-init : goal.loop-at-init
+loop-at-init c = moved_from c.args.place c.args.from c.args.levels.now c.requires.before
+
+pub loop-at-preserved : goal.loop-at-preserved
+loop-at-preserved c =
+    moved_more c.args.place c.args.levels.now c.loop-at.levels c.loop-at.at c.place_after.result
+    (record { place = 0; undo = None }) (omega arith) (omega arith) c.loop-at.invariant c.place_after.ensures

@@ -3,5 +3,5 @@ use Rattle.kept_orders.specs.Moving.{moved}
 use Rattle.kept_orders.proofs.moving.move_up.Given as goal
 
 -- the calls so far have moved
-abbrev pub invariant-loop-level : goal.invariant-loop-level
-invariant-loop-level l = l.levels ≡ map (moved l.place) (take l.level-index l.fn.levels) ++ drop l.level-index l.fn.levels
+abbrev pub invariant-loop-at : goal.invariant-loop-at
+invariant-loop-at l = l.levels ≡ map (moved l.place) (take l.at l.fn.levels) ++ drop l.at l.fn.levels
