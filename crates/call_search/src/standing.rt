@@ -18,6 +18,7 @@ pub(crate) fn open(alloc: Global, map: SortedMap, calls: &[Operation]) -> Result
     ensures stands { IfOk result (StandsBare map calls.now) }
     ensures none { IfOk result (λ s. s.levels.items ≡ []) }
     ensures one { IfOk result (λ s. length s.memo ≡ 1) }
+    ensures rises { IfOk result (λ s. IsRising s.map) }
 {
     let mut taken = Vec::new(alloc);
     taken.resize(calls.len(), false)?;
