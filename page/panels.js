@@ -72,7 +72,7 @@ function whyWrong() {
     el(
       'p',
       {},
-      `The first ${wrong.to} events have a linearization. With event ${wrong.to} they have none, whatever follows. `,
+      `The events before event ${wrong.to} have a linearization. With it they have none, whatever follows. `,
       'It is the response of ',
       named(wrong),
       ': ',
@@ -175,7 +175,7 @@ function whyOrder() {
   if (shownVerdict !== 'yes' && order.length) {
     const whose = orderIsOfFew
       ? 'The circles are the longest order of these few calls that the search met.'
-      : `The circles are one linearization of the first ${orderedTo} events, with ${many(order.length, 'call')}. There may be others.`;
+      : `The circles are one linearization of the events before event ${orderedTo}. Their numbers are places in it, from 1, not numbers of calls. There may be others.`;
     sections.push(el('h2', {}, 'The circles'), el('p', {}, whose, ' Step through it below the timeline: Map shows what the map then holds.'));
   }
   if (judged.calls && judged.calls.length < calls.length) {

@@ -75,6 +75,52 @@ uint32_t potzendai_follow_open(struct potzendai_follower *follower, uint32_t bud
  * stream so far: 0 while it is followed. Any other status stays, and later lines are passed over. */
 uint32_t potzendai_follow_event(struct potzendai_follower *follower, const char *line, size_t line_length);
 
+/* The calls that an event may begin. In parentheses: which of `key`, `value` and `other` a call of this kind has. The others are ignored. */
+enum {
+    POTZENDAI_INVOKE_GET = 0,     /* the value at a key (key) */
+    POTZENDAI_INVOKE_INSERT = 1,  /* a key, and the value that it is to hold (key, value) */
+    POTZENDAI_INVOKE_REMOVE = 2,  /* a key that is to be absent (key) */
+    POTZENDAI_INVOKE_SCAN = 3,    /* all pairs from one key to another, both included (key, value) */
+    POTZENDAI_INVOKE_REPLACE = 4  /* a key, the value that it has to have, and the one that it then is to hold (key, value, other) */
+};
+
+/* The answers that an event may give. Only two kinds have a value or pairs. For the other kinds these are ignored. */
+enum {
+    POTZENDAI_ANSWER_NONE = 0,    /* no value was at the key */
+    POTZENDAI_ANSWER_VALUE = 1,   /* the value that was at the key */
+    POTZENDAI_ANSWER_PAIRS = 2,   /* the pairs that a scan found */
+    POTZENDAI_ANSWER_REFUSED = 3, /* the map did not do the call, and nothing changed */
+    POTZENDAI_ANSWER_DONE = 4,    /* it did the call; what it found is not said */
+    POTZENDAI_ANSWER_FOUND = 5,   /* it did the call, and the key had a value; which one is not said */
+    POTZENDAI_ANSWER_OTHER = 6    /* a replace found another value than the expected one, or none, and changed nothing */
+};
+
+/* A key and its value in the answer of a scan. */
+struct potzendai_pair { uint64_t key, value; };
+
+/* Takes the invocation of a call by a process, by its values: does what potzendai_follow_event does for the line of this event, and returns the
+ * same. So a stream may be given by lines and by values, and its first line says its version and its start, as ever. If there is no line of this
+ * event, the stream is refused as for `{"invoke":null}`. */
+uint32_t potzendai_follow_invoke(struct potzendai_follower *follower, uint32_t process, uint32_t kind, uint64_t key, uint64_t value,
+                                 uint64_t other);
+
+/* Takes the answer of the open call of a process, in the same way. The pairs are copied. `pairs` may not be null: C and C++ call
+ * potzendai_follow_answer. */
+uint32_t potzendai_follow_answer_with(struct potzendai_follower *follower, uint32_t process, uint32_t kind, uint64_t value,
+                                      const struct potzendai_pair *pairs, size_t count);
+
+/* The same. `pairs` may be null if `count` is 0. If it is null and `count` is not, no line spells this event, and the stream is refused as for
+ * `{"answer":[null]}`. */
+static inline uint32_t potzendai_follow_answer(struct potzendai_follower *follower, uint32_t process, uint32_t kind, uint64_t value,
+                                               const struct potzendai_pair *pairs, size_t count)
+{
+    static const struct potzendai_pair none = {0, 0};
+    static const char refused[] = "{\"answer\":[null]}";
+    if (!pairs && count > 0)
+        return potzendai_follow_event(follower, refused, sizeof refused - 1);
+    return potzendai_follow_answer_with(follower, process, kind, value, pairs ? pairs : &none, count);
+}
+
 /* Writes what potzendai_follow writes if the lines so far are all, and returns its status. More lines may come. */
 uint32_t potzendai_follow_verdict(struct potzendai_follower *follower, char *room, size_t room_length, size_t *length);
 

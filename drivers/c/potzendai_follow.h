@@ -23,8 +23,11 @@ struct potzendai_following {
     struct potzendai_follower follower;
     struct potzendai_told told;
     struct potzendai_meetings meetings;
-    char *kept; /* the stream so far, while it is kept */
+    char *kept; /* the lines of the stream so far, while they are kept */
     size_t kept_length, kept_room;
+    uint64_t *events; /* events after them, whose lines are not written yet: the words of each, after one that says what they are */
+    size_t events_used, events_room, events_length; /* the last is that of their lines */
+    uint64_t taken;
     bool is_long, is_unkept;
 };
 
@@ -38,6 +41,17 @@ static inline void potzendai_count_calls(struct potzendai_following *f)
     }
 }
 
+/* Counts an event. */
+static inline void potzendai_meet_event(struct potzendai_meetings *m, bool is_call, uint64_t process)
+{
+    if (process >= m->processes)
+        return;
+    m->overlap += is_call ? m->open : 0;
+    m->calls += is_call;
+    m->open = is_call ? m->open + 1 : m->open - 1;
+    m->with[process] = is_call ? m->calls : 0;
+}
+
 /* Counts the events of some lines. Each line ends with its process. */
 static inline void potzendai_meet(struct potzendai_meetings *m, const char *text, size_t length)
 {
@@ -47,12 +61,8 @@ static inline void potzendai_meet(struct potzendai_meetings *m, const char *text
             digits--;
         uint64_t process = strtoull(digits, NULL, 10);
         bool is_call = strncmp(line, "{\"invoke\":", 10) == 0, is_event = is_call || strncmp(line, "{\"answer\":", 10) == 0;
-        if (!is_event || process >= m->processes)
-            continue;
-        m->overlap += is_call ? m->open : 0;
-        m->calls += is_call;
-        m->open = is_call ? m->open + 1 : m->open - 1;
-        m->with[process] = is_call ? m->calls : 0;
+        if (is_event)
+            potzendai_meet_event(m, is_call, process);
     }
 }
 
@@ -76,34 +86,45 @@ static inline void potzendai_follow_progress(struct potzendai_following *f)
     potzendai_progress(f->tester);
 }
 
-/* Makes room for so many more bytes of the stream: false if they are too many to be kept, or if memory is refused. */
-static inline bool potzendai_grow_kept(struct potzendai_following *f, size_t length)
+/* Makes room for so many more bytes of a block that is twice as large each time: NULL if memory is refused. */
+static inline void *potzendai_grow(void *block, size_t *room, size_t needed)
 {
-    size_t room = f->kept_room ? f->kept_room : (size_t)POTZENDAI_KEPT_FIRST;
-    f->is_long = length > (size_t)POTZENDAI_KEPT - f->kept_length;
-    while (!f->is_long && room < f->kept_length + length)
-        room *= 2;
-    if (f->is_long || room == f->kept_room)
-        return !f->is_long;
-    char *kept = (char *)realloc(f->kept, room);
-    if (!kept)
-        return false;
-    f->kept = kept;
-    f->kept_room = room;
-    return true;
+    size_t wanted = *room ? *room : (size_t)POTZENDAI_KEPT_FIRST;
+    while (wanted < needed)
+        wanted *= 2;
+    void *grown = wanted == *room ? block : realloc(block, wanted);
+    *room = grown ? wanted : *room;
+    return grown;
 }
 
-/* Keeps lines of the stream for a file. If there is no room, drops all that was kept; the stream is still followed. */
+/* Drops all lines that are kept: they are too many, or memory for them was refused. The stream is still followed. */
+static inline void potzendai_drop_kept(struct potzendai_following *f)
+{
+    free(f->kept);
+    free(f->events);
+    f->kept = NULL;
+    f->events = NULL;
+    f->is_unkept = true;
+}
+
+/* Whether so many more bytes of lines may be kept. */
+static inline bool potzendai_may_keep(struct potzendai_following *f, size_t length)
+{
+    f->is_long = f->is_long || length > (size_t)POTZENDAI_KEPT - f->kept_length - f->events_length;
+    return !f->is_unkept && !f->is_long;
+}
+
+/* Keeps lines of the stream for a file. If there is no room, drops all that was kept. */
 static inline void potzendai_keep_lines(struct potzendai_following *f, const char *text, size_t length)
 {
     if (f->is_unkept)
         return;
-    if (!potzendai_grow_kept(f, length)) {
-        free(f->kept);
-        f->kept = NULL;
-        f->is_unkept = true;
+    char *kept = potzendai_may_keep(f, length) ? (char *)potzendai_grow(f->kept, &f->kept_room, f->kept_length + length) : NULL;
+    if (!kept) {
+        potzendai_drop_kept(f);
         return;
     }
+    f->kept = kept;
     memcpy(f->kept + f->kept_length, text, length);
     f->kept_length += length;
 }
@@ -118,6 +139,117 @@ static inline int potzendai_take_lines(void *to, const char *text, size_t length
     potzendai_follow_progress(f);
     return status == POTZENDAI_IS_YES ? 0 : -1;
 }
+
+#ifndef POTZENDAI_NO_LIBRARY
+/* Events are kept as the words of `recording_event` that they need, after one with the kind, the note, the process and the number of pairs; then come
+ * the pairs. A line is written of them only if it is shown or saved. */
+
+/* How many of its words an event needs: a call with a note needs all. */
+static inline size_t potzendai_words_needed(const struct recording_event *event)
+{
+    if (event->kind < RECORDING_NONE)
+        return event->note ? 3 : (size_t)recording_call_words[event->kind];
+    return event->kind == RECORDING_VALUE;
+}
+
+static inline size_t potzendai_pairs_listed(const struct recording_event *event)
+{
+    return event->kind == RECORDING_LIST ? (size_t)event->words[1] : 0;
+}
+
+/* How long the line of an event is, with its line feed. A note is rare: its line is written for that. */
+static inline size_t potzendai_line_length(const struct recording_event *event, const struct recording_pair *pairs)
+{
+    static const size_t plain[] = {32, 36, 35, 34, 38, 28, 24, 26, 33, 30, 31, 31}; /* with one digit of the process, without the words */
+    char line[RECORDING_EVENT_TEXT];
+    if (event->note)
+        return (size_t)(recording_put_event(line, event, pairs) - line) + 1;
+    size_t length = plain[event->kind];
+    for (size_t i = 0, count = potzendai_words_needed(event); i < count; i++)
+        length += recording_digits(event->words[i]);
+    for (size_t i = 0, count = potzendai_pairs_listed(event); i < count; i++)
+        length += (i > 0) + 3 + recording_digits(pairs[i].key) + recording_digits(pairs[i].value);
+    return length + recording_digits(event->process) - 1;
+}
+
+/* Keeps an event of the stream for a file. If there is no room, drops all that was kept. */
+static inline void potzendai_keep_event(struct potzendai_following *f, const struct recording_event *event, const struct recording_pair *pairs)
+{
+    if (f->is_unkept)
+        return;
+    size_t words = potzendai_words_needed(event), listed = potzendai_pairs_listed(event), length = potzendai_line_length(event, pairs);
+    size_t used = f->events_used + (1 + words + 2 * listed) * sizeof *f->events;
+    uint64_t *events = potzendai_may_keep(f, length) ? (uint64_t *)potzendai_grow(f->events, &f->events_room, used) : NULL;
+    if (!events) {
+        potzendai_drop_kept(f);
+        return;
+    }
+    uint64_t *to = events + f->events_used / sizeof *events;
+    *to++ = (uint64_t)event->kind | (uint64_t)event->note << 8 | (uint64_t)event->process << 16 | (uint64_t)listed << 32;
+    memcpy(to, event->words, words * sizeof *to);
+    if (listed)
+        memcpy(to + words, pairs, listed * sizeof *pairs);
+    f->events = events;
+    f->events_used = used;
+    f->events_length += length;
+}
+
+/* Writes the lines of the events that are kept after those that are written. */
+static inline void potzendai_write_kept(struct potzendai_following *f)
+{
+    if (f->is_unkept || f->events_length == 0)
+        return;
+    char *kept = (char *)potzendai_grow(f->kept, &f->kept_room, f->kept_length + f->events_length), *to;
+    if (!kept) {
+        potzendai_drop_kept(f);
+        return;
+    }
+    to = kept + f->kept_length;
+    for (const uint64_t *from = f->events, *end = from + f->events_used / sizeof *from; from < end;) {
+        struct recording_event event;
+        memset(&event, 0, sizeof event);
+        event.kind = (enum recording_kind)(*from & 255);
+        event.note = (enum recording_note)(*from >> 8 & 255);
+        event.process = (unsigned)(*from >> 16 & 65535);
+        size_t listed = (size_t)(*from++ >> 32), words = potzendai_words_needed(&event);
+        memcpy(event.words, from, words * sizeof *from);
+        event.words[1] = event.kind == RECORDING_LIST ? listed : event.words[1];
+        to = recording_put_event(to, &event, (const struct recording_pair *)(const void *)(from + words));
+        *to++ = '\n';
+        from += words + 2 * listed;
+    }
+    f->kept = kept;
+    f->kept_length += f->events_length;
+    f->events_used = f->events_length = 0;
+}
+
+/* Hands an event to the library by its values, and returns the status of the stream. */
+static inline uint32_t potzendai_follow_values(struct potzendai_follower *follower, const struct recording_event *e, const struct recording_pair *pairs)
+{
+    static const uint32_t kinds[] = {
+        POTZENDAI_INVOKE_GET, POTZENDAI_INVOKE_INSERT, POTZENDAI_INVOKE_REMOVE, POTZENDAI_INVOKE_SCAN, POTZENDAI_INVOKE_REPLACE,
+        POTZENDAI_ANSWER_NONE, POTZENDAI_ANSWER_VALUE, POTZENDAI_ANSWER_PAIRS, POTZENDAI_ANSWER_REFUSED, POTZENDAI_ANSWER_DONE,
+        POTZENDAI_ANSWER_FOUND, POTZENDAI_ANSWER_OTHER
+    };
+    uint32_t kind = kinds[e->kind];
+    if (e->kind < RECORDING_NONE)
+        return potzendai_follow_invoke(follower, e->process, kind, e->words[0], e->words[1], e->words[2]);
+    return potzendai_follow_answer(follower, e->process, kind, e->words[0], (const struct potzendai_pair *)(const void *)pairs,
+                                   potzendai_pairs_listed(e));
+}
+
+/* Takes an event: 0 as long as the verdict may be yes. */
+static inline int potzendai_take_event(void *to, const struct recording_event *event, const struct recording_pair *pairs)
+{
+    struct potzendai_following *f = (struct potzendai_following *)to;
+    uint32_t status = potzendai_follow_values(&f->follower, event, pairs);
+    potzendai_keep_event(f, event, pairs);
+    potzendai_meet_event(&f->meetings, event->kind < RECORDING_NONE, event->process);
+    if (++f->taken % 1024 == 0)
+        potzendai_follow_progress(f);
+    return status == POTZENDAI_IS_YES ? 0 : -1;
+}
+#endif
 
 /* The verdict on the stream, with its whole report. */
 static inline enum potzendai_status potzendai_stream_verdict(struct potzendai_following *f)
@@ -247,6 +379,9 @@ static inline void potzendai_tell_left(struct potzendai_following *f, const char
  * stream so far, unless it is long. Saves the report if not all of it is shown, or if nothing else is saved. */
 static inline void potzendai_tell_stream(struct potzendai_following *f)
 {
+#ifndef POTZENDAI_NO_LIBRARY
+    potzendai_write_kept(f);
+#endif
     const char *left = potzendai_next_line(f->told.report);
     bool is_whole = potzendai_tell_lost(stderr, f->told.report, (size_t)POTZENDAI_SHOWN);
     if (left)
@@ -300,6 +435,9 @@ static inline void *potzendai_write_stream(void *own)
     int status = 0;
     if (!potzendai_is_unjudged(f->tester->options)) {
         streaming_hand(&f->stream, potzendai_take_lines, f);
+#ifndef POTZENDAI_NO_LIBRARY
+        streaming_hand_events(&f->stream, potzendai_take_event);
+#endif
         if (potzendai_follow_open(&f->follower, (uint32_t)f->tester->options->budget))
             potzendai_fail(f->tester->run, POTZENDAI_NO_MEMORY, "memory: no follower");
         f->written = streaming_write(&f->stream);
@@ -399,6 +537,7 @@ static inline int potzendai_stream(struct potzendai_tester *tester)
     if (f->file && fclose(f->file) && status == 0)
         status = potzendai_fail(tester->run, POTZENDAI_BAD_FILE, "the stream was not written");
     free(f->kept);
+    free(f->events);
     free(f->meetings.with);
     free(f);
     return status;

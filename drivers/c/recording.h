@@ -301,6 +301,15 @@ static inline char *recording_put_number(char *to, uint64_t number)
     return to;
 }
 
+/* How many digits a number has. */
+static inline size_t recording_digits(uint64_t number)
+{
+    size_t count = 1;
+    for (; number >= 10000; number /= 10000)
+        count += 4;
+    return count + (number >= 10) + (number >= 100) + (number >= 1000);
+}
+
 static inline char *recording_put_pairs(char *to, const struct recording_pair *pairs, size_t count)
 {
     *to++ = '[';
@@ -342,15 +351,17 @@ static inline char *recording_put_note(char *to, const struct recording_event *e
     return recording_put(to, "\"");
 }
 
+/* How many words a call of each kind has. */
+static const int recording_call_words[] = {1, 2, 1, 2, 3};
+
 /* `pairs` are those of a list. */
 static inline char *recording_put_event(char *to, const struct recording_event *e, const struct recording_pair *pairs)
 {
     static const char *const calls[] = {"get", "insert", "remove", "scan", "replace"};
     static const char *const answers[] = {"null", "", "", "\"refused\"", "\"done\"", "\"found\"", "\"other\""};
-    static const int words[] = {1, 2, 1, 2, 3};
     if (e->kind < RECORDING_NONE) {
         to = recording_put(recording_put(recording_put(to, "{\"invoke\":[\""), calls[e->kind]), "\"");
-        for (int i = 0; i < words[e->kind]; i++) {
+        for (int i = 0; i < recording_call_words[e->kind]; i++) {
             *to++ = ',';
             to = recording_put_number(to, e->words[i]);
         }

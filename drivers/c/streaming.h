@@ -81,6 +81,7 @@ struct streaming {
     char *text;
     int descriptor;
     int (*hand)(void *to, const char *text, size_t length);
+    int (*take)(void *to, const struct recording_event *event, const struct recording_pair *pairs);
     void *to;
 };
 
@@ -115,6 +116,7 @@ static inline int streaming_open(struct streaming *s, unsigned processes, size_t
     s->version = 2;
     s->descriptor = descriptor;
     s->hand = NULL;
+    s->take = NULL;
     s->to = NULL;
     s->slots = (struct streaming_slot *)calloc(slots, sizeof *s->slots);
     s->processes = (struct streaming_process *)calloc(processes, sizeof *s->processes);
@@ -164,6 +166,15 @@ static inline void streaming_hand(struct streaming *s, int (*hand)(void *to, con
 {
     s->hand = hand;
     s->to = to;
+}
+
+/* Passes each event to a function, and only the first line to the one of streaming_hand, which gets the same `to`. No other line is written.
+ * `pairs` are those of a list, for the time of the call. If the function returns other than 0, that counts as a write that fails. Call this
+ * after streaming_hand. */
+static inline void streaming_hand_events(struct streaming *s, int (*take)(void *to, const struct recording_event *event,
+                                                                          const struct recording_pair *pairs))
+{
+    s->take = take;
 }
 
 /* Lets other threads run: mostly by a yield, sometimes by a sleep of a millisecond. */
@@ -362,21 +373,29 @@ static inline int streaming_flush(struct streaming *s)
     return 0;
 }
 
-/* Adds the event of a slot to the lines that wait, and frees the slot and the room of its list. */
-static inline void streaming_take(struct streaming *s, struct streaming_slot *slot)
+/* Adds an event to the lines that wait, or passes it on. */
+static inline int streaming_add(struct streaming *s, const struct recording_event *event, const struct recording_pair *pairs)
+{
+    if (s->take)
+        return s->take(s->to, event, pairs);
+    char *end = recording_put_event(s->text + s->length, event, pairs);
+    *end++ = '\n';
+    s->length = (size_t)(end - s->text);
+    return 0;
+}
+
+/* Takes the event of a slot, and frees the slot and the room of its list. */
+static inline int streaming_take(struct streaming *s, struct streaming_slot *slot)
 {
     const struct recording_event *event = &slot->event;
     struct streaming_process *own = &s->processes[event->process];
     bool has_pairs = event->kind == RECORDING_LIST && event->words[1] > 0;
-    if (!slot->is_left_out) {
-        const struct recording_pair *pairs = has_pairs ? own->pairs + event->words[0] % (2 * s->pairs_each) : NULL;
-        char *end = recording_put_event(s->text + s->length, event, pairs);
-        *end++ = '\n';
-        s->length = (size_t)(end - s->text);
-    }
+    const struct recording_pair *pairs = has_pairs ? own->pairs + event->words[0] % (2 * s->pairs_each) : NULL;
+    int status = slot->is_left_out ? 0 : streaming_add(s, event, pairs);
     if (has_pairs)
         atomic_store(&own->pairs_written, event->words[0] + event->words[1]);
     atomic_store(&slot->turn, event->stamp + s->slots_held);
+    return status;
 }
 
 /* Writes the first line, and then line after line until the stream ends. */
@@ -385,12 +404,15 @@ static inline int streaming_write_lines(struct streaming *s)
     char *end = recording_put_pairs(recording_put(s->text, "{\"start\":"), s->start, s->pairs_at_start);
     end = recording_put_number(recording_put(end, ",\"version\":"), s->version);
     s->length = (size_t)(recording_put(end, "}\n") - s->text);
+    if (s->take && streaming_flush(s))
+        return -1;
     uint64_t next = 0;
     for (unsigned times = 0;;) {
         bool is_ended = atomic_load(&s->is_ended);
         struct streaming_slot *slot = &s->slots[next % s->slots_held];
         if (atomic_load(&slot->turn) == next + 1) {
-            streaming_take(s, slot);
+            if (streaming_take(s, slot))
+                return -1;
             next++;
             times = 0;
             if (s->length >= STREAMING_BATCH && streaming_flush(s))

@@ -1562,8 +1562,8 @@ def words_of(argv):
         words.add_argument(name, type=kind, default=usual, help=what, metavar=NAMED.get(name, "N"),
                            dest=name[2:] + "s" * (name == "--yield"))
     words.add_argument("--void", choices=("done", "told", "own", "lock"), help="done: a put or del may answer done; told: it must say the value "
-                       "before; own: one writer for each key remembers what it put; lock: a lock for each key around a get and the put after it "
-                       "(done)")
+                       "before. With own, one writer for each key remembers what it put. With lock, a lock for each key is around a get and the "
+                       "put after it (done)")
     words.add_argument("--scan", choices=("snapshot", "steps"), default="snapshot",
                        help="snapshot: a scan is of one moment; steps: steps of ceiling (snapshot)")
     words.add_argument("--cache", nargs="?", const=True, type=late, metavar="late", help="the map is a cache, which may lose any key at any "

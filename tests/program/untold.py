@@ -99,9 +99,9 @@ SCAN_BEHIND_OVERLAPS = (
 DEAD_PUT = '{"invoke":["insert",5,99],"process":9},' + "".join(
     f'{{"invoke":["insert",5,{value}],"process":0}},{{"answer":"done","process":0}},' for value in range(1, 65)
 )
-# The same among fifteen others: then the part moves on for the first time. The last of them puts the same value.
-DEAD_PUT_OF_THE_LAST_VALUE = '{"invoke":["insert",5,15],"process":9},' + "".join(
-    f'{{"invoke":["insert",5,{value}],"process":0}},{{"answer":"done","process":0}},' for value in range(1, 16)
+# The same among 39 others: then the part moves on for the first time. The last of them puts the same value.
+DEAD_PUT_OF_THE_LAST_VALUE = '{"invoke":["insert",5,39],"process":9},' + "".join(
+    f'{{"invoke":["insert",5,{value}],"process":0}},{{"answer":"done","process":0}},' for value in range(1, 40)
 )
 
 # A put that was read, so that it took effect before sixty-three others answered done, and found nothing. Then it is answered.
@@ -224,7 +224,7 @@ def rows():
         yield ["follow"], text, 1, report_of(0, 129, [(5, [], [], [])]) + "\n", ""
     # The put that is not answered is left in one past. In others it put the value.
     text = stream(DEAD_PUT_OF_THE_LAST_VALUE + '{"invoke":["get",5],"process":0},{"answer":3,"process":0}', "")
-    yield ["follow"], text, 1, report_of(16, 32, [(5, [0, 31], [15, 15], [29, 0])]) + "\n", ""
+    yield ["follow"], text, 1, report_of(40, 80, [(5, [0, 79], [39, 39], [77, 0])]) + "\n", ""
 
 
 def putter(events, key, value):

@@ -356,9 +356,10 @@ LOCATIONS = [
     (INSERT_THEN_GET, 1, WELL),
     (ONE_INSERT, 1, WELL),
     (gets(MOST_CALLS), 1, WELL),
-    # The get that is answered cannot come first. So a search meets one configuration before any call is taken, and a second one after an insert.
-    (GET_SEES_THE_THIRD_OF_FIVE_OPEN_INSERTS, 1, '{"call":5,"event":6,"reason":"budget","verdict":"undecided"}'),
-    (GETS_SEE_AN_OPEN_INSERT_AGAIN, 1, '{"call":3,"event":4,"reason":"budget","verdict":"undecided"}'),
+    # The get that is answered cannot come first: it comes after the insert that put what it found. This order is guessed, so nothing is searched.
+    (GET_SEES_THE_THIRD_OF_FIVE_OPEN_INSERTS, 1, WELL),
+    # No order can be guessed, since there is none. A search meets one configuration before any call is taken, and a second one after an insert.
+    (GETS_SEE_AN_OPEN_INSERT_AGAIN, 1, '{"call":5,"event":8,"reason":"budget","verdict":"undecided"}'),
     (GETS_SEE_AN_OPEN_INSERT_AGAIN, 4, '{"call":5,"event":8,"reason":"budget","verdict":"undecided"}'),
     (GETS_SEE_AN_OPEN_INSERT_AGAIN, 1000, '{"call":5,"event":8,"verdict":"no"}'),
 ]
@@ -378,6 +379,9 @@ OPTIONS = [
     ("locate", NO_EVENTS, WELL),
     ("locate --budget 1000000", LATER_GET_MISSES_WHAT_WAS_SEEN, '{"call":2,"event":4,"verdict":"no"}'),
     ("locate --budget=1", GET_MISSES_ANSWERED_INSERT, '{"call":1,"event":3,"verdict":"no"}'),
+    ("locate --order", NO_EVENTS, '{"order":[],"verdict":"yes"}'),
+    ("locate --order --budget 1000", GET_MISSES_ANSWERED_INSERT, '{"call":1,"event":3,"order":[0],"verdict":"no"}'),
+    ("locate --budget 1000 --order", GET_MISSES_ANSWERED_INSERT, '{"call":1,"event":3,"order":[0],"verdict":"no"}'),
 ]
 
 # The value 5 is overwritten, and read again after others.
@@ -647,8 +651,8 @@ LOST = [
         '{"invoke":["insert",5,4],"process":3},{"invoke":["insert",5,5],"process":4},{"answer":null,"process":0},'
         '{"answer":null,"process":1}],"version":1}',
     ),
-    # At a budget that is too small for all its answers, and at one that is too small for the last one.
-    (GETS_SEE_AN_OPEN_INSERT_AGAIN, 1, report_of(3, 4, [(5, [0, 1, 2, 3], [None], [None])], "budget"), None),
+    # At budgets that are too small for the last answer. The orders before it are guessed.
+    (GETS_SEE_AN_OPEN_INSERT_AGAIN, 1, report_of(5, 8, [(5, [0, 1, 2, 3, 5, 7], [None], [None])], "budget"), None),
     (GETS_SEE_AN_OPEN_INSERT_AGAIN, 4, report_of(5, 8, [(5, [0, 1, 2, 3, 5, 7], [None], [None])], "budget"), None),
     (
         INSERT_HOLDS_A_REMOVE, 1000, report_of(3, 7, [(1, [2, 3, 5], [5], [0])]),
@@ -682,21 +686,19 @@ LOST = [
         '{"answer":null,"process":0},{"answer":[[1,10]],"process":2},{"invoke":["get",2],"process":2},{"answer":20,"process":2},'
         '{"invoke":["get",2],"process":2},{"answer":null,"process":2}],"version":1}',
     ),
-    # The part moves on once 16 calls are left: the insert of the dead process, which no later insert has found, and 15 others. So it does after each
-    # 15 inserts, the last time after 60 of the 64.
+    # The part moves on once 40 calls are left: the insert of the dead process, which no later insert has found, and 39 others. 25 come after these.
     (
-        dead_writer(64, 64, None) + get_of_five(5), 1000, report_of(65, 130, [(5, [0, 121, 123, 125, 127, 129], [60], [119])]),
-        '{"events":[{"invoke":["insert",5,64],"process":0},{"invoke":["insert",5,61],"process":1},{"answer":60,"process":1},'
-        '{"invoke":["insert",5,62],"process":1},{"answer":61,"process":1},{"invoke":["insert",5,63],"process":1},{"answer":62,"process":1},'
-        '{"invoke":["insert",5,64],"process":1},{"answer":63,"process":1},{"invoke":["get",5],"process":1},{"answer":5,"process":1}],'
-        '"start":[[5,60]],"version":2}',
+        dead_writer(64, 64, None) + get_of_five(5), 1000, report_of(65, 130, [(5, [0, *range(79, 130, 2)], [39], [77])]),
+        '{"events":[{"invoke":["insert",5,64],"process":0},'
+        + "".join(f'{{"invoke":["insert",5,{value}],"process":1}},{{"answer":{value - 1},"process":1}},' for value in range(40, 65))
+        + '{"invoke":["get",5],"process":1},{"answer":5,"process":1}],"start":[[5,39]],"version":2}',
     ),
-    # It has come for sure, between the first and the second insert: so it is not in the small history. The first time it is one of the 16 calls, and
-    # then 16 others are left each time: the part moves on after 15, 31, 47 and 63 inserts.
+    # It has come for sure, between the first and the second insert: so it is not in the small history.
     (
-        dead_writer(99, 64, 99) + get_of_five(5), 1000, report_of(65, 130, [(5, [127, 129], [63], [125])]),
-        '{"events":[{"invoke":["insert",5,64],"process":0},{"answer":63,"process":0},{"invoke":["get",5],"process":0},'
-        '{"answer":5,"process":0}],"start":[[5,63]],"version":2}',
+        dead_writer(99, 64, 99) + get_of_five(5), 1000, report_of(65, 130, [(5, [*range(79, 130, 2)], [39], [77])]),
+        '{"events":['
+        + "".join(f'{{"invoke":["insert",5,{value}],"process":0}},{{"answer":{value - 1},"process":0}},' for value in range(40, 65))
+        + '{"invoke":["get",5],"process":0},{"answer":5,"process":0}],"start":[[5,39]],"version":2}',
     ),
     # It is answered after all, and not by what it found: no past is left.
     (dead_writer(99, 64, 99) + ',{"answer":7,"process":9}', 1000, report_of(0, 129, [(5, [], [], [])]), None),
@@ -894,6 +896,27 @@ def rows():
         yield ["follow"], text, status, output, faults
 
 
+def ordered(text, budget, line):
+    """What is wrong with what `locate --order` prints of a text, of which `locate` prints this line. It is that line, and after a no or a yes an order
+    of the events before the one that it names, or of all. If `judge` has an order of these, it is that one. Else there is one of which `check`
+    says so, or none."""
+    words, wanted, recorded = ["--budget", str(budget)], json.loads(line), json.loads(text)
+    status, output, told = answer(["locate", "--order", *words], text)
+    order = json.loads(output).get("order")
+    exact = wanted if order is None else {**wanted, "order": order}
+    if output.decode() != json.dumps(exact, sort_keys=True, separators=(",", ":")) + "\n" or status != status_of(line) or told:
+        return f"{output[:200]}, and wanted is {line} with an order"
+    before = json.dumps({**recorded, "events": recorded["events"][:wanted.get("event")]})
+    judged = json.loads(answer(["judge", *words], before)[1])
+    if judged["verdict"] == "no" or order is not None and wanted["verdict"] == "undecided":
+        return f"{output[:200]}, and judge says {judged} of the events before"
+    if "order" in judged and order != judged["order"] and wanted["verdict"] != "undecided":
+        return f"{output[:200]}, and judge has the order {judged['order'][:50]}"
+    if order is not None and answer(["check", *map(str, order)], before) != (0, b"ok\n", b""):
+        return f"{output[:200]} has no order of the events before"
+    return None
+
+
 def by_each_part(events):
     """What is wrong with where a history goes wrong, which a verdict on each first part of it finds too."""
     listed = json.loads(f"[{events}]")
@@ -998,6 +1021,7 @@ def explained(events, budget, wanted, outside, missed):
 
 def main():
     others = [functools.partial(by_each_part, events) for events in dict.fromkeys(events for events, *_ in LOCATIONS) if events != gets(MOST_CALLS)]
+    others += [functools.partial(ordered, *row) for row in located()]
     others += [functools.partial(explained, *row) for row in EXPLANATIONS]
     others += [functools.partial(hot_keys, *row) for row in HOT_KEYS]
     return compare(rows(), others)

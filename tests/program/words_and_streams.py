@@ -65,6 +65,9 @@ FAULTS = [
     ("locate --budget 0", "error: invalid value '0' for '--budget <N>'"),
     ("locate --budget 1000001", "error: invalid value '1000001' for '--budget <N>'"),
     ("locate --workers 2", "error: unexpected argument '--workers' found"),
+    ("locate --order 1", "error: unexpected argument '1' found"),
+    ("locate --order --order", "error: the argument '--order' cannot be used multiple times"),
+    ("judge --order", "error: unexpected argument '--order' found"),
     ("draw --workers 0", "error: invalid value '0' for '--workers <N>'"),
     ("draw --workers 65", "error: invalid value '65' for '--workers <N>'"),
     ("draw --around 8193", "error: invalid value '8193' for '--around <N>'"),
@@ -152,6 +155,18 @@ Options:
 """
 
 
+# And on `locate`, which has an option without a value.
+LOCATE_HELP = """Reports the response at which a history stops being linearizable
+
+Usage: bench locate [OPTIONS]
+
+Options:
+      --budget <N>  Most states of one search, from 1 to 1000000 [default: 100000]
+      --order       Also prints an order of the operations before that response
+  -h, --help        Print help
+"""
+
+
 def refused_words():
     """Arguments that ask for nothing that can be done, or for help, each with a name and what has to be printed."""
     yield "a word that is no text", [b"check", b"\xff"], re.escape(b"error: a word is no text\n")
@@ -162,6 +177,7 @@ def refused_words():
         ends = re.escape(POINTER.encode()) if begins.startswith("error") else rb"\n"
         yield words or "no words", words.split(), re.escape(begins.encode()) + between + ends
     yield "help on judge", ["judge", "--help"], re.escape(JUDGE_HELP.encode())
+    yield "help on locate", ["locate", "--help"], re.escape(LOCATE_HELP.encode())
 
 
 def run(words, source, output=subprocess.PIPE, error=subprocess.PIPE, before=None):

@@ -51,7 +51,7 @@ min_sum a b limit = elim (cases_lt limit a) [
   | inr le ↦ ap (λ (x : ℕ). min (x + b) limit) (min-eq_left (let this : a ≤ limit = omega arith in this))
 ]
 
--- the counts of 64 bits, behind an invocation
+-- the counts of 64 bits, after an invocation
 pub pending-room : (events : List Event) (p : ℕ) (call : Call) (pending : ℕ) → length events < 2 ^ 64 - 1
     → pending ≡ pending_after 0 events
     → min (pending + 1) (2 ^ 64 - 1) ≡ pending_after 0 (events ++ Invoke p call ∷ [])
@@ -78,7 +78,7 @@ pending-kept events p reply pending is = ap (λ (n : ℕ). n - 1) is ∙ sym (pe
 
 -- ---- the first events, with the next one
 
--- how many calls are open behind the first events, and were at their invocations
+-- how many calls are open after the first events, and were at their invocations
 abbrev pub IsCounted : List Event → ℕ → ℕ → ℕ → Type 0
 IsCounted events place pending overlap = (pending ≡ pending_after 0 (take place events)) × (overlap ≡ overlap_of (take place events))
 

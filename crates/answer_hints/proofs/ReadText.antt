@@ -35,7 +35,7 @@ module _ (IsAnswer : List ℕ → Answer → List ℕ → List ℕ → Type 0) (
       → IsHintedOutcome IsAnswer IsRefusal (Some read) outcome → IsHintedRead IsAnswer IsRefusal source outcome
   IsHintedRead-read source read outcome is sound h = inr (sound, told_of source.old.bytes read outcome is h)
 
-  -- so is the outcome of a run that is made of what it read
+  -- an outcome that is made of what a run read is one of the run
   pub IsRun-hinted : {Makes : List ℕ → RunOutcome → Type 0} {source output faults hints : Change} {status : ℕ}
       → IsTextRun Makes limit source output faults hints status
       → ((text : List ℕ) (outcome : RunOutcome) → Makes text outcome → IsHintedOutcome IsAnswer IsRefusal (Some text) outcome)

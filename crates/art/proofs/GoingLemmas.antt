@@ -33,7 +33,7 @@ use Rattle.art.specs.declared.task.Going.TheVariants.{OnKey as KeyIs, OnScan as 
 use Rattle.art.specs.declared.key_call.KeyCall.{KeyCall}
 use Rattle.art.specs.Going.{at_of, keys_between, scanned_in, WordsLeadTo}
 
--- the call by what it scans
+-- Whether a call is a scan, and of which keys.
 
 pub no_scan : (call : Call) → keys_between call ≡ None → is_scan call ≡ false
 no_scan (Get k) e = refl

@@ -1,2 +1,3 @@
+mod KeyWordLemmas
 mod GoingLemmas
 pub mod DoingLemmas

@@ -1,12 +1,12 @@
 // A call on a key as it goes on.
 ghost use Rattle.std.specs.Prelude.{◌≡◌, true};
 ghost use Rattle.art_stages.specs.Stages.{reply_for};
-ghost use Rattle.art_setting.specs.Sound.{is_sound};
+ghost use Rattle.art_stages.specs.Sound.{is_sound};
 
-use art_access::{access_at, point_at};
+use crate::asked::access_at;
+use crate::points::point_at;
 use art_after::make_stage;
-use art_setting::Setting;
-use art_stages::{Outcome, Stage};
+use art_stages::{Outcome, Setting, Stage};
 use art_steps::{Access, Point};
 use events::Reply;
 
@@ -23,7 +23,7 @@ impl KeyCall {
     ghost use Rattle.art_steps.specs.Steps.{access_of, reply_of};
     ghost use Rattle.art_steps.specs.Act.{point_of};
     ghost use Rattle.art_stages.specs.Automaton.{start_at, turn_at, stage_after as stage_behind};
-    ghost use Rattle.art_setting.specs.Settings.{setting_of};
+    ghost use Rattle.art_stages.specs.Settings.{setting_of};
 
     /// A call that has made no access yet.
     pub fn begin(setting: &Setting) -> KeyCall
@@ -42,14 +42,14 @@ impl KeyCall {
         access_at(setting, &self.stage)
     }
 
-    /// The point of the next access; `Answer` where the reply is known.
+    /// The point of the next access; `Answer` if the reply is known.
     pub fn point(&self, setting: &Setting) -> Option<Point>
         ensures { result ≡ point_of (turn_at (setting_of setting.now) self.now.stage) }
     {
         point_at(setting, &self.stage)
     }
 
-    /// The access got this; the reply, once it is known.
+    /// Takes what the access got, and returns the reply once it is known.
     pub fn take(&mut self, setting: &Setting, got: u64) -> Option<Reply>
         requires asks { reply_of (turn_at (setting_of setting.now) self.old.stage) ≡ None }
         ensures next { self.new.stage ≡ stage_behind (setting_of setting.now) self.old.stage got }

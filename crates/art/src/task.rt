@@ -3,18 +3,18 @@ ghost use Rattle.std.specs.Prelude.{◌≡◌, ℕ, ◌<◌, false, List, [], �
 ghost use Rattle.art_steps.specs.Act.{act};
 ghost use Rattle.art_steps.specs.Steps.{access_of, reply_of};
 ghost use Rattle.art_stages.specs.Calls.{rest_at, call_begun};
-ghost use Rattle.art_setting.specs.Settings.{setting_of as call_setting};
+ghost use Rattle.art_stages.specs.Settings.{setting_of as call_setting};
 ghost use Rattle.art.specs.Going.{at_of, keys_between, scanned_in, WordsLeadTo};
 
 use crate::key_call::KeyCall;
 use art_rows::Shape;
 use art_scan::Scanning;
-use art_setting::Setting;
+use art_stages::Setting;
 use art_steps::{Access, Point, TreeCall, Variant};
 use events::{Call, Memory, Reply};
 use std::alloc::Global;
 
-/// Where a call is.
+/// The stage of a call.
 #[derive(Drop)]
 pub(crate) enum Going {
     OnKey(KeyCall),
@@ -55,7 +55,7 @@ impl Task {
         }
     }
 
-    /// Takes the room that the next access may want. Where memory is wanting the call is as it was.
+    /// Takes the room that the next access may need. If memory runs out, the call is unchanged.
     pub fn ready(&mut self, alloc: Global) -> Result<(), Memory>
         ensures shape { shape_of self.new ≡ shape_of self.old }
         ensures room { OnOk result (IsReady self.new) }
@@ -79,7 +79,7 @@ impl Task {
         }
     }
 
-    /// The point of the next access; `Answer` where the reply is known.
+    /// The point of the next access; `Answer` if the reply is known.
     pub fn point(&self) -> Option<Point>
         ensures { result ≡ point_of (rest_of self.now []) }
     {
@@ -89,7 +89,8 @@ impl Task {
         }
     }
 
-    /// The access got this; the reply, once it is known. A scan gives its pairs away with it.
+    /// Takes what the access got, and returns the reply once it is known. A scan gives its pairs
+    /// away with it.
     pub fn take(&mut self, got: u64) -> Option<Reply>
         requires asks { reply_of (rest_of self.old []) ≡ None }
         requires ready { IsReady self.old }
@@ -105,7 +106,7 @@ impl Task {
     }
 }
 
-/// Where a call begins.
+/// The stage at which a call begins.
 fn beginning_of(setting: &Setting) -> Going
     ensures at { at_of result ≡ call_begun (call_setting setting.now) }
     ensures keys { keys_between setting.now.call ≡ scanned_in result }

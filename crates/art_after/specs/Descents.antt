@@ -29,18 +29,18 @@ abbrev pub after_index : Setting → Position → ℕ → Stage
 after_index c p w = indexed_at (locks c.variant) (is_insert c.call) (releases_early c.variant) c p w (slice_index (entries_of w)
     (byte_in c p.row % 8))
 
--- once FIND's first word is read,
+-- the stage once FIND's first word is read
 abbrev pub after_first : Setting → Position → ℕ → Stage
 after_first c p w = find_at (locks c.variant) (is_insert c.call) (releases_early c.variant) p.row.kind c p w
 
--- once the row below is locked or waited for, and has this version,
+-- the stage once the row below is locked or waited for, and has this version
 abbrev pub after_arrival : Setting → Down → ℕ → Stage
 after_arrival c d v = arrived_at (locks c.variant) (is_insert c.call) (releases_early c.variant) c d v
 
--- the same of any row,
+-- the stage once the row of a target is locked or waited for, and has this version
 abbrev pub after_entry : Setting → Target → ℕ → Stage
 after_entry c t v = entered_at (locks c.variant) (is_insert c.call) (releases_early c.variant) c t v
 
--- and once the info of the row below is read
+-- the stage once the info of the row below is read
 abbrev pub after_info : Setting → Down → Held → Stage
 after_info c d m = below_at (locks c.variant) (is_insert c.call) c d m (path_differs_at c (row_at m))

@@ -11,8 +11,8 @@ ghost use Rattle.art_stages.specs.declared.stage.Stage.TheVariants.{CheckLast};
 ghost use Rattle.art_stages.specs.declared.stage.Stage.TheVariants.{Take, PutLoad, PutKeys, PutCount, GrowLoad, SpreadLoad, Obsolete};
 ghost use Rattle.art_stages.specs.declared.stage.Target.TheVariants.{Below};
 ghost use Rattle.art_stages.specs.declared.stage.Outcome.TheVariants.{Value, Refused};
-ghost use Rattle.art_setting.specs.Sound.{is_sound, is_sound_target, is_sound_finding, is_sound_work, has_keys};
-ghost use Rattle.art_setting.specs.Settings.{setting_of};
+ghost use Rattle.art_stages.specs.Sound.{is_sound, is_sound_target, is_sound_finding, is_sound_work, has_keys};
+ghost use Rattle.art_stages.specs.Settings.{setting_of};
 
 use crate::found::{
     find_checked, find_done, first_loaded, info_loaded, keys_loaded, over, row_entered,
@@ -20,13 +20,12 @@ use crate::found::{
 use crate::grown::{copy_on, entries, fill, keys_stored, leaf_stored, spread_on};
 use crate::works::{moves, release, row_taken};
 use art_rows::{Kind, child_word, row_word, version_is_locked, version_is_obsolete};
-use art_setting::{Setting, next_kind};
 use art_stages::{
-    Down, Finding, Growing, Held, Hold, Keys, Outcome, Pair, PairWord, Position, Spread, Stage,
-    Taking, Target,
+    Down, Finding, Growing, Held, Hold, Keys, Outcome, Pair, PairWord, Position, Setting, Spread,
+    Stage, Taking, Target, next_kind,
 };
 
-/// Where LOCK is after a load of the version.
+/// The stage of LOCK after a load of the version.
 fn lock_loaded(setting: &Setting, target: &Target, version: u64, stage: &mut Stage)
     requires { is_sound_target target.now ≡ true }
     ensures stage { stage.new ≡ stage_after (setting_of setting.now) (Lock target.now true) version }
@@ -45,7 +44,7 @@ fn lock_loaded(setting: &Setting, target: &Target, version: u64, stage: &mut Sta
     }
 }
 
-/// Where LOCK is after an exchange of the version.
+/// The stage of LOCK after an exchange of the version.
 fn lock_exchanged(setting: &Setting, target: &Target, version: u64, got: u64, stage: &mut Stage)
     requires { is_sound_target target.now ≡ true }
     ensures stage { stage.new ≡ stage_after (setting_of setting.now) (Exchange target.now version) got }
@@ -61,7 +60,7 @@ fn lock_exchanged(setting: &Setting, target: &Target, version: u64, got: u64, st
     }
 }
 
-/// Where WAIT is after a load of the version.
+/// The stage of WAIT after a load of the version.
 fn wait_loaded(setting: &Setting, target: &Target, version: u64, stage: &mut Stage)
     requires { is_sound_target target.now ≡ true }
     ensures stage { stage.new ≡ stage_after (setting_of setting.now) (Wait target.now) version }
@@ -87,14 +86,14 @@ fn between_passed(setting: &Setting, down: &Down, kept: u64, got: u64, stage: &m
     }
 }
 
-/// The word of a child that is moved: as it was read, or 0 where it is of no form.
+/// The word of a child that is moved: as it was read, or 0 if it is of no form.
 fn moved_word(setting: &Setting, word: u64) -> u64
     ensures { result ≡ child_word (child_of setting.now.shape word) }
 {
     child_word(setting.shape.child(word))
 }
 
-/// Where PAIR is after its claim.
+/// The stage of PAIR after its claim.
 fn pair_claimed(setting: &Setting, hold: &Hold, pair: &Pair, number: u64, stage: &mut Stage)
     requires { is_small_child pair.now.child ≡ true }
     ensures stage { stage.new ≡ stage_after (setting_of setting.now) (Claiming hold.now pair.now) number }
@@ -112,7 +111,7 @@ fn pair_claimed(setting: &Setting, hold: &Hold, pair: &Pair, number: u64, stage:
     }
 }
 
-/// Where GROW is after its claim.
+/// The stage of GROW after its claim.
 fn grow_claimed(
     setting: &Setting,
     hold: &Hold,
@@ -177,14 +176,14 @@ fn row_checked(setting: &Setting, place: &Position, finding: &Finding, got: u64,
     }
 }
 
-/// A call comes to the stage after an access that got this word.
+/// Moves a call to the stage after an access that got this word.
 pub fn make_stage(setting: &Setting, stage: &mut Stage, got: u64)
     requires sound { is_sound stage.old ≡ true }
     requires asks { reply_of (turn_at (setting_of setting.now) stage.old) ≡ None }
     ensures stage { stage.new ≡ stage_after (setting_of setting.now) stage.old got }
     ensures sound { is_sound stage.new ≡ true }
 {
-    // It is read from a copy, and the next one written where it is kept.
+    // The stage is read from a copy, and the next one is written in its place.
     let old = *stage;
     match &old {
         Stage::Lock { target, .. } => lock_loaded(setting, target, got, stage),
@@ -272,7 +271,7 @@ pub fn make_stage(setting: &Setting, stage: &mut Stage, got: u64)
     }
 }
 
-/// Where PAIR is after a store of one of the words.
+/// The stage of PAIR after a store of one of the words.
 fn pair_stored(hold: &Hold, pair: &Pair, base: u32, word: PairWord, stage: &mut Stage)
     requires { is_small_child pair.now.child ≡ true }
     ensures stage { stage.new ≡ pair_after hold.now pair.now base word }
@@ -300,7 +299,7 @@ fn pair_stored(hold: &Hold, pair: &Pair, base: u32, word: PairWord, stage: &mut 
     };
 }
 
-/// Where a refused call is, which still holds its rows.
+/// The stage of a refused call, which still holds its rows.
 fn refuse(hold: &Hold, stage: &mut Stage)
     ensures stage { stage.new ≡ UnlockAll hold.now (Some Refused) }
     ensures sound { is_sound stage.new ≡ true }
@@ -311,7 +310,8 @@ fn refuse(hold: &Hold, stage: &mut Stage)
     };
 }
 
-/// Where an insert is that has put its leaf, still holds its row and answers that the key had no value.
+/// The stage of an insert that has put its leaf, still holds its row and answers that the key had
+/// no value.
 fn put_done(hold: &Hold, stage: &mut Stage)
     ensures stage { stage.new ≡ UnlockAll hold.now (Some (Value None)) }
     ensures sound { is_sound stage.new ≡ true }
@@ -322,8 +322,8 @@ fn put_done(hold: &Hold, stage: &mut Stage)
     };
 }
 
-// Where an access leads that makes a stage of several parts. Each stands apart, since a function clears the room of all that it
-// may make when it is entered.
+// The stage after an access that makes a stage of several parts. Each case has a function of its
+// own: when a function is entered, it clears the room of all that it may make.
 
 fn row_left(down: &Down, stage: &mut Stage)
     ensures stage { stage.new ≡ Lock (Below down.now) true }

@@ -1,4 +1,4 @@
-// Where a call comes to with what it found: the way down.
+// The stages of a call after what it found on its way down.
 ghost use Rattle.std.specs.Prelude.{◌≡◌, ◌<◌, ◌%◌, true, Some, None, if◌then◌else◌, slice_index};
 ghost use Rattle.art_rows.specs.Words.{entries_of, is_small_child};
 ghost use Rattle.art_steps.specs.Rows.{locks, releases_early, is_insert, leaves_out_check, path_differs_at};
@@ -15,18 +15,20 @@ ghost use Rattle.art_stages.specs.declared.stage.Finding.TheVariants.{Has};
 ghost use Rattle.art_rows.specs.declared.table.Child.TheVariants.{Leaf};
 ghost use Rattle.art_stages.specs.declared.stage.Target.TheVariants.{Below as BelowRow};
 ghost use Rattle.art_stages.specs.declared.stage.Outcome.TheVariants.{Value};
-ghost use Rattle.art_setting.specs.Sound.{is_sound, is_sound_finding, is_sound_work, is_sound_target};
-ghost use Rattle.art_setting.specs.Settings.{setting_of};
+ghost use Rattle.art_stages.specs.Sound.{is_sound, is_sound_finding, is_sound_work, is_sound_target};
+ghost use Rattle.art_stages.specs.Settings.{setting_of};
 
 use crate::works::{begin_work, row_taken, take_above, take_alone};
 use art_rows::{
     Child, Kind, child_word, index_entry, info_level, key_byte, key_difference, path_byte,
     path_difference,
 };
-use art_setting::{Setting, child_slot, is_full, key_among};
-use art_stages::{Down, Finding, Held, Hold, Keys, Outcome, Pair, Position, Stage, Target, Work};
+use art_stages::{
+    Down, Finding, Held, Hold, Keys, Outcome, Pair, Position, Setting, Stage, Target, Work,
+    child_slot, is_full, key_among,
+};
 
-/// Where a get or remove that locks is once FIND is done.
+/// The stage of a get or remove that locks once FIND is done.
 fn seek_locked(setting: &Setting, row: Held, finding: Finding, stage: &mut Stage)
     ensures stage { stage.new ≡ seek_coupled (releases_early setting.now.variant) (setting_of setting.now) row finding }
     ensures sound { is_sound stage.new ≡ true }
@@ -54,7 +56,8 @@ fn seek_locked(setting: &Setting, row: Held, finding: Finding, stage: &mut Stage
     }
 }
 
-/// On to a row below, which is locked before the row above is unlocked, or after it.
+/// The stage of a call that goes on to a row below, which is locked before or after the row above
+/// is unlocked.
 fn leave(setting: &Setting, down: Down, stage: &mut Stage)
     ensures stage { stage.new ≡ (if releases_early setting.now.variant then Leave down else Lock (BelowRow down) true) }
     ensures sound { is_sound stage.new ≡ true }
@@ -69,7 +72,7 @@ fn leave(setting: &Setting, down: Down, stage: &mut Stage)
     }
 }
 
-/// Where a get or remove that does not lock is once FIND is done and its row is checked.
+/// The stage of a get or remove that does not lock once FIND is done and its row is checked.
 fn seek_free(setting: &Setting, row: Held, finding: Finding, stage: &mut Stage)
     ensures stage { stage.new ≡ seek_unlocked (setting_of setting.now) row finding }
     ensures sound { is_sound stage.new ≡ true }
@@ -142,7 +145,7 @@ fn pair_work(setting: &Setting, slot: usize, key: u32, value: u32) -> Work
     }
 }
 
-/// Where an insert that locks is once FIND is done and the row above is unlocked.
+/// The stage of an insert that locks once FIND is done and the row above is unlocked.
 fn insert_locked(setting: &Setting, row: Held, finding: Finding, stage: &mut Stage)
     requires { is_sound_finding finding ≡ true }
     ensures stage { stage.new ≡ insert_coupled (setting_of setting.now) row finding }
@@ -173,7 +176,7 @@ fn insert_locked(setting: &Setting, row: Held, finding: Finding, stage: &mut Sta
     }
 }
 
-/// The same before the row above is unlocked.
+/// The stage of an insert that locks once FIND is done, before the row above is unlocked.
 fn let_go(
     setting: &Setting,
     row: Held,
@@ -201,7 +204,7 @@ fn let_go(
     }
 }
 
-/// Where an insert that locks is once FIND is done.
+/// The stage of an insert that locks once FIND is done.
 fn place_locked(setting: &Setting, place: Position, finding: Finding, stage: &mut Stage)
     requires { is_sound_finding finding ≡ true }
     ensures stage { stage.new ≡ place_coupled (setting_of setting.now) place finding }
@@ -227,7 +230,7 @@ fn place_locked(setting: &Setting, place: Position, finding: Finding, stage: &mu
     }
 }
 
-/// Where an insert that does not lock is once its row is full.
+/// The stage of an insert that does not lock once its row is full.
 fn grow_free(
     setting: &Setting,
     row: Held,
@@ -246,7 +249,7 @@ fn grow_free(
     }
 }
 
-/// Where an insert that does not lock is once FIND is done and its row is checked.
+/// The stage of an insert that does not lock once FIND is done and its row is checked.
 fn insert_free(setting: &Setting, place: Position, finding: Finding, stage: &mut Stage)
     requires { is_sound_finding finding ≡ true }
     ensures stage { stage.new ≡ insert_unlocked (setting_of setting.now) place finding }
@@ -271,7 +274,7 @@ fn insert_free(setting: &Setting, place: Position, finding: Finding, stage: &mut
     }
 }
 
-/// The same where FIND has found a leaf.
+/// The stage of an insert that does not lock, once FIND has found a leaf and its row is checked.
 fn insert_at_leaf(
     setting: &Setting,
     row: Held,
@@ -296,7 +299,7 @@ fn insert_at_leaf(
     }
 }
 
-/// Where a call is once FIND is done and its row is checked, where its variant checks it.
+/// The stage of a call once FIND is done and its row is checked, if its variant checks it.
 pub(crate) fn find_checked(
     setting: &Setting,
     place: &Position,
@@ -318,7 +321,7 @@ pub(crate) fn find_checked(
     }
 }
 
-/// Where a call is once FIND is done.
+/// The stage of a call once FIND is done.
 pub(crate) fn find_done(setting: &Setting, place: &Position, finding: Finding, stage: &mut Stage)
     requires { is_sound_finding finding ≡ true }
     ensures stage { stage.new ≡ after_finding (setting_of setting.now) place.now finding }
@@ -334,7 +337,7 @@ pub(crate) fn find_done(setting: &Setting, place: &Position, finding: Finding, s
     }
 }
 
-/// Where a call is once the key words of its row are loaded.
+/// The stage of a call once the key words of its row are loaded.
 pub(crate) fn keys_loaded(setting: &Setting, place: &Position, keys: Keys, stage: &mut Stage)
     ensures stage { stage.new ≡ after_words (setting_of setting.now) place.now keys }
     ensures sound { is_sound stage.new ≡ true }
@@ -349,7 +352,7 @@ pub(crate) fn keys_loaded(setting: &Setting, place: &Position, keys: Keys, stage
     }
 }
 
-/// Where a call is once the index word of its byte is loaded.
+/// The stage of a call once the index word of its byte is loaded.
 fn index_found(setting: &Setting, place: &Position, index: u64, stage: &mut Stage)
     requires { place.now.row.kind ≡ Kind.FortyEight }
     ensures stage { stage.new ≡ after_index (setting_of setting.now) place.now index }
@@ -378,7 +381,7 @@ fn index_found(setting: &Setting, place: &Position, index: u64, stage: &mut Stag
     }
 }
 
-/// Where a call is once the first word of FIND is loaded.
+/// The stage of a call once the first word of FIND is loaded.
 pub(crate) fn first_loaded(setting: &Setting, place: &Position, got: u64, stage: &mut Stage)
     ensures stage { stage.new ≡ after_first (setting_of setting.now) place.now got }
     ensures sound { is_sound stage.new ≡ true }
@@ -401,7 +404,7 @@ pub(crate) fn first_loaded(setting: &Setting, place: &Position, got: u64, stage:
     }
 }
 
-/// Where a call is once the row below its own is locked or waited for.
+/// The stage of a call once the row below its own is locked or waited for.
 fn row_reached(setting: &Setting, down: &Down, kept: u64, stage: &mut Stage)
     ensures stage { stage.new ≡ after_arrival (setting_of setting.now) down.now kept }
     ensures sound { is_sound stage.new ≡ true }
@@ -443,7 +446,7 @@ pub(crate) fn row_entered(setting: &Setting, target: &Target, kept: u64, stage: 
     }
 }
 
-/// Where a call is once the info of the row below its own is loaded.
+/// The stage of a call once the info of the row below its own is loaded.
 pub(crate) fn info_loaded(setting: &Setting, down: &Down, kept: u64, info: u64, stage: &mut Stage)
     ensures stage { stage.new ≡ after_info (setting_of setting.now) down.now (held down.now.base down.now.kind info kept) }
     ensures sound { is_sound stage.new ≡ true }
@@ -467,7 +470,8 @@ pub(crate) fn info_loaded(setting: &Setting, down: &Down, kept: u64, info: u64, 
     }
 }
 
-/// Where a call is once its key has turned out to differ at this level from the path of the row below its own.
+/// The stage of a call once its key has turned out to differ at this level from the path of the row
+/// below its own.
 fn path_differs(setting: &Setting, down: Down, row: Held, level: u32, stage: &mut Stage)
     ensures stage { stage.new ≡ below_at (locks setting.now.variant) (is_insert setting.now.call) (setting_of setting.now) down row
         (Some level) }
@@ -512,7 +516,7 @@ fn path_differs(setting: &Setting, down: Down, row: Held, level: u32, stage: &mu
     }
 }
 
-/// Where a call is that unlocks its row and then answers this value.
+/// The stage of a call that unlocks its row and then answers this value.
 fn unlock_and_answer(row: Held, value: Option<u32>, stage: &mut Stage)
     ensures stage { stage.new ≡ UnlockAll (hold_alone row) (Some (Value value)) }
     ensures sound { is_sound stage.new ≡ true }

@@ -1,13 +1,12 @@
 // The loops of GROW.
 ghost use Rattle.std.specs.Prelude.{◌≡◌, ◌+◌, ◌<◌, ◌≤◌, ◌^◌, true, nat_le, [], ◌∷◌, ◌++◌, map};
 ghost use Rattle.art_stages.specs.Automaton.{copies_at, spreads_at, entries_at, fill_at, leaf_after, keys_at_after};
-ghost use Rattle.art_setting.specs.Sound.{is_sound, has_keys};
+ghost use Rattle.art_stages.specs.Sound.{is_sound, has_keys};
 
 use art_rows::{Kind, entry_at};
-use art_setting::count;
-use art_stages::{Growing, Spread, Stage};
+use art_stages::{Growing, Spread, Stage, count};
 
-/// Where GROW is behind its row's info.
+/// The stage of GROW after it has stored its row's info.
 pub(crate) fn fill(growing: &Growing, stage: &mut Stage)
     ensures stage { stage.new ≡ fill_at growing.now.hold.row.kind growing.now }
     ensures sound { is_sound stage.new ≡ true }
@@ -29,7 +28,7 @@ pub(crate) fn fill(growing: &Growing, stage: &mut Stage)
     }
 }
 
-/// Where GROW is with so many children to be copied.
+/// The stage of GROW with this many children left to copy.
 #[tactic(auto, using(crate::proofs::LoopLemmas::copies_none, crate::proofs::LoopLemmas::copies_some))]
 fn copies(growing: &Growing, left: u32, stage: &mut Stage)
     requires { left ≤ 48 }
@@ -47,7 +46,7 @@ fn copies(growing: &Growing, left: u32, stage: &mut Stage)
     }
 }
 
-/// Where GROW is with so many children to be copied behind this one.
+/// The stage of GROW with this many children left to copy after this one.
 #[tactic(auto, using(crate::proofs::LoopLemmas::copies_none, crate::proofs::LoopLemmas::copies_some))]
 pub(crate) fn copy_on(growing: &Growing, place: u32, left: u32, stage: &mut Stage)
     requires { nat_le (place + left) 48 ≡ true }
@@ -65,7 +64,7 @@ pub(crate) fn copy_on(growing: &Growing, place: u32, left: u32, stage: &mut Stag
     }
 }
 
-/// Where GROW is with so many index words to be spread behind this one.
+/// The stage of GROW with this many index words left to spread after this one.
 #[tactic(auto, using(crate::proofs::LoopLemmas::spreads_none, crate::proofs::LoopLemmas::spreads_some))]
 fn spreads(growing: &Growing, place: u32, left: u32, stage: &mut Stage)
     requires { nat_le (place + left) 31 ≡ true }
@@ -83,7 +82,7 @@ fn spreads(growing: &Growing, place: u32, left: u32, stage: &mut Stage)
     }
 }
 
-/// Where GROW is with so many entries of an index word to be spread, from this one on.
+/// The stage of GROW with this many entries of an index word left to spread, from this one on.
 #[tactic(auto, using(crate::proofs::LoopLemmas::entries_none, crate::proofs::LoopLemmas::entries_skip, crate::proofs::LoopLemmas::entries_some))]
 pub(crate) fn entries(spread: &Spread, entry: u32, left: u32, stage: &mut Stage)
     requires words { nat_le (spread.now.place + spread.now.left) 31 ≡ true }
@@ -104,7 +103,7 @@ pub(crate) fn entries(spread: &Spread, entry: u32, left: u32, stage: &mut Stage)
     }
 }
 
-/// Where GROW is with so many entries of an index word to be spread behind this one.
+/// The stage of GROW with this many entries of an index word left to spread after this one.
 pub(crate) fn spread_on(spread: &Spread, entry: u32, after: u32, stage: &mut Stage)
     requires words { nat_le (spread.now.place + spread.now.left) 31 ≡ true }
     requires few { nat_le (entry + after) 7 ≡ true }
@@ -114,7 +113,7 @@ pub(crate) fn spread_on(spread: &Spread, entry: u32, after: u32, stage: &mut Sta
     entries(spread, entry + 1, after, stage);
 }
 
-/// Where GROW is behind the leaf of the key.
+/// The stage of GROW after it has stored the leaf of the key.
 pub(crate) fn leaf_stored(growing: &Growing, stage: &mut Stage)
     ensures stage { stage.new ≡ leaf_after growing.now.hold.row.kind growing.now }
     ensures sound { is_sound stage.new ≡ true }
@@ -136,7 +135,7 @@ pub(crate) fn leaf_stored(growing: &Growing, stage: &mut Stage)
     }
 }
 
-/// Where GROW is with so many key words or index words to be written behind this one.
+/// The stage of GROW with this many key words or index words left to write after this one.
 #[tactic(auto, using(crate::proofs::LoopLemmas::keys_none, crate::proofs::LoopLemmas::keys_some))]
 pub(crate) fn keys_stored(growing: &Growing, place: u32, left: u32, stage: &mut Stage)
     requires kind { has_keys growing.now.hold.row.kind ≡ true }

@@ -4,14 +4,14 @@ ghost use Rattle.art_rows.specs.Words.{is_small_child};
 ghost use Rattle.art_steps.specs.Rows.{locks};
 ghost use Rattle.art_stages.specs.Stages.{place_in};
 ghost use Rattle.art_stages.specs.Automaton.{take_at, take_alone, taken_at, work_at, put_at, moves_at, release_at, after_with};
-ghost use Rattle.art_setting.specs.Sound.{is_sound, is_sound_work, has_keys};
-ghost use Rattle.art_setting.specs.Settings.{setting_of};
+ghost use Rattle.art_stages.specs.Sound.{is_sound, is_sound_work, has_keys};
+ghost use Rattle.art_stages.specs.Settings.{setting_of};
 
 use art_rows::Kind;
-use art_setting::{Setting, count};
-use art_stages::{Held, Hold, Keys, Outcome, Stage, Taking, Target, Work};
+use art_stages::{Held, Hold, Keys, Outcome, Setting, Stage, Taking, Target, Work, count};
 
-/// Where a call is that takes a row: it locks the row from the version that it kept, or in one variant from any.
+/// The stage of a call that takes a row: it locks the row from the version that it kept, or in one
+/// variant from any.
 fn take_row(setting: &Setting, taking: Taking, stage: &mut Stage)
     requires { is_sound_work taking.work ≡ true }
     ensures stage { stage.new ≡ take_at (setting_of setting.now) taking }
@@ -27,7 +27,7 @@ fn take_row(setting: &Setting, taking: Taking, stage: &mut Stage)
     }
 }
 
-/// Where a call is that takes its row for some work in it.
+/// The stage of a call that takes its row for some work in it.
 pub(crate) fn take_alone(setting: &Setting, row: Held, work: Work, stage: &mut Stage)
     requires { is_sound_work work ≡ true }
     ensures stage { stage.new ≡ take_alone (setting_of setting.now) row work }
@@ -45,7 +45,7 @@ pub(crate) fn take_alone(setting: &Setting, row: Held, work: Work, stage: &mut S
     );
 }
 
-/// Where a call is that takes a row, and then the row below it, for some work in both.
+/// The stage of a call that takes a row, and then the row below it, for some work in both.
 pub(crate) fn take_above(setting: &Setting, above: Held, row: Held, work: Work, stage: &mut Stage)
     requires { is_sound_work work ≡ true }
     ensures stage { stage.new ≡ take_at (setting_of setting.now) (record { row = above; held = None; below = Some row; work = work }) }
@@ -63,7 +63,7 @@ pub(crate) fn take_above(setting: &Setting, above: Held, row: Held, work: Work, 
     );
 }
 
-/// Where a call is once it has taken a row, with this version.
+/// The stage of a call once it has taken a row, with this version.
 pub(crate) fn row_taken(setting: &Setting, taking: &Taking, kept: u64, stage: &mut Stage)
     requires { is_sound_work taking.now.work ≡ true }
     ensures stage { stage.new ≡ taken_at (setting_of setting.now) taking.now.held taking.now.below taking.now.work
@@ -100,7 +100,7 @@ pub(crate) fn row_taken(setting: &Setting, taking: &Taking, kept: u64, stage: &m
     }
 }
 
-/// Where some work in held rows begins.
+/// The stage at which some work in held rows begins.
 pub(crate) fn begin_work(setting: &Setting, hold: Hold, work: Work, stage: &mut Stage)
     requires { is_sound_work work ≡ true }
     ensures stage { stage.new ≡ work_at (setting_of setting.now) hold work }
@@ -122,7 +122,7 @@ pub(crate) fn begin_work(setting: &Setting, hold: Hold, work: Work, stage: &mut 
     }
 }
 
-/// Where PUT begins.
+/// The stage at which PUT begins.
 fn begin_put(setting: &Setting, hold: Hold, keys: Keys, stage: &mut Stage)
     ensures stage { stage.new ≡ put_at hold.row.kind (setting_of setting.now) hold keys }
     ensures sound { is_sound stage.new ≡ true }
@@ -144,7 +144,7 @@ fn begin_put(setting: &Setting, hold: Hold, keys: Keys, stage: &mut Stage)
     }
 }
 
-/// Where a call is that has its outcome and still holds a row above, if any.
+/// The stage of a call that has its outcome and still holds a row above, if any.
 pub(crate) fn release(
     setting: &Setting,
     above: &Option<Held>,
@@ -171,7 +171,7 @@ pub(crate) fn release(
     }
 }
 
-/// Where PUT is with so many children still to be moved.
+/// The stage of PUT with this many children still to be moved.
 #[tactic(auto, using(crate::proofs::LoopLemmas::moves_none, crate::proofs::LoopLemmas::moves_some))]
 pub(crate) fn moves(hold: &Hold, keys: &Keys, left: u32, stage: &mut Stage)
     requires { has_keys hold.now.row.kind ≡ true }

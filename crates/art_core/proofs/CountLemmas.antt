@@ -8,7 +8,8 @@ use Rattle.art_core.specs.Core.{finished}
 use Rattle.art_core.proofs.HistoryLemmas.{is-moved, changed-at}
 
 module _ (plan : Plan) where
-  -- of the calls that a process has begun, all but the open one are finished, and they are no more than its script has
+  -- all calls that a process has begun are finished but the open one, and they are no more than its
+  -- script has
   pub record IsCounted (p : ℕ) (q : Process) : Type 0 where
     pub counts : length (begun q) ≡ length (finished q) + cond (is_some q.call) 1 0
     pub within : (script : List Call) → slice_get plan.scripts p ≡ Some script → length (begun q) ≤ length script

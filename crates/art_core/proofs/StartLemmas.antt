@@ -7,7 +7,7 @@ use Rattle.events.specs.declared.event.Reply.TheVariants as replies
 use Rattle.art_rows.specs.Table.{info_at, root_base}
 use Rattle.art_core.proofs.HistoryLemmas.{all_steps, nowhere, one-step}
 
--- as many steps are made as the schedule has places
+-- a run makes as many steps as the schedule has places
 pub run-steps : (plan : Plan) (schedule : List ℕ) (first s : State) → run_on plan (Some first) schedule ≡ Some s
     → all_steps s ≡ all_steps first + length schedule
 run-steps plan [] first s h = let same = ap all_steps (same_Some first s h) in omega arith

@@ -31,13 +31,13 @@ SerialIsMap =
     → IsLegal start (operations (history_of s)) × AllUnlocked plan.shape s.words
     × Means plan.shape s.words (after_calls start (operations (history_of s)))
 
--- The histories of the full trees are linearizable: first of the coupled one,
+-- Every history of the coupled tree is linearizable.
 abbrev pub CoupledIsLinearizable : Type 0
 CoupledIsLinearizable =
     (plan : Plan) (start : Contents) (words schedule : List ℕ) (s : State) → IsRun plan start words schedule s
     → plan.variant ≡ Coupled → IsLinearizable start (operations (history_of s))
 
--- and then of the optimistic one with scans.
+-- Every history of the optimistic tree is linearizable, range scans included.
 abbrev pub OptimisticIsLinearizable : Type 0
 OptimisticIsLinearizable =
     (plan : Plan) (start : Contents) (words schedule : List ℕ) (s : State) → IsRun plan start words schedule s

@@ -35,7 +35,8 @@ pub record IsClocked (s : State) : Type 0 where
   pub few : slice_index s.words clock ≤ 2 * call_limit
   pub history : AreHistoryEvents (history_of s)
 
--- So it is in each state that a schedule of a plan within the limits gives, however many steps were made.
+-- In each state that a schedule of a plan within the limits gives, the clock is ahead, however many
+-- steps were made.
 abbrev pub ClocksAreAhead : Type 0
 ClocksAreAhead = (plan : Plan) (words schedule : List ℕ) (s : State) → IsPlan plan → length words ≡ table_words plan.shape
     → slice_index words clock ≡ 0

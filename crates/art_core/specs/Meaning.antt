@@ -54,7 +54,7 @@ pub record Means (s : Shape) (words : List ℕ) (pairs : Contents) : Type 0 wher
   pub rising : IsRising pairs
   pub all : (key value : ℕ) → Contains pairs (key, value) ↔ Hangs s words key value
 
--- the same by walking down from a row: at most n rows, by rising bytes
+-- the pairs that a walk down from a row finds: at most n rows, by rising bytes
 abbrev pub pairs_in : (ℕ → Kind → Contents) → Child → Contents
 pairs_in walk Empty = []
 pairs_in walk (Row base kind) = walk base kind

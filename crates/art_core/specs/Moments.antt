@@ -1,4 +1,4 @@
--- A moment at which what a call has read stands still.
+-- A moment at which nothing that a call has read changes.
 use Rattle.std.specs.Prelude.{◌≡◌, ◌≢◌, ℕ, zero, suc, ◌+◌, ◌<◌, ◌≤◌, ◌⊎◌, false, List, [], ◌∷◌, ◌++◌, length, take, slice_get, slice_index}
 use Rattle.std.specs.Prelude.{Option, Some, None}
 use Rattle.events.specs.declared.event.Call.{Call}
@@ -40,11 +40,11 @@ alone (suc n) plan call words =
 abbrev pub AnswersAlone : Plan → Call → List ℕ → Reply → Type 0
 AnswersAlone plan call words r = (n : ℕ) × (act plan.shape plan.variant call (alone n plan call words) ≡ Answers r)
 
--- The attempt that answers begins behind these words: what follows them is what follows none.
+-- The attempt that answers begins after these words: what follows them is what follows none.
 abbrev pub BeginsAttempt : Plan → Call → List ℕ → Type 0
 BeginsAttempt plan call got = (more : List ℕ) → act plan.shape plan.variant call (got ++ more) ≡ act plan.shape plan.variant call more
 
--- the i-th word of the attempt is that of a load of a word, and no version that WAIT found locked
+-- the i-th access of the attempt loads this word, and does not find a locked version
 pub record Reads (plan : Plan) (call : Call) (attempt : List ℕ) (i word : ℕ) : Type 0 where
   pub made : i < length attempt
   pub mark : Option Point
@@ -57,7 +57,7 @@ pub record Enters (plan : Plan) (call : Call) (attempt : List ℕ) (i base : ℕ
   pub reads : Reads plan call attempt i base
   pub no_check : reads.mark ≢ Some point.Check
 
--- and at j by CHECK
+-- the version of the row is loaded at j by CHECK
 pub record Checks (plan : Plan) (call : Call) (attempt : List ℕ) (j base : ℕ) : Type 0 where
   pub reads : Reads plan call attempt j base
   pub check : reads.mark ≡ Some point.Check
@@ -72,16 +72,17 @@ pub record IsOfEnteredRow (plan : Plan) (call : Call) (attempt : List ℕ) (i wo
   pub from : base ≤ word
   pub below : word < base + row_words kind
 
--- The row is unlocked and has these words at each moment from the one where the call had got more than i words of its
--- attempt to the one where it has got j.
+-- The row is unlocked and has these words at each moment of a time: from when the call had got more
+-- than i words of its attempt to when it has got j.
 abbrev pub StandsFrom : Plan → State → List ℕ → ℕ → ℕ → ℕ → ℕ → ℕ → ℕ → Kind → List ℕ → Type 0
 StandsFrom plan first schedule p calls earlier i j base kind row =
     (t n : ℕ) (s : State) → At plan first schedule t s → HasGot calls (earlier + n) s p → i < n → n ≤ j
     → (row_in s.words base kind ≡ row) × (is_locked (slice_index s.words base) ≡ false)
 
--- A scan: a moment within the call at which each row that the answering attempt read stands still, from the load that
--- ended its WAIT to its CHECK at the end, and has the words that were read; the reply is that of the call run alone then.
--- Each word read is of a row that was entered, and each row entered has its CHECK.
+-- A scan: at a moment within the call, no row that the answering attempt read changes, from the
+-- load that ended its WAIT to its CHECK at the end. Each of these rows then has the words that were
+-- read, and the reply is that of the call run alone. Each word read is of a row that was entered,
+-- and each row entered has its CHECK.
 pub record HasMoment (plan : Plan) (first : State) (schedule : List ℕ) (p calls : ℕ) (call : Call) (got : List ℕ) (r : Reply) : Type 0 where
   pub earlier : List ℕ
   pub attempt : List ℕ

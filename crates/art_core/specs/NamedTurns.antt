@@ -33,14 +33,16 @@ finished_count (Some q) = length (finished q)
 abbrev pub HasNotAnswered : ℕ → State → State → Type 0
 HasNotAnswered p first now = finished_count (slice_get now.processes p) ≡ finished_count (slice_get first.processes p)
 
--- Whether an item that began in the first state names one turn more after so many, which led to the present state:
--- so many turns in all; or until a call is answered; or until that or until the next step is at the point.
+-- Whether an item that began in the first state names one more turn after those that led to the
+-- present state. `Turns` names a number of turns in all. `End` names turns until a call is
+-- answered. `Until` names turns until that, or until the next step is at the point.
 abbrev pub WantsTurn : Plan → Item → State → ℕ → State → Type 0
 WantsTurn plan (Turns p count) first made now = made < count
 WantsTurn plan (End p) first made now = HasNotAnswered p first now
 WantsTurn plan (Until p point) first made now = HasNotAnswered p first now × (next_point plan (slice_get now.processes p) ≢ Some point)
 
--- So many turns of the item's process lead from the first state to the present one, and it names each of them.
+-- This many turns of the item's process lead from the first state to the present one, and the item
+-- names each of them.
 pub record AreMade (plan : Plan) (item : Item) (first : State) (made : ℕ) (now : State) : Type 0 where
   pub gives : Gives plan first (replicate made (process_of_item item)) now
   pub wanted : (earlier : ℕ) (s : State) → earlier < made → Gives plan first (replicate earlier (process_of_item item)) s
@@ -51,7 +53,7 @@ pub record IsMadeWhole (plan : Plan) (item : Item) (first : State) (made : ℕ) 
   pub turns : AreMade plan item first made now
   pub over : WantsTurn plan item first made now → ⊥
 
--- The items are made whole one after another, by so many turns together.
+-- The items are made whole one after another, by this many turns together.
 abbrev pub AreMadeWhole : Plan → List Item → State → ℕ → State → Type 0
 AreMadeWhole plan [] first made now = (made ≡ 0) × (first ≡ now)
 AreMadeWhole plan (item ∷ items) first made now =

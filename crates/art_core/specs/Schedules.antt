@@ -18,7 +18,7 @@ pub record Run : Type 0 where
   pub left : ℕ
   pub refused : Option Refusal
 
--- one turn: a process, something to do, and a turn left are wanted in this order
+-- one turn: it needs a process, something to do, and a turn left, tested in this order
 abbrev pub turn_with : Run → ℕ → Option Process → Option State → Run
 turn_with r left None next = record { state = r.state; left = r.left; refused = Some NoProcess }
 turn_with r left (Some q) None = record { state = r.state; left = r.left; refused = Some NothingToDo }

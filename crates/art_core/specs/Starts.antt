@@ -1,4 +1,5 @@
--- Words on which a table holds pairs before the first step: one process has inserted them by itself, in their order.
+-- Words on which a table holds pairs before the first step: one process has inserted them alone, in
+-- their order.
 use Rattle.std.specs.Prelude.{◌≡◌, ◌≢◌, ℕ, ◌+◌, ◌≤◌, IsTrue, List, [], ◌∷◌, length, map, sum, slice_get, slice_set, All, Contains, Some}
 use Rattle.std.specs.Prelude.{None}
 use Rattle.events.specs.declared.event.Call.{Call}
@@ -29,8 +30,8 @@ pub record AreInsertedIn (shape : Shape) (variant : Variant) (start : Contents) 
   pub few_steps : HasFewSteps s
   pub is_process : slice_get s.processes 0 ≡ Some process
 
--- The words on which a machine with these pairs is opened: nothing is left to do, no insert was answered that it is refused, and the clock
--- is set back to 0.
+-- The words on which a machine with these pairs is opened. Nothing is left to do, no insert was
+-- refused, and the clock is set back to 0.
 pub record StartsOn (shape : Shape) (variant : Variant) (start : Contents) (words : List ℕ) : Type 0 where
   pub state : State
   pub process : Process

@@ -84,7 +84,8 @@ one_each n = record {
     inserts k zero = []
     inserts k (suc n) = Insert k 1 ∷ inserts (k + 1) n
 
--- How many events there are where the get stops for good after k of its turns, and the insert comes after it.
+-- How many events there are if the get stops after k of its turns and never goes on, and the insert
+-- comes after it.
 unfoldable pub count_events : Plan → ℕ → ℕ
 count_events plan k = length (events_of (schedule_run plan 100 (End 0 ∷ End 0 ∷ Turns 0 k ∷ End 1 ∷ [])))
   where

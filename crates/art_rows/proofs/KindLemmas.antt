@@ -25,7 +25,7 @@ seven-words Sixteen = omega arith
 seven-words FortyEight = omega arith
 seven-words Full = omega arith
 
--- the children are behind the version and the info
+-- the children are after the version and the info
 pub first-two : (kind : Kind) → 2 ≤ first_child kind
 first-two Four = omega arith
 first-two Sixteen = omega arith
@@ -81,7 +81,7 @@ code-few Sixteen = omega arith
 code-few FortyEight = omega arith
 code-few Full = omega arith
 
--- where a row of some kind begins, its kind has a base
+-- if a row of some kind begins, its kind has a base
 pub kind_at-is_base : (s : Shape) (base : ℕ) (kind : Kind) → kind_at s base ≡ Some kind → is_base_of s kind base ≡ true
 kind_at-is_base s base kind e =
     one Four (is_base_of s Four base) refl e λ f. one Sixteen (is_base_of s Sixteen base) refl f λ g.

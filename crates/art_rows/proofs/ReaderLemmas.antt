@@ -31,7 +31,7 @@ place_later x (suc n) w i h e p =
     ∙ ap (λ k. option_map (λ i. i + 1) (place_of x (low_bytes k (w / 256)))) (less n (suc n - 1) refl)
     ∙ ap (λ o. option_map (λ i. i + 1) o) p
 
--- the place in two lists, one behind the other
+-- the place in two lists, one after the other
 abbrev pub joined : Option ℕ → Option ℕ → ℕ → Option ℕ
 joined (Some i) o n = Some i
 joined None o n = option_map (λ i. i + n) o

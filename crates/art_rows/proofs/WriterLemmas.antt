@@ -41,7 +41,7 @@ pub low_more : (n w r : ℕ) → (n ≡ 0 → ⊥) → r ≡ packed (low_bytes (
 low_more zero w r some e = absurd (some refl)
 low_more (suc n) w r some e = ap (λ r. w % 256 + 256 * r) (e ∙ ap (λ k. packed (low_bytes k (w / 256))) (less_one n))
 
--- a number of so many bytes is its bytes
+-- a number of this many bytes is its bytes
 pub packed-low_bytes : (n w : ℕ) → w < 256 ^ n → packed (low_bytes n w) ≡ w
 packed-low_bytes zero w h = omega arith
 packed-low_bytes (suc n) w h =
@@ -195,7 +195,7 @@ after_eight x (suc (suc (suc (suc (suc (suc zero)))))) w zs h = refl
 after_eight x (suc (suc (suc (suc (suc (suc (suc zero))))))) w zs h = refl
 after_eight x (suc (suc (suc (suc (suc (suc (suc (suc p)))))))) w zs h = absurd (omega (arith, h))
 
--- and behind the eighth
+-- a byte put in after the eighth: the first word stays
 pub first_stays : (x p w : ℕ) (zs : List ℕ) → 8 ≤ p → take 8 (put_in x p (low_bytes 8 w ++ zs)) ≡ low_bytes 8 w
 first_stays x p w zs h = subst (λ k. take 8 (put_in x k (low_bytes 8 w ++ zs)) ≡ low_bytes 8 w) (sym (later p h)) refl
   where

@@ -1,5 +1,5 @@
--- What the words of a row say, for every number, and the words that say it.
--- A number that has not its place's form is read as 0.
+-- What the words of a row say, for every number, and the words that say it. A number that does not
+-- have the form of its place is read as 0.
 use Rattle.std.specs.Prelude.{ℕ, zero, suc, ◌+◌, ◌-◌, ◌*◌, ◌/◌, ◌%◌, ◌^◌, Bool, true, ◌==◌, nat_le, nat_lt, if◌then◌else◌, List, [], ◌∷◌}
 use Rattle.std.specs.Prelude.{◌++◌, length, map}
 use Rattle.std.specs.Prelude.{take, drop, Option, Some, None, option_map}
@@ -103,7 +103,7 @@ abbrev pub place_of : ℕ → List ℕ → Option ℕ
 place_of x [] = None
 place_of x (y ∷ ys) = if y == x then Some 0 else option_map (λ i. i + 1) (place_of x ys)
 
--- where an absent byte goes: behind all that are less
+-- where an absent byte belongs: after all that are less
 abbrev pub new_place : ℕ → List ℕ → ℕ
 new_place x [] = 0
 new_place x (y ∷ ys) = if nat_lt y x then suc (new_place x ys) else new_place x ys

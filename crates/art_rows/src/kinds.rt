@@ -1,4 +1,4 @@
-// What a kind of row says of the rows that are of it.
+// What the kind of a row says of the row.
 ghost use Rattle.std.specs.Prelude.{◌≡◌, ◌≤◌};
 ghost use Rattle.art_rows.specs.Table.{capacity, row_words};
 ghost use Rattle.art_rows.specs.Words.{kind_code};

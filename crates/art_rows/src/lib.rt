@@ -1,7 +1,6 @@
-//! The words of the trees' table: where rows stand, what a word says, and the words that say it.
-//!
-//! Nodes of four kinds, with path compression and lazy expansion, are those of Leis, Kemper and Neumann, ICDE 2013;
-//! the layout is our own. It stands in `specs/`, on every number.
+//! The words of the trees' table: where rows are, what a word means, and which word has a meaning.
+//! Nodes of four kinds, with path compression and lazy expansion, are those of Leis, Kemper and
+//! Neumann, ICDE 2013; the layout is our own. `specs/` defines it for every number.
 #![tactic(auto)]
 
 mod kinds;

@@ -1,4 +1,4 @@
-// Where the rows of a table stand.
+// Where the rows of a table are.
 ghost use Rattle.std.specs.Prelude.{◌≡◌, ℕ, ◌<◌, ◌≤◌, ◌^◌, true, IfOk};
 ghost use Rattle.art_rows.specs.Table.{first_base, rows_of, table_words, root_base, is_base_of, kind_at, opening, base_of};
 ghost use Rattle.art_rows.specs.Table.{IsWithinLimits};

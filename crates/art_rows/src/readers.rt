@@ -83,7 +83,7 @@ pub fn path_byte(kind: Kind, info: u64, place: u32) -> u32
     }
 }
 
-/// The first byte in which two keys differ; 0 where they are the same.
+/// The first byte in which two keys differ; 0 if they are the same.
 pub fn key_difference(a: u32, b: u32) -> u32
     ensures { result ≡ unwrap_or (first_difference (key_bytes a) (key_bytes b)) 0 }
 {
@@ -164,7 +164,7 @@ pub(crate) fn entry(byte: u64) -> u32
     if byte <= 48 { byte as u32 } else { 0 }
 }
 
-/// The count that a count word says, where it can be so much at most.
+/// The count that a count word says, if it is at most `most`.
 pub fn key_count(most: u32, count: u64) -> u32
     ensures count { result ≡ count_of most count }
     ensures most { result ≤ most }

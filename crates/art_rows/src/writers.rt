@@ -1,4 +1,4 @@
-// The words that say something.
+// Words with a given meaning.
 ghost use Rattle.std.specs.Prelude.{◌≡◌, true, ℕ, ◌+◌, ◌<◌, ◌≤◌, ◌^◌, ◌%◌, [], ◌∷◌, ◌++◌, length, take, drop, map, set};
 ghost use Rattle.art_rows.specs.Table.{capacity};
 ghost use Rattle.art_rows.specs.Words.{packed, low_bytes, key_bytes, obsolete_word, info_word, info_of, keys4_of, keys4_word, keys16_of};
@@ -67,7 +67,7 @@ pub fn pair_keys(lesser: u32, greater: u32) -> u64
     2 + 256 * (u64::from(lesser) + 256 * u64::from(greater))
 }
 
-/// The number of so many bytes of a word, the lowest first.
+/// The number of this many bytes of a word, the lowest first.
 #[tactic(auto, using(crate::proofs::WriterLemmas::byte_below, crate::proofs::WriterLemmas::byte_fits, crate::proofs::WriterLemmas::low_none, crate::proofs::WriterLemmas::low_more))]
 fn low(bytes: u64, count: u32) -> u64
     requires { count ≤ 8 }
@@ -81,7 +81,7 @@ fn low(bytes: u64, count: u32) -> u64
     }
 }
 
-/// How many of so many bytes of a word are less than this one.
+/// How many of this many bytes of a word are less than this one.
 #[tactic(auto, using(crate::proofs::WriterLemmas::less_none, crate::proofs::WriterLemmas::less_more, crate::proofs::WriterLemmas::less_same))]
 fn less_among(bytes: u64, count: u32, byte: u32) -> u32
     requires { count ≤ 8 }
@@ -100,7 +100,7 @@ fn less_among(bytes: u64, count: u32, byte: u32) -> u32
     }
 }
 
-/// The number of so many bytes of a word with one more put in at this place, or behind them all.
+/// The number of this many bytes of a word, with one more put in at this place, or after them all.
 #[tactic(auto, using(crate::proofs::WriterLemmas::byte_below, crate::proofs::WriterLemmas::byte_fits, crate::proofs::WriterLemmas::put_first, crate::proofs::WriterLemmas::put_alone, crate::proofs::WriterLemmas::put_later))]
 fn with_byte_between(bytes: u64, count: u32, place: u32, byte: u32) -> u64
     requires few { count ≤ 7 }
@@ -192,7 +192,7 @@ pub fn more_keys16_with(count: u64, first: u64, second: u64, byte: u32) -> u64
     }
 }
 
-/// The number of so many entries of an index word.
+/// The number of this many entries of an index word.
 #[tactic(auto, using(crate::proofs::WriterLemmas::byte_below, crate::proofs::WriterLemmas::byte_fits, crate::proofs::WriterLemmas::entries_none, crate::proofs::WriterLemmas::entries_more))]
 fn entries(bytes: u64, count: u32) -> u64
     requires { count ≤ 8 }
@@ -206,7 +206,7 @@ fn entries(bytes: u64, count: u32) -> u64
     }
 }
 
-/// The number of so many entries of an index word, where one of them is this.
+/// The number of this many entries of an index word, with this one among them.
 #[tactic(auto, using(crate::proofs::WriterLemmas::byte_below, crate::proofs::WriterLemmas::byte_fits, crate::proofs::WriterLemmas::set_none, crate::proofs::WriterLemmas::set_first, crate::proofs::WriterLemmas::set_later))]
 fn entries_with(bytes: u64, count: u32, place: u32, new: u32) -> u64
     requires few { count ≤ 8 }

@@ -1,13 +1,9 @@
 -- The bytes of one index word, and bytes that are passed over.
-use Rattle.std.proofs.Common.{◌≡◌, ℕ, zero, suc, ◌+◌, ◌-◌, ◌*◌, ◌/◌, ◌<◌, ◌≤◌, List, [], ◌∷◌, ◌++◌, refl, ap, ◌∙◌, Bool, true, false, arith}
-use Rattle.std.proofs.Common.{sym, ⊎_elim}
-use Rattle.std.proofs.lemmas.Bool.{eq-eqb, ne_eqb, cases_lt, false≢true}
+use Rattle.art_scan.proofs.Common.{◌≡◌, ℕ, zero, suc, ◌+◌, ◌-◌, ◌*◌, ◌/◌, ◌<◌, ◌≤◌, List, [], ◌∷◌, ◌++◌, refl, ap, ◌∙◌, Bool, true, false, arith, sym}
+use Rattle.art_scan.proofs.Common.{⊎_elim, eq-eqb, ne_eqb, cases_lt, false≢true, if◌then◌else◌, filter, Option, numbers, ScanAt, in_word, slot_at}
+use Rattle.art_scan.proofs.Common.{bytes_at, has_any}
 use Rattle.std.proofs.lemmas.List.{append-nil}
 use Rattle.std.proofs.lemmas.List.Elements.{filter-append}
-use Rattle.std.specs.Prelude.{if◌then◌else◌, filter, Option}
-use Rattle.art_steps.specs.Steps.{numbers}
-use Rattle.art_stages.specs.Scans.{ScanAt, in_word, slot_at, bytes_at}
-use Rattle.art_scan.specs.Walks.{has_any}
 
 pub zero_left : (m : ℕ) → 0 + m ≡ m
 zero_left m = omega arith

@@ -1,19 +1,9 @@
 -- Bytes between the key bytes of a row.
-use Rattle.std.proofs.Common.{◌≡◌, ℕ, zero, suc, ◌+◌, ◌-◌, ◌/◌, ◌%◌, ◌<◌, ◌≤◌, [], length, refl, ap, sym, ◌∙◌, Bool, true, false, arith}
-use Rattle.std.proofs.Common.{inl, inr, ⊎_elim}
-use Rattle.std.proofs.lemmas.Bool.{false≢true, cases_lt, leb-true}
-use Rattle.std.specs.Prelude.{◌⊎◌, ◌&&◌, if◌then◌else◌, nat_le, Option, None}
-use Rattle.art_rows.specs.declared.table.Kind.{Kind}
-use Rattle.art_rows.specs.declared.table.Kind.TheVariants.{Four, Sixteen, FortyEight, Full}
-use Rattle.art_rows.specs.Words.{low_bytes, place_of, keys4_of}
-use Rattle.art_rows.proofs.WriterLemmas.{length-keys4}
-use Rattle.art_setting.specs.Sound.{has_keys}
-use Rattle.art_stages.specs.declared.stage.Frame.{Frame}
-use Rattle.art_steps.specs.Scan.{can_lie}
-use Rattle.art_stages.specs.Stages.{keys_among, row_at}
-use Rattle.art_stages.specs.Scans.{ScanAt, place_slot, bytes_at}
-use Rattle.art_scan.specs.Sound.{is_sound_frame}
-use Rattle.art_scan.specs.Walks.{frame_slot, frame_test, IsPassed}
+use Rattle.art_scan.proofs.Common.{◌≡◌, ℕ, zero, suc, ◌+◌, ◌-◌, ◌/◌, ◌%◌, ◌<◌, ◌≤◌, [], length, refl, ap, sym, ◌∙◌, Bool, true, false, arith, inl}
+use Rattle.art_scan.proofs.Common.{inr, ⊎_elim, false≢true, cases_lt, leb-true, ◌⊎◌, ◌&&◌, if◌then◌else◌, nat_le, Option, None, Kind, Four, Sixteen}
+use Rattle.art_scan.proofs.Common.{FortyEight, Full, low_bytes, place_of, keys4_of, length-keys4, Frame, can_lie, keys_among, row_at, ScanAt}
+use Rattle.art_scan.proofs.Common.{place_slot, bytes_at, is_sound_frame, frame_slot, frame_test, IsPassed}
+use Rattle.art_stages.specs.Sound.{has_keys}
 use Rattle.art_scan.proofs.ByteLemmas.{zero_left, zero_right, suc_right}
 use Rattle.art_scan.proofs.NextLemmas.{bytes_bare, bytes_not, not_tested}
 
@@ -73,7 +63,7 @@ pass_all test slot_of child x n other h =
     none : (x n : ℕ) → x + n - (x + n) ≡ 0
     none x n = omega arith
 
--- those before the first byte under which keys can lie, and those up to the next slot
+-- bytes before the first one under which keys can lie, and bytes up to the next slot
 pub passed : (low high : ℕ) (f : Frame) (d e : ℕ)
     → ((h y : ℕ) → f.byte ≤ y → y < f.byte + d → can_lie low h (row_at f.row) y ≡ false)
     → ((y : ℕ) → f.byte + d ≤ y → y < e → IsPassed f.row.kind f y)

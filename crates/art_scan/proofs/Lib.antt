@@ -1,3 +1,4 @@
+mod Common
 mod ByteLemmas
 mod KeyByteLemmas
 mod NextLemmas

@@ -1,19 +1,10 @@
 -- The next byte, index word or child of a scan, by what is met.
-use Rattle.std.proofs.Common.{◌≡◌, ℕ, zero, suc, ◌+◌, ◌-◌, ◌*◌, ◌≤◌, List, [], ◌∷◌, refl, ap, sym, ◌∙◌, Bool, true, false, arith}
-use Rattle.std.proofs.lemmas.Bool.{false≢true, and_left}
-use Rattle.std.specs.Prelude.{if◌then◌else◌, Option, Some, None, filter}
-use Rattle.art_rows.specs.declared.table.Kind.{Kind}
-use Rattle.art_rows.specs.declared.table.Kind.TheVariants.{Four, Sixteen, FortyEight, Full}
-use Rattle.art_rows.proofs.WriterLemmas.{less_one}
-use Rattle.art_steps.specs.Scan.{bytes_of, can_lie}
-use Rattle.art_steps.specs.Steps.{numbers}
-use Rattle.art_stages.specs.declared.stage.Held.{Held}
-use Rattle.art_stages.specs.declared.stage.Frame.{Frame}
-use Rattle.art_stages.specs.declared.stage.ScanStep.TheVariants.{Index}
-use Rattle.art_stages.specs.Stages.{row_at}
-use Rattle.art_stages.specs.Scans.{Walk, ScanAt, at, in_word, slot_at, bytes_at, child_from, lies, index_at_list, words_at, frame_at}
+use Rattle.art_scan.proofs.Common.{◌≡◌, ℕ, zero, suc, ◌+◌, ◌-◌, ◌*◌, ◌≤◌, List, [], ◌∷◌, refl, ap, sym, ◌∙◌, Bool, true, false, arith, false≢true}
+use Rattle.art_scan.proofs.Common.{and_left, if◌then◌else◌, Option, None, filter, Kind, Four, Sixteen, FortyEight, Full, less_one, bytes_of, can_lie}
+use Rattle.art_scan.proofs.Common.{numbers, Held, Frame, Index, row_at, Walk, ScanAt, at, in_word, slot_at, bytes_at, child_from, lies, index_at_list}
+use Rattle.art_scan.proofs.Common.{words_at, frame_at, has_any, frame_test, frame_slot, words_behind}
+use Rattle.std.specs.Prelude.{Some}
 use Rattle.art_scan.proofs.ByteLemmas.{none_from}
-use Rattle.art_scan.specs.Walks.{has_any, frame_test, frame_slot, words_behind}
 
 -- index words
 
@@ -78,7 +69,7 @@ module _ (test : ℕ → Bool) (slot_of : ℕ → Option ℕ) (child : ℕ → �
       else bytes_at test slot_of child (x + 1) n other) t
       ∙ ap (λ k. bytes_at test slot_of child (x + 1) k other) (sym (less_one n))
 
--- a row's children: its bytes, and in kind 48 the index words behind this one
+-- a row's children: its bytes, and in kind 48 the index words after this one
 
 pub frame_bytes : (kind : Kind) (low high : ℕ) (w : Walk) (f : Frame) (other : ScanAt)
     → frame_at kind low high w f other
@@ -106,7 +97,7 @@ bytes_bare test slot_of child x n other some e = go (test x) refl
     go true t = bytes_empty test slot_of child x n other some t e
     go false t = bytes_not test slot_of child x n other some t
 
--- where no key can lie, a byte is not walked
+-- if no key can lie, a byte is not walked
 pub not_tested : (kind : Kind) (low high : ℕ) (f : Frame) (y : ℕ) → lies low high f y ≡ false → frame_test kind low high f y ≡ false
 not_tested Four low high f y e = e
 not_tested Sixteen low high f y e = e

@@ -1,26 +1,14 @@
 -- The way of a scan, from its lowest row on.
-use Rattle.std.proofs.Common.{◌≡◌, ℕ, List, [], ◌∷◌, refl, ap, sym, ◌∙◌, true, false, Bool, ⊎_elim}
-use Rattle.std.proofs.lemmas.Bool.{false≢true}
+use Rattle.art_scan.proofs.Common.{◌≡◌, ℕ, List, [], ◌∷◌, refl, ap, sym, ◌∙◌, true, false, Bool, ⊎_elim, false≢true, None, if◌then◌else◌, ◌⊎◌, Kind}
+use Rattle.art_scan.proofs.Common.{Four, Sixteen, FortyEight, Full, reply_of, Held, Frame, Lock, Exchange, Wait, Info, Keys, FirstKeys, SecondKeys}
+use Rattle.art_scan.proofs.Common.{Index, Child, Release, Over, child_of, Walk, ScanAt, at, on_way, with_frame, frame_of, frame_at, way_at, scan_turn}
+use Rattle.art_scan.proofs.Common.{resume_at, row_begins, words_at, visit_list, child_after, step_after, is_over, has_any, with_pair}
 use Rattle.std.proofs.lemmas.Option.{none-some}
-use Rattle.std.specs.Prelude.{None, if◌then◌else◌, ◌⊎◌}
-use Rattle.art_rows.specs.declared.table.Kind.{Kind}
-use Rattle.art_rows.specs.declared.table.Kind.TheVariants.{Four, Sixteen, FortyEight, Full}
 use Rattle.art_steps.specs.Rows.{Setting}
-use Rattle.art_steps.specs.Steps.{reply_of}
-use Rattle.art_stages.specs.declared.stage.Held.{Held}
-use Rattle.art_stages.specs.declared.stage.Frame.{Frame}
 use Rattle.art_stages.specs.declared.stage.ScanStep.{ScanStep}
-use Rattle.art_stages.specs.declared.stage.ScanStep.TheVariants.{Lock, Exchange, Wait, Info, Keys, FirstKeys, SecondKeys, Index, Child}
-use Rattle.art_stages.specs.declared.stage.ScanStep.TheVariants.{Release, Over}
 use Rattle.art_stages.specs.Automaton.{keys_one}
 use Rattle.art_rows.specs.declared.table.Child.{Child as ChildOf}
 use Rattle.art_rows.specs.declared.table.Child.TheVariants.{Leaf}
-use Rattle.art_rows.specs.Words.{child_of}
-use Rattle.art_stages.specs.Scans.{Walk, ScanAt, at, on_way, with_frame, frame_of, frame_at, way_at, scan_turn, resume_at}
-use Rattle.art_stages.specs.Scans.{row_begins, words_at, visit_list}
-use Rattle.art_stages.specs.Scans.{child_after, step_after}
-use Rattle.art_scan.specs.Sound.{is_over}
-use Rattle.art_scan.specs.Walks.{has_any, with_pair}
 
 -- a way is gone on whatever way the walk has
 pub way_same : (c : Setting) (low high : ℕ) (w : Walk) (other fs : List Frame)
@@ -75,7 +63,7 @@ pub visit_none : (c : Setting) (low high : ℕ) (n : Held) (w : Walk) (xs : List
 visit_none c low high n w [] h = refl
 visit_none c low high n w (x ∷ xs) h = absurd (false≢true (sym h))
 
--- where no reply is known, the scan is not over
+-- if no reply is known, the scan is not over
 pub asks_on : (c : Setting) (step : ScanStep) (w : Walk) → reply_of (scan_turn c (at step w)) ≡ None → is_over step ≡ false
 asks_on c (Lock entry first) w e = refl
 asks_on c (Exchange entry v) w e = refl

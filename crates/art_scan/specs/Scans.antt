@@ -21,7 +21,7 @@ low_of s = s.low
 abbrev pub high_of : Scanning → ℕ
 high_of s = s.high
 
--- where it is behind a word
+-- the scan's stage after a word
 abbrev pub scan_behind : Setting → Scanning → ℕ → ScanAt
 scan_behind c s word = scan_after c (low_of s) (high_of s) (scan_of s) word
 

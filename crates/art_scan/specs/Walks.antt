@@ -13,7 +13,7 @@ use Rattle.art_stages.specs.Scans.{Walk, ScanAt, walked, words_at, child_from, l
 use Rattle.art_scan.specs.declared.lists.Lists.{Lists}
 use Rattle.art_scan.specs.declared.children.WalkedByte.{WalkedByte}
 
--- of the rows those that are not yet released; the way has the lowest row first
+-- the rows that are not yet released, the pairs, and the way with the lowest row first
 abbrev pub walk_of : Lists → Walk
 walk_of l = record { rows = drop l.released l.rows.items; pairs = l.pairs.items; way = reverse l.way.items }
 
@@ -46,12 +46,12 @@ frame_slot kind f x = place_slot f.row.kind f.row.base (place_of x (keys_among k
 abbrev pub IsPassed : Kind → Frame → ℕ → Type 0
 IsPassed kind f y = (frame_slot kind f y ≡ None) ⊎ ((low high : ℕ) → frame_test kind low high f y ≡ false)
 
--- the keys under a byte of a row do not all come behind this one
+-- some key under a byte of a row is not greater than this one
 abbrev pub begins_by : ℕ → Held → ℕ → Bool
 begins_by high n x =
     nat_le ((256 * big_endian 0 (info_of n.kind n.info).path + x) * 256 ^ (3 - (info_of n.kind n.info).level)) high
 
--- behind the bytes of a row come its index words, in kind 48
+-- after the bytes of a row come its index words, in kind 48
 abbrev pub words_behind : Kind → ℕ → ℕ → Held → Walk → ℕ → ℕ → ScanAt → ScanAt
 words_behind FortyEight low high n w j m other = words_at low high n w (j + 1) m other
 words_behind kind low high n w j m other = other

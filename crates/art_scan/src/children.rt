@@ -9,17 +9,17 @@ use crate::met_bytes::is_met_in;
 use crate::next_keys::{next_key4, next_key16};
 use crate::ranges::{bytes_ahead, is_behind};
 use art_rows::{Kind, index_entry};
-use art_setting::child_slot;
-use art_stages::{Frame, Held, ScanStep};
+use art_stages::{Frame, Held, ScanStep, child_slot};
 
-/// A byte that has a slot, and the slot; the byte is 256 where there is none.
+/// A byte that has a slot, and the slot; the byte is 256 if there is none.
 #[derive(Clone, Copy)]
 pub struct ByteSlot {
     pub byte: u32,
     pub slot: usize,
 }
 
-/// The next byte with an entry, from this one on among so many of a frame's index word, in kind 48.
+/// The next byte with an entry, from this one on among this many of a frame's index word, in kind
+/// 48.
 fn next_entry(frame: &Frame, byte: u32, left: u32) -> ByteSlot
     requires { byte + left ≤ 256 }
     ensures most { result.byte ≤ 256 }
@@ -42,7 +42,7 @@ fn next_entry(frame: &Frame, byte: u32, left: u32) -> ByteSlot
     }
 }
 
-/// The same among those of all its index word.
+/// The slot of the next byte among all entries of its index word.
 fn next_in_word(frame: &Frame, byte: u32) -> ByteSlot
     requires index { frame.now.index ≤ 31 }
     requires byte { byte < 256 }
@@ -98,7 +98,8 @@ fn next_slot(frame: &Frame, byte: u32) -> ByteSlot
     }
 }
 
-/// A byte that is walked, as the one behind it, with so many bytes left from there on, and its slot.
+/// A byte that is walked, given as the byte after it, with how many bytes are left from there on,
+/// and its slot.
 #[derive(Clone, Copy)]
 pub struct WalkedByte {
     pub next: u32,
@@ -133,7 +134,7 @@ fn next_walked(low: u64, high: u64, frame: &Frame) -> Option<WalkedByte>
     })
 }
 
-/// A frame goes on to the next byte that is walked, and its slot; is there one?
+/// Moves a frame to the next byte that is walked, and its slot. Returns whether there is one.
 #[inline(always)]
 pub fn move_on(low: u64, high: u64, frame: &mut Frame, slot: &mut usize) -> bool
     requires { is_sound_frame frame.old ≡ true }
@@ -154,7 +155,8 @@ pub fn move_on(low: u64, high: u64, frame: &mut Frame, slot: &mut usize) -> bool
     }
 }
 
-/// The step goes to the next index word that holds a byte, among so many from this one on; is there one?
+/// Moves the step to the next index word that holds a byte, among this many from this one on.
+/// Returns whether there is one.
 pub fn go_to_word(
     low: u64,
     high: u64,
@@ -183,7 +185,8 @@ pub fn go_to_word(
     }
 }
 
-/// The step goes to the next index word behind this one, among so many, in kind 48; is there one?
+/// In kind 48, moves the step to the next index word after this one, among this many. Returns
+/// whether there is one.
 pub fn go_behind(
     low: u64,
     high: u64,
@@ -203,7 +206,8 @@ pub fn go_behind(
     }
 }
 
-/// The step goes to the next child of a row, or to its next index word; is there one?
+/// Moves the step to the next child of a row, or to its next index word. Returns whether there is
+/// one.
 pub fn go_to_child(low: u64, high: u64, frame: &Frame, step: &mut ScanStep) -> bool
     requires { is_sound_frame frame.now ≡ true }
     ensures next { (w : Walk) (other : ScanAt) → frame_at frame.now.row.kind low high w frame.now other

@@ -9,11 +9,11 @@ use art_steps::MAX_LEAVES;
 use events::{Memory, Pairs};
 use std::alloc::Global;
 
-/// What a scan keeps beside its step.
+/// What a scan stores in addition to its step.
 #[derive(Drop)]
 pub struct Lists {
     pub(crate) rows: Vec<Held>,
-    /// So many of the rows are released.
+    /// How many of the rows are released.
     pub(crate) released: usize,
     pub(crate) pairs: Vec<(u64, u64)>,
     /// The rows on the way, the root first.
@@ -61,7 +61,7 @@ impl Lists {
         Ok(())
     }
 
-    /// A row is met; one that was met before keeps its first place.
+    /// Notes a row that is met. One that was met before keeps its first place.
     pub fn meet(&mut self, row: Held)
         requires { vec_len self.old.rows < vec_capacity self.old.rows }
         ensures met { walk_of self.new ≡ with_held row (walk_of self.old) }
@@ -75,7 +75,7 @@ impl Lists {
         }
     }
 
-    /// A leaf is met, which may count.
+    /// Notes a leaf that is met, if its key is in the range and there is room for its pair.
     pub fn count(&mut self, low: u64, high: u64, key: u32, value: u32)
         requires { vec_len self.old.pairs < vec_capacity self.old.pairs }
         ensures { walk_of self.new ≡ with_pair low high key value (walk_of self.old) }
@@ -101,7 +101,7 @@ impl Lists {
         }
     }
 
-    /// Back to the lowest row of the way.
+    /// Goes back to the lowest row of the way.
     pub fn ascend(&mut self) -> Option<Frame>
         ensures none { result ≡ None → ((walk_of self.old).way ≡ []) × (walk_of self.new ≡ walk_of self.old) }
         ensures some { (frame : Frame) → result ≡ Some frame → walk_of self.old ≡ with_frame (walk_of self.new) frame }
@@ -111,7 +111,8 @@ impl Lists {
         self.way.pop()
     }
 
-    /// The first row that is not released yet is next to be.
+    /// Moves the step to the release of the first row that is not released yet, or to the end if
+    /// there is none.
     pub fn release(&mut self, step: &mut ScanStep)
         ensures step { at step.new (walk_of self.new) ≡ release_rows (walk_of self.old).rows (walk_of self.old).pairs }
         ensures sound { is_sound_step step.new ≡ true }
@@ -126,7 +127,7 @@ impl Lists {
         }
     }
 
-    /// All rows are as if they were released.
+    /// Marks all rows as released.
     pub fn release_all(&mut self)
         ensures { walk_of self.new ≡ record { rows = []; pairs = (walk_of self.old).pairs; way = (walk_of self.old).way } }
     {

@@ -9,7 +9,7 @@ ghost use Rattle.art_scan.specs.Walks.{has_any};
 use crate::ranges::{bytes_ahead, can_lie};
 use art_stages::Held;
 
-/// Is there one among so many bytes from this one on?
+/// Is there one among this many bytes from this one on?
 fn is_met_from(low: u64, high: u64, row: Held, byte: u32, left: u32) -> bool
     requires { byte + left ≤ 256 }
     ensures { result ≡ has_any (filter (can_hold low high (row_at row)) (numbers byte left)) }

@@ -4,15 +4,15 @@ ghost use Rattle.art_rows.specs.Words.{low_bytes, place_of, keys4_of, keys16_of}
 
 use art_rows::{key_count, keys_count};
 
-/// A key byte and its place; the byte is 256 where there is none.
+/// A key byte and its place; the byte is 256 if there is none.
 #[derive(Clone, Copy)]
 pub struct KeyPlace {
     pub byte: u32,
     pub place: u32,
 }
 
-/// The least byte from this one on among so many bytes of a word, the first of which is at this place; what was found before
-/// where none is less.
+/// The least byte from this one on, among this many bytes of a word, the first of which is at this
+/// place. If none is less, it is what was found before.
 fn least_among(word: u64, count: u32, byte: u32, place: u32, found: KeyPlace) -> KeyPlace
     requires { place + count ≤ 16 }
     ensures most { result.byte ≤ found.byte }
@@ -53,7 +53,7 @@ fn find_least(word: u64, count: u32, byte: u32, place: u32, found: &mut KeyPlace
     }
 }
 
-/// The least byte from this one on among the key bytes of a row of kind 4,
+/// The least byte from this one on among the key bytes of a row of kind 4.
 pub fn next_key4(keys: u64, byte: u32) -> KeyPlace
     ensures most { result.byte ≤ 256 }
     ensures from { result.byte < 256 → byte ≤ result.byte }
@@ -68,7 +68,7 @@ pub fn next_key4(keys: u64, byte: u32) -> KeyPlace
     least_among(keys / 256, keys_count(keys), byte, 0, none)
 }
 
-/// and of kind 16.
+/// The place of the next key from a byte on, in a row of kind 16.
 pub fn next_key16(count: u64, first: u64, second: u64, byte: u32) -> KeyPlace
     ensures most { result.byte ≤ 256 }
     ensures from { result.byte < 256 → byte ≤ result.byte }

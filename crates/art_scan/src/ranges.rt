@@ -48,7 +48,8 @@ pub fn can_lie(low: u64, high: u64, row: Held, byte: u32) -> bool
     prefix * keys <= high && low < (prefix + 1) * keys
 }
 
-/// Do all keys that begin with the row's path and this byte, or with a greater one, come behind the last one?
+/// Do all keys that begin with the row's path and this byte, or with a greater one, come after the
+/// range's last key?
 #[inline(always)]
 pub fn is_behind(high: u64, row: Held, byte: u32) -> bool
     requires { byte < 256 }
@@ -59,7 +60,8 @@ pub fn is_behind(high: u64, row: Held, byte: u32) -> bool
     prefix * keys_below(info_level(row.kind, row.info)) > high
 }
 
-/// How often the keys that have one path and byte in a row of this level go into the keys below this one.
+/// How many groups of keys are below this key. A group has all keys with one path and byte in a row
+/// of this level.
 fn paths_below(low: u64, level: u32) -> u64
     requires { level ≤ 3 }
     ensures least { result * 256 ^ (3 - level) ≤ low }
@@ -73,8 +75,8 @@ fn paths_below(low: u64, level: u32) -> u64
     }
 }
 
-/// So many of the bytes from this one on are passed over, since all keys that begin with the row's path and one of them come
-/// before the first one; those of the next byte do not.
+/// How many bytes from this one on are passed over. All keys that begin with the row's path and one
+/// of them come before the range's first key. Those of the next byte do not.
 pub fn bytes_ahead(low: u64, row: Held, byte: u32, left: u32) -> u32
     requires { byte + left ≤ 256 }
     ensures most { result ≤ left }

@@ -6,14 +6,13 @@ use crate::lists::Lists;
 use crate::steps::make_step;
 use crate::turns::{access_at, point_at};
 use crate::walks::enter;
-use art_setting::Setting;
-use art_stages::{Entry, ScanStep};
+use art_stages::{Entry, ScanStep, Setting};
 use art_steps::{Access, Point};
 use events::{Memory, Reply};
 use std::alloc::Global;
 use std::mem;
 
-/// A scan under way between two keys, both included. It takes its first room where it is made ready.
+/// A scan under way between two keys, both included. It takes its first room when it is made ready.
 #[derive(Drop)]
 pub struct Scanning {
     pub(crate) low: u64,
@@ -28,7 +27,7 @@ impl Scanning {
     ghost use Rattle.art_steps.specs.Steps.{access_of, reply_of};
     ghost use Rattle.art_steps.specs.Act.{point_of};
     ghost use Rattle.art_stages.specs.Scans.{scan_start, scan_turn};
-    ghost use Rattle.art_setting.specs.Settings.{setting_of};
+    ghost use Rattle.art_stages.specs.Settings.{setting_of};
     ghost use Rattle.events.specs.declared.event.Reply.TheVariants.{Pairs};
     ghost use Rattle.art_scan.specs.Scans.{walk_in, scan_of, scan_behind, low_of, high_of, IsRoomy};
 
@@ -48,7 +47,7 @@ impl Scanning {
         }
     }
 
-    /// Takes the room that the next access may want.
+    /// Takes the room that the next access may need.
     #[inline(always)]
     pub fn ready(&mut self, alloc: Global) -> Result<(), Memory>
         ensures low { low_of self.new ≡ low_of self.old }
@@ -75,14 +74,15 @@ impl Scanning {
         access_at(setting, &self.step)
     }
 
-    /// The point of the next access; `Answer` where the reply is known.
+    /// The point of the next access; `Answer` if the reply is known.
     pub fn point(&self, setting: &Setting) -> Option<Point>
         ensures { result ≡ point_of (scan_turn (setting_of setting.now) (scan_of self.now)) }
     {
         point_at(setting, self.step)
     }
 
-    /// The access got this; the reply, once it is known, with the pairs that the scan has found.
+    /// Takes what the access got, and returns the reply once it is known, with the pairs that the
+    /// scan has found.
     pub fn take(&mut self, setting: &Setting, got: u64) -> Option<Reply>
         requires room { IsRoomy self.old }
         ensures low { low_of self.new ≡ low_of self.old }
@@ -104,8 +104,8 @@ impl Scanning {
         Some(Scanning::give_pairs(&mut self.lists))
     }
 
-    /// The reply of a scan that is over, which gives its pairs away. It stands apart, so that a step before the end clears no
-    /// room for it.
+    /// The reply of a scan that is over, which gives its pairs away. It is a function of its own,
+    /// so that a step before the end clears no room for the reply.
     fn give_pairs(lists: &mut Option<Lists>) -> Reply
         requires { is_some lists.old ≡ true }
         ensures pairs { result ≡ Pairs (walk_in lists.old).pairs }

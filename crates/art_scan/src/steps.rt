@@ -7,7 +7,7 @@ ghost use Rattle.art_stages.specs.declared.stage.ScanStep.TheVariants.{Lock, Exc
 ghost use Rattle.art_stages.specs.Scans.{Walk, at, step_after as step_behind, enter_at, entry_at, keys_after_word, release_after};
 ghost use Rattle.art_stages.specs.Scans.{scan_start};
 ghost use Rattle.art_stages.specs.Scans.{with_frame, resume_at, visit_at, frame_of as frame_from};
-ghost use Rattle.art_setting.specs.Settings.{setting_of};
+ghost use Rattle.art_stages.specs.Settings.{setting_of};
 ghost use Rattle.art_scan.specs.Sound.{is_sound_frame, is_sound_step};
 ghost use Rattle.art_scan.specs.Walks.{walk_of, HasRoomForOneMore};
 
@@ -15,8 +15,7 @@ use crate::children::move_on;
 use crate::lists::Lists;
 use crate::walks::{close, enter, frame_of, go_on, keys_one, leave, visit};
 use art_rows::{Child, Kind, version_is_locked, version_is_obsolete};
-use art_setting::Setting;
-use art_stages::{Entry, Frame, Held, Keys, ScanStep};
+use art_stages::{Entry, Frame, Held, Keys, ScanStep, Setting};
 
 /// The scan starts again at the root.
 fn restart(setting: &Setting, lists: &mut Lists, step: &mut ScanStep)
@@ -173,7 +172,7 @@ fn lock_read(entry: Entry, got: u64, step: &mut ScanStep)
     };
 }
 
-/// The version of a row was exchanged, where it was this one.
+/// Notes that the version of a row was exchanged, if it was this one.
 fn take_exchange(
     setting: &Setting,
     low: u64,

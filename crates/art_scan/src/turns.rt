@@ -5,13 +5,14 @@ ghost use Rattle.art_steps.specs.Steps.{access_of};
 ghost use Rattle.art_steps.specs.Act.{point_of};
 ghost use Rattle.art_steps.specs.Rows.{lock_point as point_of_lock, locks};
 ghost use Rattle.art_stages.specs.Scans.{Walk, at, entry_base as base_of_entry, scan_turn, keys_turn, release_turn};
-ghost use Rattle.art_setting.specs.Settings.{setting_of};
+ghost use Rattle.art_stages.specs.Settings.{setting_of};
 ghost use Rattle.art_steps.specs.declared.access.Access.TheVariants.{Load};
 ghost use Rattle.art_scan.specs.Sound.{is_sound_step, is_over};
 
 use art_rows::{Kind, version_locked, version_released};
-use art_setting::{Setting, count_slot, index_slot, info_slot, keys_slot, more_keys_slot};
-use art_stages::{Entry, Held, ScanStep};
+use art_stages::{
+    Entry, Held, ScanStep, Setting, count_slot, index_slot, info_slot, keys_slot, more_keys_slot,
+};
 use art_steps::{Access, Point};
 
 fn entry_base(setting: &Setting, entry: Entry) -> usize
@@ -32,7 +33,7 @@ fn first_word(row: Held) -> usize
     }
 }
 
-/// A row is unlocked at the end where reads are locked, and else checked.
+/// A row is unlocked at the end if reads are locked, and else checked.
 fn release(setting: &Setting, row: Held) -> Access
     ensures { access_of (release_turn (locks setting.now.variant) row) ≡ Some result }
 {

@@ -2,7 +2,7 @@
 ghost use Rattle.std.specs.Prelude.{◌≡◌, ◌+◌, ◌<◌, ◌≤◌, true, vec_len, vec_capacity};
 ghost use Rattle.art_stages.specs.Automaton.{keys_one as one_word};
 ghost use Rattle.art_stages.specs.Scans.{Walk, at, with_frame, frame_of as frame_from, close_at, resume_at, row_begins, visit_at, enter_at};
-ghost use Rattle.art_setting.specs.Settings.{setting_of};
+ghost use Rattle.art_stages.specs.Settings.{setting_of};
 ghost use Rattle.art_scan.specs.Sound.{is_sound_frame, is_sound_step};
 ghost use Rattle.art_scan.specs.Walks.{walk_of, words_behind};
 
@@ -10,8 +10,7 @@ use crate::children::{go_behind, go_to_child, go_to_word};
 use crate::lists::Lists;
 use crate::met_bytes::is_met;
 use art_rows::Kind;
-use art_setting::Setting;
-use art_stages::{Entry, Frame, Held, Keys, ScanStep};
+use art_stages::{Entry, Frame, Held, Keys, ScanStep, Setting};
 
 /// A row is locked or waited for.
 pub fn enter(setting: &Setting, entry: Entry, step: &mut ScanStep)
@@ -69,7 +68,7 @@ pub fn go_on(
     }
 }
 
-/// Its bytes are walked: the walk goes on behind them.
+/// The row's bytes are walked: the walk goes on after them.
 #[inline(always)]
 pub fn leave(
     setting: &Setting,
@@ -148,7 +147,7 @@ fn begin_row(
     }
 }
 
-/// A row is met; where no key can lie below it, nothing more is loaded of it.
+/// Meets a row. If no key can be below it, nothing more is loaded of it.
 pub fn visit(
     setting: &Setting,
     low: u64,

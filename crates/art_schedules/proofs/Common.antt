@@ -1,18 +1,17 @@
 -- The names that most proofs of this crate cite, passed on from one place. Declares nothing.
-pub use Rattle.std.proofs.Common.{Bool, List, [], ap, ap₂, arith, cond, drop, eq-eqb, eqb-true, false, inl, inr, length, ne_eqb, option_map}
-pub use Rattle.std.proofs.Common.{refl, subst, suc, sym, take, true, zero, ℕ, ⊎_elim, ◌%◌, ◌*◌, ◌++◌, ◌+◌, ◌-◌, ◌/◌, ◌<◌, ◌^◌, ◌∙◌, ◌∷◌, ◌≡◌}
-pub use Rattle.std.proofs.Common.{◌≢◌, ◌≤◌, ◌⊎◌}
+pub use Rattle.std.proofs.Common.{Bool, List, [], ap, append_assoc, ap₂, arith, cond, drop, eq-eqb, eqb-true, false, inl, inr, length, ne_eqb}
+pub use Rattle.std.proofs.Common.{option_map, refl, subst, suc, sym, take, true, zero, ℕ, ⊎_elim, ◌%◌, ◌*◌, ◌++◌, ◌+◌, ◌-◌, ◌/◌, ◌<◌, ◌^◌, ◌∙◌, ◌∷◌}
+pub use Rattle.std.proofs.Common.{◌≡◌, ◌≢◌, ◌≤◌, ◌⊎◌}
 pub use Rattle.std.proofs.Math.Seq.{take-length}
 pub use Rattle.std.proofs.lemmas.Bool.{and_parts, cases_Bool, cases_eq, cases_lt, cases_order, eqb-false, false_from_ne_true, false≢true, le-ltb}
 pub use Rattle.std.proofs.lemmas.Bool.{lt-ltb, ltb-true, or_from, or_left, or_right, true≢false}
 pub use Rattle.std.proofs.lemmas.List.{append-nil, get_or_past, length-append, length-set, set-get_or, take-append-drop, take-append-le}
-pub use Rattle.std.proofs.lemmas.List.Elements.{All-append, All-cons, All-contains, All-nil, All-set, Contains-append_left}
-pub use Rattle.std.proofs.lemmas.List.Elements.{Contains-append_right}
+pub use Rattle.std.proofs.lemmas.List.Elements.{All-append, All-cons, All-contains, All-nil, All-set, Contains-append_left, Contains-append_right}
 pub use Rattle.std.proofs.lemmas.List.Kept.{AllPairs-cons}
 pub use Rattle.std.proofs.lemmas.Option.{none-some, same_Some, slice_get-map, slice_get_within}
 pub use Rattle.std.specs.Prelude.{All, AllPairs, Contains, IfSome, IsSome, IsTrue, None, Option, Some, filter, if◌then◌else◌, is_some, map, min}
 pub use Rattle.std.specs.Prelude.{nat_le, nat_lt, set, slice_get, slice_index, slice_set, ◌&&◌, ◌==◌, ◌↔◌}
-pub use Rattle.art_core.proofs.HistoryLemmas.{changed-at, is-moved, logged, nowhere, opened-logged, start-clock, start-length, steps-rise}
+pub use Rattle.art_core.proofs.HistoryLemmas.{all-idle, changed-at, is-moved, logged, nowhere, opened-logged, start-clock, start-length, steps-rise}
 pub use Rattle.art_core.proofs.RunLemmas.{begun-more, run-on-append}
 pub use Rattle.art_core.proofs.StartLemmas.{run-steps}
 pub use Rattle.art_core.specs.Accesses.{changed, got_by, told, words_after}
@@ -22,17 +21,19 @@ pub use Rattle.art_core.specs.Core.{new_word, next_call, next_move, opened, open
 unfoldable pub use Rattle.art_core.specs.Core.{history_of, step}
 pub use Rattle.art_core.specs.Forms.{HasForm, level_in, path_in}
 pub use Rattle.art_core.specs.Meaning.{Means, Reached, below, child_in, child_on, root, slot_of}
+pub use Rattle.art_core.specs.Moments.{BeginsAttempt, Enters, HasGot}
 pub use Rattle.art_core.specs.Plans.{IsRun}
 pub use Rattle.art_core.specs.Runs.{At, Gives, run_on}
-pub use Rattle.art_core.specs.Starts.{inserts, start_plan}
+pub use Rattle.art_core.specs.Starts.{StartsOn, inserts, start_plan}
 pub use Rattle.art_core.specs.declared.process.Process.{Process}
-pub use Rattle.art_rows.proofs.ByteLemmas.{key_byte-small}
+pub use Rattle.art_rows.proofs.ByteLemmas.{key_byte-small, keys16-few, keys4-few}
 pub use Rattle.art_rows.proofs.KindLemmas.{claims-few, first-some, seven-words, some-words, two-words}
-pub use Rattle.art_rows.specs.Table.{base_of, capacity, child_at, claims_of, count_at, index_at, info_at, keys_at, kind_at, more_keys_at}
-pub use Rattle.art_rows.specs.Table.{opening, root_base, row_words, rows_of, table_words}
+pub use Rattle.art_rows.proofs.WriterLemmas.{new_place-most}
+pub use Rattle.art_rows.specs.Table.{base_of, capacity, child_at, claims_of, count_at, index_at, info_at, keys_at, kind_at, more_keys_at, opening}
+pub use Rattle.art_rows.specs.Table.{root_base, row_words, rows_of, table_words}
 pub use Rattle.art_rows.specs.Words.{child_of, child_word, count_of, entries_of, entries_word, first_difference, info_of, info_word, is_locked}
-pub use Rattle.art_rows.specs.Words.{is_obsolete, key_bytes, keys16_of, keys16_word, keys4_of, keys4_word, leaf_word, locked_word}
-pub use Rattle.art_rows.specs.Words.{more_keys16_word, obsolete_word, place_of, released_word, row_word, with_key}
+pub use Rattle.art_rows.specs.Words.{is_obsolete, key_bytes, keys16_of, keys16_word, keys4_of, keys4_word, leaf_word, locked_word, more_keys16_word}
+pub use Rattle.art_rows.specs.Words.{obsolete_word, place_of, released_word, row_child, row_word, with_key}
 pub use Rattle.art_rows.specs.declared.table.Child.{Child}
 pub use Rattle.art_rows.specs.declared.table.Child.TheVariants.{Empty, Leaf, Row, Row as ChildRow}
 pub use Rattle.art_rows.specs.declared.table.Kind.{Kind}
@@ -43,11 +44,11 @@ pub use Rattle.art_schedules.specs.calls.Laws.{EffectsGiveOrders, FrontsHaveMome
 pub use Rattle.art_schedules.specs.calls.RunCalls.{EndsAt, EndsWith, HasCalls, IsIn, IsRunCall, IsWithin, RunCall, last_step}
 pub use Rattle.art_schedules.specs.calm.Calm.{IsCalm, is_busy}
 unfoldable pub use Rattle.art_schedules.specs.calm.Calm.{calm_after, calm_of}
-pub use Rattle.art_schedules.specs.calm.Changes.{AsksFor, CalmChange, CalmFilled, CalmReleased, CalmStays, CalmStep, HoldsThen, RowChange}
-pub use Rattle.art_schedules.specs.calm.Changes.{RowFilled, RowReleased, RowTaken, RowWritten, RowsStay}
+pub use Rattle.art_schedules.specs.calm.Changes.{AsksFor, CalmChange, CalmFilled, CalmReleased, CalmStays, CalmStep, HoldsThen, RowChange, RowFilled}
+pub use Rattle.art_schedules.specs.calm.Changes.{RowReleased, RowTaken, RowWritten, RowsStay}
 pub use Rattle.art_schedules.specs.changes.Courses.{ComesInBy, IsGoneBy, IsStill, TreeGoesOn, pairs_by}
-pub use Rattle.art_schedules.specs.changes.Effects.{ComesIn, Effect, Fills, HangsGrown, HangsPair, HasEffect, IsGone, Keeps, PutsLeaf}
-pub use Rattle.art_schedules.specs.changes.Effects.{RemovesLeaf, base_of_effect, kind_of_effect}
+pub use Rattle.art_schedules.specs.changes.Effects.{ComesIn, Effect, Fills, HangsGrown, HangsPair, HasEffect, IsGone, Keeps, PutsLeaf, RemovesLeaf}
+pub use Rattle.art_schedules.specs.changes.Effects.{base_of_effect, kind_of_effect}
 pub use Rattle.art_schedules.specs.changes.Follows.{Follows, HasFewClaims, KeepsTree}
 pub use Rattle.art_schedules.specs.changes.Laws.{EffectsFollow, KeptTreesFollow, WaysSayValues}
 pub use Rattle.art_schedules.specs.changes.Rows.{HasNewChild, OneRow}
@@ -55,8 +56,8 @@ pub use Rattle.art_schedules.specs.changes.Sayings.{IsSaidBy}
 pub use Rattle.art_schedules.specs.changes.Written.{HasWordAt, IsUnreached}
 pub use Rattle.art_schedules.specs.coupled.Good.{GoodRowsStay, HoldsGood, OthersLeaveGood, SeekersAreNotAnswered, TakesReached, WaysTakeReached}
 pub use Rattle.art_schedules.specs.coupled.Knows.{IsHeldLive, KnowsAt, KnowsInfo, KnowsReply, KnowsTarget}
-pub use Rattle.art_schedules.specs.coupled.Laws.{CallsBegin, CallsGoOn, CallsStay, FoundIsAnswered, ObsoleteRowsLeave, OthersLeaveWays}
-pub use Rattle.art_schedules.specs.coupled.Laws.{RestsHaveNone, WaysTakeLive}
+pub use Rattle.art_schedules.specs.coupled.Laws.{CallsBegin, CallsGoOn, CallsStay, FoundIsAnswered, ObsoleteRowsLeave, OthersLeaveWays, RestsHaveNone}
+pub use Rattle.art_schedules.specs.coupled.Laws.{WaysTakeLive}
 pub use Rattle.art_schedules.specs.coupled.Moments.{HeldAreLive, IsCoupledStep, IsLeaving, LeavesBy, MakesLeave, ObsoleteLeave, TakesLive}
 pub use Rattle.art_schedules.specs.coupled.Scanning.{KnowsEntry, KnowsFrame, KnowsStep, KnowsTree, KnowsWords, StaysAt}
 pub use Rattle.art_schedules.specs.coupled.Walks.{Alone, IsOfRows, IsOver, SameOn, WalksAreTheMaps}
@@ -64,17 +65,20 @@ pub use Rattle.art_schedules.specs.coupled_runs.CoupledFits.{CoupledFits, HasNon
 pub use Rattle.art_schedules.specs.coupled_runs.KeptScans.{ScansAreKept}
 pub use Rattle.art_schedules.specs.coupled_runs.Linear.{HaveScans, LedAreLinearizable}
 pub use Rattle.art_schedules.specs.effects.AtWork.{Answering, AtEnd, AtWork, Claiming, FillsAt, Going, Gone, Hanging, HasFilledFresh, HasNew}
-pub use Rattle.art_schedules.specs.effects.AtWork.{IsClaiming, IsEffectOf, IsGoing, IsHanging, IsOld, IsPending, IsReleasing, Last, Leaving}
-pub use Rattle.art_schedules.specs.effects.AtWork.{Lower, claims_row, fresh_of, growing_at, hold_at, writes_at}
+pub use Rattle.art_schedules.specs.effects.AtWork.{IsClaiming, IsEffectOf, IsGoing, IsHanging, IsOld, IsPending, IsReleasing, Last, Leaving, Lower}
+pub use Rattle.art_schedules.specs.effects.AtWork.{claims_row, fresh_of, growing_at, hold_at, writes_at}
 pub use Rattle.art_schedules.specs.effects.Begins.{BeginsWork, IsOverwritten, upper_of, upper_row}
 pub use Rattle.art_schedules.specs.effects.Laws.{EndersGoOn, LeaversStep, ObsoleteRowsHang, OthersKeepEnds, OthersKeepMarked, OthersKeepWork}
 pub use Rattle.art_schedules.specs.effects.Laws.{WorkBegins, WorkersGoOn, WorkersMayHaveNoMark, WorkersOnlyWork, WorkersStep}
 pub use Rattle.art_schedules.specs.effects.Marks.{EnderStep, IsMarked, IsMarkedBy, WorkerStep, obsolete_by}
 pub use Rattle.art_schedules.specs.effects.Outcomes.{Answers as AnswersNow, AreTwoRows, EndStep, HoldsReached, IsOther, IsRefused, Leaves, Makes}
 pub use Rattle.art_schedules.specs.effects.Outcomes.{TakesEffect, WorkStep}
-pub use Rattle.art_schedules.specs.locked_scans.Laws.{FoundScansAnswer, FoundScansStay, OthersLeaveScans, OthersLeaveTrees, ScansBegin}
-pub use Rattle.art_schedules.specs.locked_scans.Laws.{ScansComeOn, ScansTakeLive, ScansTakeReached, WalkedScansFind, WalkingScansAsk}
+pub use Rattle.art_schedules.specs.locked_scans.Laws.{FoundScansAnswer, FoundScansStay, OthersLeaveScans, OthersLeaveTrees, ScansBegin, ScansComeOn}
+pub use Rattle.art_schedules.specs.locked_scans.Laws.{ScansTakeLive, ScansTakeReached, WalkedScansFind, WalkingScansAsk}
 pub use Rattle.art_schedules.specs.locked_scans.Walking.{HasWalked, ScanComes, ScanGoes, ScanStays, rows_of_scan, unwaited}
+pub use Rattle.art_schedules.specs.moments.Attempts.{IsValidated}
+pub use Rattle.art_schedules.specs.moments.Gets.{IsCheckedGet}
+pub use Rattle.art_schedules.specs.moments.Times.{GotAt}
 pub use Rattle.art_schedules.specs.optimistic.Goes.{Agrees, Gets, Goes, GoesOn}
 pub use Rattle.art_schedules.specs.optimistic.Knows.{AllStand, HangsBelow, IsBelow, IsHeldReached, IsPast, IsReachedHere, KnowsPlace, KnowsStage}
 pub use Rattle.art_schedules.specs.optimistic.Knows.{KnowsWay, Stands, hold_taken}
@@ -88,11 +92,23 @@ pub use Rattle.art_schedules.specs.stories.Fitting.{AllFit, AnswersCall, AreLed,
 pub use Rattle.art_schedules.specs.stories.Fitting.{IsLedOn, IsToldStep, MakesAccess, MeansAt, Next, OfCall, OfState, OwnStep, Stays, set_at}
 pub use Rattle.art_schedules.specs.stories.Fitting.{the_plan}
 pub use Rattle.art_schedules.specs.stories.Laws.{StartsAreAtRest, StoriesGiveOrders}
-pub use Rattle.art_schedules.specs.stories.Stories.{Before, Changed, Found, HasKept, HasNotChanged, HasReply, HasStatus, IsInCall, IsOwnStep}
-pub use Rattle.art_schedules.specs.stories.Stories.{IsStory, Status, Tale}
+pub use Rattle.art_schedules.specs.stories.Stories.{Before, Changed, Found, HasKept, HasNotChanged, HasReply, HasStatus, IsInCall, IsOwnStep, IsStory}
+pub use Rattle.art_schedules.specs.stories.Stories.{Status, Tale}
+pub use Rattle.art_schedules.specs.versions.Effects.{AccessDoes, Answered, Claims, Ends, Has as Leads, IsAmong, IsBehindVersion, IsGoodAt, IsWith}
+pub use Rattle.art_schedules.specs.versions.Effects.{Reads, Releases, Takes, With, Writes}
+pub use Rattle.art_schedules.specs.versions.Holding.{Each, FitsFrame, FitsPlace, FitsScan, FitsStage, FitsWork, HangsIn, HasSlot, IsFound, IsKept}
+pub use Rattle.art_schedules.specs.versions.Holding.{IsNamed, IsSlot, IsUnder, IsVersion, Knows, KnowsKey, KnowsRows, KnowsScanRows, Named, OfRows}
+pub use Rattle.art_schedules.specs.versions.Holding.{child_rows, fills, holds, kept_at_place, kept_below, optimistic, row_filled, rows_found}
+pub use Rattle.art_schedules.specs.versions.Holding.{rows_kept, rows_of_work}
+pub use Rattle.art_schedules.specs.versions.Laws.{IsFull}
+pub use Rattle.art_schedules.specs.versions.Locking.{all_of, held_at_place, held_at_stage, held_below, lock_of, locks_of, rows_of_hold}
+pub use Rattle.art_schedules.specs.versions.Locking.{rows_of_target, scan_held, scan_locked}
+pub use Rattle.art_schedules.specs.versions.Steady.{IsSteady, SameWords}
+pub use Rattle.art_schedules.specs.versions.Versions.{AreDistinct, IsAtStage, IsHeld, IsOpen, IsSettled, IsSound, filled_by, held_by, stage_of}
+pub use Rattle.art_schedules.specs.versions.Writers.{MayWrite, WritesOwn}
 pub use Rattle.art_schedules.specs.work.Laws.{WorkIsDone}
-pub use Rattle.art_schedules.specs.work.Own.{ClaimsRow, IsHeldWord, IsWalked, LoadsHeld, ReadsHeld, ReadsWalked, ReleasesHeld, Replies}
-pub use Rattle.art_schedules.specs.work.Own.{StoresOwn, TouchesOwn, is_claim, is_lock, is_work, may_release}
+pub use Rattle.art_schedules.specs.work.Own.{ClaimsRow, IsHeldWord, IsWalked, LoadsHeld, ReadsHeld, ReadsWalked, ReleasesHeld, Replies, StoresOwn}
+pub use Rattle.art_schedules.specs.work.Own.{TouchesOwn, is_claim, is_lock, is_work, may_release}
 pub use Rattle.art_schedules.specs.work.Solo.{Solo, Step, Suits, claims, further, here, loads, stores}
 pub use Rattle.art_schedules.specs.work.Ways.{HangsOnWay, HasChild, IsInTree, IsOnWay, IsSame, KnowsFinding, KnowsKeys, slot_in}
 pub use Rattle.art_schedules.specs.work.Works.{FitsWords, GrownHangs, IsDoneBy, IsInsert, IsRelease, IsWorkDone, LacksByte, PairHangs, RowsOf}
@@ -126,20 +142,20 @@ pub use Rattle.art_serial.specs.trees.Trees.{SameTreesAreOne, WaysLeadToValues}
 pub use Rattle.art_serial.specs.walks.Walks.{ScansAreTheMaps}
 pub use Rattle.art_serial.specs.words.Stored.{IsStored}
 pub use Rattle.art_serial.specs.writes.Writes.{HasPut, HasSameFields, IsOutside}
-pub use Rattle.art_stages.proofs.BehindLemmas.{call_next}
+pub use Rattle.art_stages.proofs.BehindLemmas.{behind, call_next}
 pub use Rattle.art_stages.specs.Automaton.{after_with, among_at, arrived_at, below_at, beside_work, between_turn, checked_at, copies_at, end_at}
 pub use Rattle.art_stages.specs.Automaton.{entered_at, entries_at, fill_at, find_at, find_turn, found_at, grow_count_turn, grow_keys_turn}
 pub use Rattle.art_stages.specs.Automaton.{grow_leaf_turn, grow_unlocked, hold_alone, indexed_at, insert_coupled, insert_unlocked, keys_at_after}
 pub use Rattle.art_stages.specs.Automaton.{keys_one, leaf_after, leaf_work, let_go_at, moves_at, no_value, overwrite_at, overwrite_unlocked}
 pub use Rattle.art_stages.specs.Automaton.{pair_after, pair_turn, pair_work, place_coupled, put_at, put_keys_after, put_keys_turn, release_at}
-pub use Rattle.art_stages.specs.Automaton.{seek_coupled, seek_unlocked, spreads_at, stage_after, start_at, store_of, take_alone, taken_at}
-pub use Rattle.art_stages.specs.Automaton.{turn_at, work_at}
+pub use Rattle.art_stages.specs.Automaton.{seek_coupled, seek_unlocked, spreads_at, stage_after, start_at, store_of, take_alone, taken_at, turn_at}
+pub use Rattle.art_stages.specs.Automaton.{work_at}
 pub use Rattle.art_stages.specs.Calls.{CallAt, OnKey, OnScan, after_all, begun_as, call_after, call_begun, call_behind, call_turn, rest_at}
-pub use Rattle.art_stages.specs.Scans.{ScanAt, Walk, at, bytes_at, child_after, child_from, entry_at, entry_base, frame_at, frame_of, in_word}
-pub use Rattle.art_stages.specs.Scans.{index_at_list, keys16, keys_after_word, keys_turn, lies, on_way, place_slot, release_rows, resume_at}
+pub use Rattle.art_stages.specs.Scans.{ScanAt, Walk, at, bytes_at, child_after, child_from, close_at, entry_at, entry_base, frame_at, frame_of}
+pub use Rattle.art_stages.specs.Scans.{in_word, index_at_list, keys16, keys_after_word, keys_turn, lies, on_way, place_slot, release_rows, resume_at}
 pub use Rattle.art_stages.specs.Scans.{scan_after, scan_start, scan_turn, slot_at, step_after, visit_at, visit_list, walked, way_at, with_frame}
 pub use Rattle.art_stages.specs.Scans.{with_held, word_test, words_at}
-pub use Rattle.art_stages.specs.Stages.{byte_in, count_in, finish, held, keys_after, keys_among, keys_in, new_child, old_child, place_in}
+pub use Rattle.art_stages.specs.Stages.{byte_in, count_in, finish, held, keys_after, keys_among, keys_in, leaf_place, new_child, old_child, place_in}
 pub use Rattle.art_stages.specs.Stages.{reply_for, root_place, row_at, rows_at, rows_held, setting, value_reply}
 unfoldable pub use Rattle.art_stages.specs.Stages.{part_of, rest_in}
 pub use Rattle.art_stages.specs.declared.stage.Down.{Down}
@@ -161,21 +177,21 @@ pub use Rattle.art_stages.specs.declared.stage.ScanStep.TheVariants.{Child as Lo
 pub use Rattle.art_stages.specs.declared.stage.Spread.{Spread}
 pub use Rattle.art_stages.specs.declared.stage.Stage.{Stage}
 pub use Rattle.art_stages.specs.declared.stage.Stage.TheVariants.{Between, Check, CheckLast, ClaimGrow, ClaimPair, Exchange, Find, FindCount}
-pub use Rattle.art_stages.specs.declared.stage.Stage.TheVariants.{FindKeys, FindMore, GrowCount, GrowInfo, GrowKeys, GrowLeaf, GrowLoad}
-pub use Rattle.art_stages.specs.declared.stage.Stage.TheVariants.{GrowStore, Hang, Info, Leave, LetGo, Lock, Obsolete, Over, PutCount, PutKeys}
-pub use Rattle.art_stages.specs.declared.stage.Stage.TheVariants.{PutLeaf, PutLoad, PutMore, PutStore, Slot, SpreadIndex, SpreadLoad}
-pub use Rattle.art_stages.specs.declared.stage.Stage.TheVariants.{SpreadStore, StorePair, Take, Unlock, Wait, Write}
+pub use Rattle.art_stages.specs.declared.stage.Stage.TheVariants.{FindKeys, FindMore, GrowCount, GrowInfo, GrowKeys, GrowLeaf, GrowLoad, GrowStore}
+pub use Rattle.art_stages.specs.declared.stage.Stage.TheVariants.{Hang, Info, Leave, LetGo, Lock, Obsolete, Over, PutCount, PutKeys, PutLeaf, PutLoad}
+pub use Rattle.art_stages.specs.declared.stage.Stage.TheVariants.{PutMore, PutStore, Slot, SpreadIndex, SpreadLoad, SpreadStore, StorePair, Take}
+pub use Rattle.art_stages.specs.declared.stage.Stage.TheVariants.{Unlock, Wait, Write}
 pub use Rattle.art_stages.specs.declared.stage.Taking.{Taking}
 pub use Rattle.art_stages.specs.declared.stage.Target.{Target}
 pub use Rattle.art_stages.specs.declared.stage.Target.TheVariants.{Below, Root, Taken}
 pub use Rattle.art_stages.specs.declared.stage.Work.{Work}
 pub use Rattle.art_steps.proofs.AccessLemmas.{not_full}
 pub use Rattle.art_steps.proofs.TurnLemmas.{add-store, answers-asks, answers-same, asks-answers, asks-same, exchange-store, exchange-word}
-pub use Rattle.art_steps.proofs.TurnLemmas.{exchanges-same, load-add, load-exchange, load-store, load-word, store-add, store-exchange}
+pub use Rattle.art_steps.proofs.TurnLemmas.{exchanges-same, load-add, load-exchange, load-store, load-word, loads-same, store-add, store-exchange}
 pub use Rattle.art_steps.proofs.TurnLemmas.{store-word, stores-same}
 unfoldable pub use Rattle.art_steps.specs.Act.{act}
 pub use Rattle.art_steps.specs.Fits.{word_of}
-pub use Rattle.art_steps.specs.Rows.{Setting, byte_at, is_full, is_insert, is_scan, key_of, locks, path_differs_at}
+pub use Rattle.art_steps.specs.Rows.{Setting, byte_at, is_full, is_insert, is_scan, key_of, locks, path_differs_at, releases_early}
 unfoldable pub use Rattle.art_steps.specs.Rows.{unlock_all}
 pub use Rattle.art_steps.specs.Scan.{bytes_of, has_row, with_leaf}
 pub use Rattle.art_steps.specs.Steps.{Answers, Asks, Rest, Turn, give, numbers, reply_of, ◌>>◌}
@@ -186,27 +202,6 @@ pub use Rattle.art_steps.specs.declared.access.Access.TheVariants.{Add, Exchange
 pub use Rattle.art_steps.specs.declared.access.Point.{Point}
 pub use Rattle.art_steps.specs.declared.variant.Variant.{Variant}
 pub use Rattle.art_steps.specs.declared.variant.Variant.TheVariants.{Coupled, Optimistic}
-pub use Rattle.art_versions.proofs.moments.AttemptLemmas.{stage}
-pub use Rattle.art_versions.proofs.moments.ValidLemmas.{turn-is}
-pub use Rattle.art_versions.proofs.versions.ChangeLemmas.{index-other, set-other}
-pub use Rattle.art_versions.proofs.versions.FreshLemmas.{fresh-at}
-pub use Rattle.art_versions.proofs.versions.KeyLemmas.{slot-behind}
-pub use Rattle.art_versions.proofs.versions.KnownLemmas.{among-each, each-among, each-map, held-is-kept, knows-more, same-call}
-pub use Rattle.art_versions.proofs.versions.MoveLemmas.{no-items, settled-row, true-false}
-pub use Rattle.art_versions.proofs.versions.RunLemmas.{AllIdle, idle-idle, start-sound, written-at}
-pub use Rattle.art_versions.proofs.versions.StepLemmas.{after-more, does, next-turn, one-step}
-pub use Rattle.art_versions.proofs.versions.WithLemmas.{with-here}
-pub use Rattle.art_versions.proofs.versions.WordFacts.{count-most, version-free}
-pub use Rattle.art_versions.specs.versions.Effects.{AccessDoes, Answered, Claims, Ends, IsAmong, IsBehindVersion, IsGoodAt, IsWith, Reads}
-pub use Rattle.art_versions.specs.versions.Effects.{Releases, Takes, Writes}
-pub use Rattle.art_versions.specs.versions.Holding.{Each, FitsPlace, FitsStage, HangsIn, IsKept, IsNamed, IsSlot, IsUnder, Knows, KnowsKey}
-pub use Rattle.art_versions.specs.versions.Holding.{Named, OfRows, child_rows, fills, holds, row_filled, rows_kept}
-pub use Rattle.art_versions.specs.versions.Laws.{IsFull}
-pub use Rattle.art_versions.specs.versions.Locking.{all_of, held_at_place, held_at_stage, lock_of, locks_of, rows_of_hold, rows_of_target}
-pub use Rattle.art_versions.specs.versions.Locking.{scan_locked}
-pub use Rattle.art_versions.specs.versions.Steady.{IsSteady, SameWords}
-pub use Rattle.art_versions.specs.versions.Versions.{AreDistinct, IsAtStage, IsHeld, IsOpen, IsSettled, IsSound, filled_by, held_by, stage_of}
-pub use Rattle.art_versions.specs.versions.Writers.{WritesOwn}
 pub use Rattle.events.specs.Events.{process_of}
 pub use Rattle.events.specs.Limits.{pair_limit}
 pub use Rattle.events.specs.Operations.{operations}

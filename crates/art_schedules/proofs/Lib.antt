@@ -1,4 +1,6 @@
 mod Common
+pub mod versions
+pub mod moments
 pub mod points
 pub mod calls
 pub mod calm

@@ -1,3 +1,5 @@
+pub mod versions
+pub mod moments
 pub mod points
 pub mod calls
 pub mod calm

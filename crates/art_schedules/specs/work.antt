@@ -1,4 +1,4 @@
--- The work of a call in the rows that it holds: what it touches, and what it does where it goes on by itself.
+-- The work of a call in the rows that it holds: what it touches, and what it does if it runs alone.
 pub mod Solo
 pub mod Own
 pub mod Works

@@ -1,22 +1,25 @@
-//! Every schedule of the two full trees: calm, what each call knows, and where it takes effect. Laws alone, in parts:
-//! - points: points of calls: calls that each take effect at one moment have an order, by these moments; of any calls;
-//! - calls: the calls of the history of a run: which process began each, the steps that began and answered it, and that they keep
-//!   the map small;
+//! Every schedule of the two full trees: calm, what each call knows, and where it takes effect. Only laws, in parts:
+//! - versions: who holds a row and who writes it, and that a row does not change while its version does not;
+//! - moments: the one moment of a validated scan, and of a checked get: when nothing that it read changes;
+//! - points: points of any calls: calls that each take effect at one moment have an order, by these moments;
+//! - calls: the calls of the history of a run: which process began each, the steps that began and answered it, and that
+//!   they keep the map small;
 //! - calm: the words of the two full trees, where each locked or obsolete row is as it was before;
-//! - changes: what a change of one row makes of a tree in a table where no row is locked: the map after it, and the ways that
-//!   stay;
-//! - work: the work of a call in the rows that it holds: what it touches, and what it does where it goes on by itself;
-//! - effects: what the work of a call does to calm's tree in a run: nothing but at the one step that releases the row that
-//!   changes;
+//! - changes: what a change of one row makes of a tree in a table where no row is locked: the map after it, and the ways
+//!   that stay;
+//! - work: the work of a call in the rows that it holds: what it touches, and what it does if it runs alone;
+//! - effects: what the work of a call does to calm's tree in a run: it changes the tree only at the one step that
+//!   releases the row that changes;
 //! - stories: how far each call has come at each moment of a run, and how a schedule of a full tree decides that;
 //! - coupled: calls under lock coupling: what each knows on its way, up to its work or its reply;
 //! - locked_scans: scans under lock coupling: what each knows on its way, up to its reply;
-//! - coupled_runs: every schedule under lock coupling is linearizable: what fits each of its calls, and that each step keeps it;
+//! - coupled_runs: every schedule under lock coupling is linearizable: what fits each of its calls, and that each step
+//!   preserves it;
 //! - optimistic: calls of the optimistic tree: what each knows on its way, up to its work or its reply;
-//! - scan_points: the points of scans of the optimistic tree: a moment at which an answered scan is answered by the map that calm
-//!   means;
-//! - optimistic_runs: every schedule of the optimistic tree is linearizable: what fits each of its calls, and that each step
-//!   keeps it.
+//! - scan_points: the points of scans of the optimistic tree: a moment at which the map that calm means gives an
+//!   answered scan its reply;
+//! - optimistic_runs: every schedule of the optimistic tree is linearizable: what fits each of its calls, and that each
+//!   step preserves it.
 #![tactic(auto)]
 
 mod laws;
@@ -40,6 +43,10 @@ pub use laws::locked_scans::{
     found_scans_answer, found_scans_stay, others_leave_scans, others_leave_trees, scans_begin,
     scans_come_on, scans_take_live, scans_take_reached, walked_scans_find, walking_scans_ask,
 };
+pub use laws::moments::{
+    answered_gets_have_moments, answered_scans_have_moments, gets_have_one_moment,
+    scans_have_one_moment,
+};
 pub use laws::optimistic::{
     other_steps_keep_ways, own_findings_stay, own_steps_go_on, quiet_steps_keep_trees,
     scans_store_nothing, ways_begin,
@@ -48,4 +55,5 @@ pub use laws::optimistic_runs::optimistic_is_linearizable;
 pub use laws::points::{orders_give_points, points_give_orders};
 pub use laws::scan_points::answered_scans_have_points;
 pub use laws::stories::{starts_are_at_rest, stories_give_effects, stories_give_orders};
+pub use laws::versions::{only_holders_write, rows_are_sound};
 pub use laws::work::work_is_done;

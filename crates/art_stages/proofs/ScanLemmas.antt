@@ -471,7 +471,7 @@ scan_begins c lo hi rest e =
     ∙ ap (λ call. procedure c call (act c.shape c.variant c.call) ends rest) (sym e)
     ∙ sym (act-body c.shape c.variant c.call rest)
 
--- What is left behind a word is what is left at the next stage.
+-- What is left after a word is what is left at the next stage.
 pub scan_goes_on : (c : Setting) (lo hi : ℕ) (s : ScanAt) (word : ℕ) (rest : List ℕ) → c.call ≡ Scan lo hi
     → scan_in c lo hi (scan_after c lo hi s word) rest ≡ scan_in c lo hi s (word ∷ rest)
 unfolding scan_in

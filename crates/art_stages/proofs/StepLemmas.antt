@@ -1,4 +1,4 @@
--- One step of every stage: what is left behind a word is what is left at the next stage.
+-- One step of every stage: what is left after a word is what is left at the next stage.
 use Rattle.art_stages.proofs.Common.{◌≡◌, ℕ, zero, suc, ◌+◌, ◌-◌, ◌*◌, List, ◌∷◌, refl, ap, sym, ◌∙◌, Bool, true, false, false≢true}
 use Rattle.art_stages.proofs.Common.{if◌then◌else◌, ◌==◌, nat_lt, slice_index, Option, Some, None, Call, Get, Insert, Remove, Scan, Replace}
 use Rattle.art_stages.proofs.Common.{Reply, Kind, Four, Sixteen, FortyEight, Full, rows_of, base_of, child_at, is_locked, is_obsolete}
@@ -353,7 +353,7 @@ begins c rest s =
     procedure_step (locks c.variant) (releases_early c.variant) c (act c.shape c.variant c.call) c.call rest refl s
     ∙ sym (act-body c.shape c.variant c.call rest)
 
--- What is left behind a word is what is left at the next stage.
+-- What is left after a word is what is left at the next stage.
 pub goes_on : (c : Setting) (stage : Stage) (w : ℕ) (rest : List ℕ) → is_scan c.call ≡ false
     → rest_in c (stage_after c stage w) rest ≡ rest_in c stage (w ∷ rest)
 unfolding rest_in

@@ -1,4 +1,5 @@
--- One step on the way to a row and its work: what is left behind a word is what is left at the next stage.
+-- One step on the way to a row and its work: what is left after a word is what is left at the next
+-- stage.
 use Rattle.art_stages.proofs.Common.{◌≡◌, ℕ, zero, suc, ◌-◌, List, [], ◌∷◌, refl, ap, sym, ◌∙◌, Bool, true, false, false≢true, if◌then◌else◌}
 use Rattle.art_stages.proofs.Common.{◌==◌, nat_le, slice_index, Option, Some, None, Reply, Kind, Four, Sixteen, FortyEight, Full, Empty}
 use Rattle.art_stages.proofs.Common.{ChildRow, Leaf, child_at, locked_word, entries_of, child_of, Held, Keys, Finding, Position, Down, Hold}

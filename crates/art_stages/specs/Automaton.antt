@@ -251,7 +251,7 @@ place_coupled c p (Lacks keys) =
     if is_full (row_at p.row) (count_in p.row.kind keys) then ClaimGrow
     (record { row = p.row; above = p.above }) p.slot keys else let_go_at c p.row p.above p.slot (Lacks keys)
 
--- the same without locks
+-- where a call without locks overwrites a slot
 abbrev pub overwrite_unlocked : Setting → Held → ℕ → ℕ → Option ℕ → Stage
 overwrite_unlocked c n slot value None = Over (Value (Some value))
 overwrite_unlocked c n slot value (Some word) =

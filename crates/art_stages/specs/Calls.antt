@@ -1,4 +1,4 @@
--- Where any call can be, what is left of it there, and where it is behind a list of words got.
+-- The stage of any call, what is left of the call there, and its stage after a list of words got.
 use Rattle.std.specs.Prelude.{ℕ, List, [], ◌∷◌}
 use Rattle.events.specs.declared.event.Call.{Call}
 use Rattle.events.specs.declared.event.Call.TheVariants.{Scan}
@@ -30,7 +30,7 @@ abbrev pub begun_as : Call → Setting → CallAt
 begun_as (Scan low high) c = OnScan low high (scan_start c)
 begun_as call c = OnKey (start_at (locks c.variant))
 
--- where the call is at its beginning, and behind a list of words got
+-- the stage of a call at its beginning, and after a list of words got
 abbrev pub call_begun : Setting → CallAt
 call_begun c = begun_as c.call c
 

@@ -68,7 +68,7 @@ abbrev pub words_rest : Setting → ℕ → ℕ → Held → ℕ → ℕ → Wal
 words_rest c lo hi n j m w = over (numbers j m) (λ j. walk_index c lo hi (walk_on c lo hi) (row_at n) j
     (filter (in_word j) (bytes_of lo hi (row_at n)))) w
 
--- of a row,
+-- what is left of a row,
 abbrev pub frame_rest : Kind → Setting → ℕ → ℕ → Frame → Walked → Part Walked
 frame_rest FortyEight c lo hi f w = do
   v ← over (filter (in_word f.index) (filter (lies lo hi f) (numbers f.byte f.left)))
@@ -80,14 +80,14 @@ frame_rest kind c lo hi f w =
     over (filter (lies lo hi f) (numbers f.byte f.left))
     (λ x. walk_place c lo hi (walk_on c lo hi) (row_at f.row) (place_of x (keys_among kind f.keys))) w
 
--- of the way,
+-- what is left of the way,
 abbrev pub way_rest : Setting → ℕ → ℕ → List Frame → Walked → Part Walked
 way_rest c lo hi [] w = give w
 way_rest c lo hi (f ∷ fs) w = do
   v ← frame_rest f.row.kind c lo hi f w
   way_rest c lo hi fs v
 
--- and of the scan
+-- what is left of the scan once its walk has ended
 abbrev pub close : Setting → Walked → Part Reply
 close c w = do
   if locks c.variant then unlock_all w.rows else each w.rows (check_of c)
@@ -141,7 +141,7 @@ keys_rest kind c lo hi n w = do
   keys ← load (keys_at n.base)
   frame_then c lo hi w (frame_of n (keys_one keys) 0 0)
 
--- where reads are locked, and where they are not
+-- if reads are locked, and if they are not
 abbrev pub release_rest : Bool → Setting → Held → Walk → Part Reply
 release_rest true c n w = do
   unlock (row_at n)
@@ -204,7 +204,7 @@ scan_turn c s = go s.step
     go (Release n) = release_turn (locks c.variant) n
     go Over = Answers (reply.Pairs s.walk.pairs)
 
--- and which stage comes then.
+-- Which stage comes next.
 
 -- the first row is released, and the rows are those after it
 abbrev pub release_rows : List Held → List (ℕ × ℕ) → ScanAt

@@ -113,14 +113,14 @@ found_then true true c p f = coupled.insert_at c (coupled.insert_from c) p f
 found_then false false c p f = optimistic.seek_at c (optimistic.seek_from c) p.row f
 found_then false true c p f = optimistic.insert_at c (optimistic.insert_from c) p f
 
--- where reads are not locked, the row is checked behind FIND
+-- if reads are not locked, the row is checked after FIND
 abbrev pub checked_then : Bool → Bool → Setting → Place → Found → Part Reply
 checked_then true i c p f = found_then true i c p f
 checked_then false i c p f = do
   check_of c p.row
   found_then false i c p f
 
--- the byte that the row's children are told apart by
+-- the byte of the key that selects a child of the row
 abbrev pub byte_in : Setting → Held → ℕ
 byte_in c n = byte_at c (row_at n).level
 
@@ -276,7 +276,7 @@ put_leaf c h keys = do
   store_child (child_at h.row.kind h.row.base (leaf_place h.row.kind c h keys)) (new_leaf c.call)
   put_keys h.row.kind c h keys
 
--- and with so many children to be moved
+-- PUT with this many children left to move
 abbrev pub put_moves : Setting → Hold → Keys → ℕ → Part Reply
 put_moves c h keys n = do
   each (numbers_down (place_in c h keys) n) (λ j. copy_child c (child_at h.row.kind h.row.base j) (child_at h.row.kind h.row.base (j + 1)))
@@ -322,7 +322,7 @@ grow_leaf kind c g = do
   store_child (child_at Full g.base (byte_in c g.hold.row)) (new_leaf c.call)
   hang g
 
--- with so many children to be copied from place i on,
+-- with this many children to be copied from place i on,
 abbrev pub new_child_at : Kind → Setting → Growing → ℕ → ℕ
 new_child_at Four c g i = child_at Sixteen g.base (if nat_lt i (place_in c g.hold g.keys) then i else i + 1)
 new_child_at kind c g i = child_at FortyEight g.base i
@@ -332,19 +332,19 @@ grow_copies c g i n = do
   each (numbers i n) (λ i. copy_child c (child_at g.hold.row.kind g.hold.row.base i) (new_child_at g.hold.row.kind c g i))
   grow_leaf g.hold.row.kind c g
 
--- in kind 48 with so many index words to be spread from word j on,
+-- in kind 48 with this many index words to be spread from word j on,
 abbrev pub grow_spreads : Setting → Growing → ℕ → ℕ → Part Reply
 grow_spreads c g j n = do
   each (numbers j n) (spread_index c (row_at g.hold.row) g.base)
   grow_leaf g.hold.row.kind c g
 
--- of one index word with so many entries from entry i on,
+-- GROW with this many entries of one index word left to spread, from entry i on
 abbrev pub spread_rest : Setting → Spread → ℕ → ℕ → Part Reply
 spread_rest c s i n = do
   each (numbers i n) (spread_entry c (row_at s.growing.hold.row) s.growing.base s.place (entries_of s.word))
   grow_spreads c s.growing (s.place + 1) s.left
 
--- and behind its info
+-- GROW after it has stored the row's info
 abbrev pub fill_from : Kind → Setting → Growing → Part Reply
 fill_from Four c g = grow_copies c g 0 (count_in Four g.keys)
 fill_from Sixteen c g = grow_copies c g 0 (count_in Sixteen g.keys)

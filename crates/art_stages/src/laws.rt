@@ -18,13 +18,13 @@ pub fn stages_ask()
     ensures { (c : Setting) (at : CallAt) → rest_at c at [] ≡ call_turn c at }
 {}
 
-/// What is left of a call on a key behind a word is what is left at the next stage.
+/// What is left of a call on a key after a word is what is left at the next stage.
 pub fn stages_go_on()
     ensures { (c : Setting) (stage : Stage) (word : ℕ) (rest : List ℕ) → is_scan c.call ≡ false
         → rest_in c (stage_after c stage word) rest ≡ rest_in c stage (word ∷ rest) }
 {}
 
-/// The same of a scan.
+/// What is left of a scan after a word is what is left at the next stage.
 pub fn scans_go_on()
     ensures { (c : Setting) (low high : ℕ) (scan : ScanAt) (word : ℕ) (rest : List ℕ) → c.call ≡ Scan low high
         → scan_in c low high (scan_after c low high scan word) rest ≡ scan_in c low high scan (word ∷ rest) }
@@ -35,7 +35,7 @@ pub fn calls_are_at_stages()
     ensures { (c : Setting) (got more : List ℕ) → rest_at c (call_behind c got) more ≡ act c.shape c.variant c.call (got ++ more) }
 {}
 
-/// A call is refused only where its last claim got a number at or past its kind's capacity.
+/// A call is refused only if its last claim got a number at or past its kind's capacity.
 pub fn refuses_only_at_capacity()
     ensures { (shape : Shape) (variant : Variant) (call : Call) → RefusesOnlyAtCapacity shape variant call }
 {}

@@ -66,7 +66,7 @@ pub lock_again-delays : (n base : ℕ) → Delays n (lock_again base) (lock_agai
 unfolding lock_again lock_turn
 lock_again-delays n base = repeat-delays (lock_turn base) (lock_turn-delays base) n
 
--- The law of LOCK behind its first access.
+-- The law of LOCK after its first access.
 pub lock_again-body : (base : ℕ) (again : Rest) (after : ℕ → Rest) (got : List ℕ)
     → lock_again base again after got ≡ lock_turn base (lock_again base) again after got
 unfolding lock_again lock_turn
@@ -568,7 +568,7 @@ from_start-body : (m : Part Reply) → ((n : ℕ) → Delays n m m) → (got : L
 unfolding start_turn
 from_start-body m d got = repeat-body (start_turn m) (start_turn-delays m d) (λ got. Answers reply.None) (λ r got. Answers r) got
 
--- The law of a call: it is its procedure, and where that starts again it is the call.
+-- The law of a call: it is its procedure. If the procedure starts again, the whole call runs again.
 pub act-body : (shape : Shape) (variant : Variant) (call : Call) (got : List ℕ)
     → act shape variant call got
     ≡ procedure (record { shape = shape; variant = variant; call = call }) call (act shape variant call) (λ r got. Answers r) got

@@ -1,4 +1,5 @@
--- That a recursive part is its own body: lists of words got are long enough for their own calls.
+-- A recursive part is its own body: the lists of words got are long enough for the calls that it
+-- makes of itself.
 use Rattle.std.proofs.Common.{◌≡◌, ℕ, zero, suc, ◌<◌, ◌≤◌, List, [], ◌∷◌, length, refl, ap, arith, Bool, true, false}
 use Rattle.std.specs.Prelude.{if◌then◌else◌, Option}
 use Rattle.art_steps.specs.declared.access.Access.{Access}
@@ -6,7 +7,7 @@ use Rattle.art_steps.specs.declared.access.Point.{Point}
 use Rattle.art_steps.specs.Steps.{Rest, Part, ◌>>=◌, ◌>>◌, give, start_again, access, load, load_at, store, store_at, exchange, add, marked}
 use Rattle.art_steps.specs.Steps.{first_at, calls_of, recursive, repeat, each, over}
 
--- they agree on all lists shorter than n
+-- two rests agree on all lists shorter than n
 pub record Same (n : ℕ) (r r' : Rest) : Type 0 where
   pub at : (got : List ℕ) → length got < n → r got ≡ r' got
 
@@ -16,12 +17,12 @@ Same-refl n r = record { at = λ got h. refl }
 pub Same-less : (k n : ℕ) {r r' : Rest} → k ≤ n → Same n r r' → Same k r r'
 Same-less k n le s = record { at = λ got h. s.at got (omega arith) }
 
--- where what comes after agrees on lists shorter than n, so do the parts
+-- if what comes after agrees on lists shorter than n, so do the parts
 pub record Keeps {A : Type 0} (n : ℕ) (m m' : Part A) : Type 0 where
   pub rest : (again again' : Rest) (after after' : A → Rest) → Same n again again' → ((a : A) → Same n (after a) (after' a))
       → Same n (m again after) (m' again' after')
 
--- and even on lists that are longer by one, since the parts begin with an access
+-- The parts agree even on lists that are longer by one, since they begin with an access.
 pub record Delays {A : Type 0} (n : ℕ) (m m' : Part A) : Type 0 where
   pub rest : (again again' : Rest) (after after' : A → Rest) → Same n again again' → ((a : A) → Same n (after a) (after' a))
       → Same (suc n) (m again after) (m' again' after')
@@ -39,7 +40,7 @@ Delays-more {n = n} d =
           (λ a. Same-less n (suc n) (omega arith) (t a));
     }
 
--- The body calls itself only behind an access.
+-- The body calls itself only after an access.
 module _ {S A : Type 0} (body : (S → Part A) → S → Part A)
     (guarded : (n : ℕ) (f g : S → Part A) → ((s : S) → Keeps n (f s) (g s)) → (s : S) → Keeps (suc n) (body f s) (body g s)) where
   pub calls-agree : (n a b : ℕ) → n ≤ a → n ≤ b → (s : S) → Keeps n (calls_of a body s) (calls_of b body s)
@@ -80,7 +81,7 @@ module _ {S A : Type 0} (body : (S → Part A) → S → Part A)
     };
   }
 
--- Where each body begins with an access, the recursive part does too.
+-- If each body begins with an access, the recursive part does too.
 module _ {S A : Type 0} (body : (S → Part A) → S → Part A)
     (guarded : (n : ℕ) (f g : S → Part A) → ((s : S) → Keeps n (f s) (g s)) → (s : S) → Delays n (body f s) (body g s)) where
   pub more_guarded : (n : ℕ) (f g : S → Part A) → ((s : S) → Keeps n (f s) (g s)) → (s : S) → Keeps (suc n) (body f s) (body g s)

@@ -73,7 +73,7 @@ seek c = do
 
 -- Insert.
 
--- on to row m, or the leaf goes beside it, in the slot of n
+-- on to row m, or the leaf becomes a sibling of m under a new row, in the slot of n
 abbrev pub insert_below : Setting → (Place → Part Reply) → Row → ℕ → Row → Option ℕ → Part Reply
 insert_below c go n slot m None = go (record { row = m; above = n ∷ []; slot = slot })
 insert_below c go n slot m (Some d) = do

@@ -180,7 +180,7 @@ find_in Full c n x = do
   w ← load (child_at Full n.base x)
   give (Has (child_at Full n.base x) (child_of c.shape w))
 
--- the byte of the call's key by which the row's children are told apart
+-- the byte of the call's key that selects a child of the row
 abbrev pub byte_at : Setting → ℕ → ℕ
 byte_at c level = slice_index (key_bytes (key_of c.call)) level
 
@@ -211,8 +211,9 @@ row_of base kind info v =
 abbrev pub path_differs_at : Setting → Row → Option ℕ
 path_differs_at c n = first_difference n.path (key_bytes (key_of c.call))
 
--- where a call is on its way down: the row, the rows above it that the call may still need (the parent, or none for
--- the root), and the slot above that has the row; the root, which no slot has, stands for its own
+-- how far a call is on its way down: the row, the rows above it that the call may still need (the
+-- parent, or none for the root), and the slot above that has the row; the root is in no slot, so
+-- its place has its base instead
 pub record Place : Type 0 where
   pub row : Row
   pub above : List Row

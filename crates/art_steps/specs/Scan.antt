@@ -91,7 +91,7 @@ module _ (c : Setting) (lo hi : ℕ) (walk : Row → Walked → Part Walked) whe
   walk_in FortyEight n xs w = over (numbers 0 32) (λ j. walk_index n j (filter (λ x. x / 8 == j) xs)) w
   walk_in Full n xs w = over xs (λ x. walk_slot (child_at Full n.base x)) w
 
-  -- where no key can lie, nothing more is loaded of the row
+  -- if no key can lie, nothing more is loaded of the row
   unfoldable pub walk_bytes : Row → List ℕ → Walked → Part Walked
   walk_bytes n [] w = give w
   walk_bytes n (x ∷ xs) w = walk_in n.kind n (x ∷ xs) w

@@ -80,7 +80,8 @@ abbrev pub first_at : {A : Type 0} → Point → Part A → Part A
 first_at point m again after [] = marked point (m again after [])
 first_at point m again after (word ∷ got) = m again after (word ∷ got)
 
--- A part that calls itself. Each call comes behind an access, so that calls are no deeper than the list is long.
+-- A part that calls itself. An access comes before each such call, so calls are no deeper than the
+-- list is long.
 abbrev pub calls_of : {S A : Type 0} → ℕ → ((S → Part A) → S → Part A) → S → Part A
 calls_of zero body s again after got = Answers reply.None
 calls_of (suc n) body s again after got = body (calls_of n body) s again after got
@@ -101,7 +102,7 @@ abbrev pub each : {A : Type 0} → List A → (A → Part (Unit {0})) → Part (
 each [] f = give tt
 each (x ∷ xs) f = f x >> each xs f
 
--- the same, where each is given what the one before it gave
+-- one part for each item, where each is given what the one before it gave
 abbrev pub over : {A S : Type 0} → List A → (A → S → Part S) → S → Part S
 over [] f s = give s
 over (x ∷ xs) f s = f x s >>= over xs f

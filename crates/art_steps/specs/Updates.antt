@@ -112,7 +112,7 @@ spread_index c n base j = do
   w ← load (index_at n.base (8 * j))
   each (numbers 0 8) (spread_entry c n base j (entries_of w))
 
--- the new row's words behind its info, from the old row
+-- the new row's words after its info, from the old row
 unfoldable pub fill : Kind → Setting → Row → ℕ → ℕ → List ℕ → ℕ → Part (Unit {0})
 fill Four c n base x keys count = do
   each (numbers 0 count) (λ i. copy_child c (child_at Four n.base i)
@@ -147,7 +147,7 @@ grow c above slot n keys count = do
   unlock_obsolete n
   unlock_all above
 
--- where the byte that two keys differ in first stands
+-- the place of the first byte in which two keys differ
 abbrev pub keys_differ_at : ℕ → ℕ → ℕ
 keys_differ_at a b = unwrap_or (first_difference (key_bytes a) (key_bytes b)) 0
 
@@ -167,7 +167,7 @@ insert_in c held slot (Leaf key value) =
       give reply.None)
 insert_in c held slot (ChildRow base kind) = give reply.None
 
--- and with one that has the row m, whose path differs from the key at d
+-- PAIR with a child that is the row m, whose path differs from the key at d
 unfoldable pub insert_beside : Setting → List Row → ℕ → Row → ℕ → Part Reply
 insert_beside c held slot m d = do
   pair_in c held slot d (record { byte = slice_index m.path d; child = ChildRow m.base m.kind })

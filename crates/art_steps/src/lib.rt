@@ -1,8 +1,8 @@
-//! The steps of a call on a tree, as text: lock coupling and optimistic lock coupling after Leis, Scheibner, Kemper and
-//! Neumann, DaMoN 2016, on the words of `art_rows`.
-//!
-//! `act` (in `specs/`) says what a call does next after each list of words that it got. The automaton of a few fields that
-//! does so, the core that runs processes, and all that is proved of the trees stand on this text alone.
+//! The steps of a call on a tree, as text: lock coupling and optimistic lock coupling after Leis,
+//! Scheibner, Kemper and Neumann, DaMoN 2016, on the words of `art_rows`. `act` (in `specs/`) says
+//! what a call does next after each list of words that it got. All else is built on this text: the
+//! automaton of a few fields that does so, the core that runs processes, and all that is proved of
+//! the trees.
 #![tactic(auto)]
 
 mod access;

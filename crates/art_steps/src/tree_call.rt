@@ -90,7 +90,8 @@ impl TreeCall {
         }
     }
 
-    /// What is written over the leaf of the call's key, which has this value; nothing where the leaf stays.
+    /// What is written over the leaf of the call's key, which has this value; nothing if the leaf
+    /// stays.
     pub fn overwriting(&self, value: u32) -> Option<u64>
         ensures { result ≡ overwriting self.now value }
     {

@@ -1,5 +1,5 @@
--- The outcome of a line that reads nothing is an outcome of the words that ask for it, and that of a line that asks for neither a plan nor a
--- tree is what the judge's side has for it.
+-- The outcome of a line that reads nothing is an outcome of the words that ask for it. The outcome
+-- of a line that asks for neither a plan nor a tree is the judge's.
 use Rattle.std.proofs.Common.{◌≡◌, ◌<◌, ℕ, List, Option, Some, None, refl, arith}
 use Rattle.clap.specs.Words.{Text}
 use Rattle.command_line.specs.declared.line.Line.{Line}
@@ -15,7 +15,7 @@ use Rattle.outcomes.specs.declared.outcome.RunOutcome.TheVariants.{Answered, Not
 use Rattle.outcomes.specs.Ends.{Change, IsSound}
 use Rattle.art_rows.specs.declared.table.Shape.{Shape}
 use Rattle.art_steps.specs.declared.variant.Variant.{Variant}
-use Rattle.locked_map.specs.Answers.{IsAnswerOf}
+use Rattle.recorder.specs.Answers.{IsAnswerOf}
 use Rattle.plan_engines.specs.Drives.{IsDriveAnswer, IsDriveRefusal, IsTreeDriveAnswer}
 use Rattle.plan_engines.specs.Outcomes.{IsGenerateOutcome}
 use Rattle.plan_engines.specs.Schedules.{IsScheduleAnswer, IsScheduleRefusal}
@@ -34,7 +34,7 @@ drawn-words seed mix processes calls words source Memory ask sound comes = sound
 drawn-words seed mix processes calls words source (Words text) ask sound comes = absurd comes
 drawn-words seed mix processes calls words source Failed ask sound comes = absurd comes
 
--- so it is of a schedule, and of a drive
+-- the outcome of a schedule, and of a drive, is one of the words too
 pub scheduled-words : (variant : Option Variant) (shape : Shape) (limit : ℕ) (words : List Text) (source : Change) (outcome : RunOutcome)
     → (IsScheduledOutcome variant shape limit source outcome → IsAskedOutcome IsLineOutcome words source outcome)
     → IsScheduledOutcome variant shape limit source outcome → IsWordsOutcome IsLineOutcome words source outcome
@@ -57,7 +57,7 @@ pub not-trees : (line : Line)
     → ¬ (AsksForTrees line)
 not-trees (Check order) draws schedules replays drives asks = asks
 not-trees (Judge budget workers) draws schedules replays drives asks = asks
-not-trees (Locate budget) draws schedules replays drives asks = asks
+not-trees (Locate budget order) draws schedules replays drives asks = asks
 not-trees (Explain budget) draws schedules replays drives asks = asks
 not-trees (Draw budget workers around calls) draws schedules replays drives asks = asks
 not-trees (Page budget workers) draws schedules replays drives asks = asks
@@ -68,12 +68,12 @@ not-trees (Schedule asked) draws schedules replays drives asks = schedules asked
 not-trees Replay draws schedules replays drives asks = replays refl
 not-trees (Drive asked) draws schedules replays drives asks = drives asked refl
 
--- and its outcome is the judge's
+-- the outcome of a line of the judge is the judge's
 pub judged-line : (line : Line) (source : Change) (outcome : RunOutcome) → ¬ (AsksForTrees line) → IsJudgeLineOutcome line source outcome
     → IsLineOutcome line source outcome
 judged-line (Check order) source outcome here comes = comes
 judged-line (Judge budget workers) source outcome here comes = comes
-judged-line (Locate budget) source outcome here comes = comes
+judged-line (Locate budget order) source outcome here comes = comes
 judged-line (Explain budget) source outcome here comes = comes
 judged-line (Draw budget workers around calls) source outcome here comes = comes
 judged-line (Page budget workers) source outcome here comes = comes

@@ -8,7 +8,7 @@ use Rattle.command_line.specs.declared.line.Tree.TheVariants as trees
 use Rattle.command_line.specs.declared.line.Line.{Line}
 use Rattle.command_line.specs.declared.line.Rows.{Rows}
 use Rattle.command_line.specs.declared.line.Line.TheVariants.{Generate, Schedule, Replay, Drive}
-use Rattle.locked_map.specs.Answers.{IsAnswerOf}
+use Rattle.recorder.specs.Answers.{IsAnswerOf}
 use Rattle.outcomes.specs.declared.outcome.RunOutcome.{RunOutcome}
 use Rattle.outcomes.specs.Ends.{Change, IsUnused}
 use Rattle.judge_lines.specs.Outcomes.{IsJudgeLineOutcome}

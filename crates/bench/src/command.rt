@@ -10,13 +10,13 @@ ghost use Rattle.bench.specs.Outcomes.{IsLineOutcome, shape_of, variant_of};
 
 use art::{Shape, Variant};
 use command_line::{DriveLine, Line, Rows, ScheduleLine, Strategy, Tree};
-use drawn_schedules::Draw;
 use judge_lines::{ProgressDisplay, run_line};
 use line_outcomes::asked_line;
-use locked_map::LockedMap;
 use outcomes::write_outcome;
 use plan_engines::{run_drive, run_generate, run_replay, run_schedule, run_tree_drive};
 use pool::OpenGate;
+use recorder::LockedMap;
+use replays::Draw;
 use std::alloc::Global;
 use std::sync::Wait;
 use std::thread::Threads;
@@ -181,10 +181,10 @@ fn variant_of(tree: Tree) -> Option<Variant>
 }
 
 /// Returns the strategy by which a schedule is drawn.
-fn strategy_of(strategy: Strategy) -> drawn_schedules::Strategy {
+fn strategy_of(strategy: Strategy) -> replays::Strategy {
     match strategy {
-        Strategy::Walk => drawn_schedules::Strategy::Walk,
-        Strategy::Pos => drawn_schedules::Strategy::Pos,
-        Strategy::Pct => drawn_schedules::Strategy::Pct,
+        Strategy::Walk => replays::Strategy::Walk,
+        Strategy::Pos => replays::Strategy::Pos,
+        Strategy::Pct => replays::Strategy::Pct,
     }
 }

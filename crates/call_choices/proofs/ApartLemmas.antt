@@ -1,17 +1,9 @@
 -- Calls of other keys: each may be done before the other.
-use Rattle.std.proofs.Common.{◌≡◌, ℕ, ◌<◌, ◌≤◌, false, List, [], ◌∷◌, ◌++◌, None, refl, sym, ap, ◌∙◌, subst, inl, inr, ⊎_elim}
-use Rattle.std.proofs.Common.{arith}
-use Rattle.std.specs.Prelude.{◌⊎◌, All}
-use Rattle.std.proofs.lemmas.Bool.{false≢true}
-use Rattle.std.proofs.lemmas.List.Elements.{All-head, All-tail}
-use Rattle.events.specs.declared.event.Call.{Call}
-use Rattle.events.specs.declared.event.Call.TheVariants.{Get, Insert, Remove, Scan, Replace}
-use Rattle.events.specs.declared.operation.Operation.{Operation}
-use Rattle.events.specs.Keys.{low_key, high_key, may_change}
-use Rattle.map_object.specs.MapObject.{Contents, IsRising, value_at, within, after}
-use Rattle.orders.specs.Orders.{IsLegalCall, IsLegal, after_call, after_calls}
-use Rattle.segments.proofs.RangeLemmas.{IsInside, IsOutside, value_at-within, within-after_call, within_left_call, IsLegalCall-within}
-use Rattle.quiet_cuts.proofs.ValueLemmas.{in_or_out, same_pairs, value_alone, value_left, rising_kept}
+use Rattle.call_choices.proofs.Common.{◌≡◌, ℕ, ◌<◌, ◌≤◌, false, List, [], ◌∷◌, ◌++◌, None, refl, sym, ap, ◌∙◌, subst, inl, inr, ⊎_elim, arith, ◌⊎◌}
+use Rattle.call_choices.proofs.Common.{All, false≢true, All-head, All-tail, Call, Get, Insert, Remove, Scan, Replace, Operation, low_key, high_key}
+use Rattle.call_choices.proofs.Common.{may_change, Contents, IsRising, value_at, within, after, IsLegalCall, IsLegal, after_call, after_calls}
+use Rattle.call_choices.proofs.Common.{IsInside, IsOutside, value_at-within, within-after_call, within_left_call, IsLegalCall-within, in_or_out}
+use Rattle.call_choices.proofs.Common.{same_pairs, value_alone, value_left, rising_kept}
 
 own_keys : (a : Operation) → IsInside (low_key a.call) (high_key a.call) a.call
 own_keys a = record { low_inside = omega arith; high_inside = omega arith }
@@ -84,7 +76,7 @@ legal_before m a p out h =
     (subst (λ (n : Contents). IsLegalCall n a.call a.response) (within_left_call (low_key a.call) (high_key a.call) m p.call p.response out)
     ((IsLegalCall-within (low_key a.call) (high_key a.call) (after_call m p.call p.response) a.call a.response (own_keys a)).0 h))
 
--- and after one of other keys where it is so before
+-- a call that is legal is legal after one of other keys
 legal_behind : (m : Contents) (a p : Operation) → IsOutside (low_key p.call) (high_key p.call) a.call → IsLegalCall m p.call p.response
     → IsLegalCall (after_call m a.call a.response) p.call p.response
 legal_behind m a p out h =

@@ -1,35 +1,18 @@
 -- A call that reported what its key does not have, and what no call puts there before it, has no place in an order.
 use Rattle.events.specs.declared.event.Reply.TheVariants as replies
-use Rattle.std.proofs.Common.{◌≡◌, ℕ, ◌+◌, ◌<◌, ◌≤◌, Bool, true, false, cond, List, [], ◌∷◌, ◌++◌, Option, Some, None, length, refl, sym, ap, ◌∙◌}
-use Rattle.std.proofs.Common.{subst, ⊎_elim, inl, inr, arith}
-use Rattle.std.specs.Prelude.{◌≢◌, ◌⊎◌, is_some, min, slice_get, IfSome, All, AllPairs, Contains}
-use Rattle.std.proofs.lemmas.Bool.{cases_lt, cases_order, ltb-false}
-use Rattle.std.proofs.lemmas.List.Elements.{All-contains, Contains-append_left, Contains-append_cases, Contains-push_cases}
-use Rattle.std.proofs.lemmas.Option.{same_Some, slice_get_within}
-use Rattle.events.specs.declared.event.Call.{Call}
-use Rattle.events.specs.declared.event.Call.TheVariants.{Get, Insert, Remove, Scan, Replace}
-use Rattle.events.specs.declared.event.Reply.{Reply}
-use Rattle.events.specs.declared.operation.Operation.{Operation}
-use Rattle.events.specs.declared.operation.Response.{Response}
-use Rattle.events.specs.Precedence.{is_before, is_completed, precedes}
-use Rattle.map_object.specs.MapObject.{Contents, IsRising, value_at, below, above, within, put, is_just, value_reply, reply_to, after, after_reply}
-use Rattle.map_object.specs.MapObject.{IsLegalReply}
-use Rattle.map_object.proofs.MapLemmas.{AreBelow-below, AreAbove-above, value_at_found, value_at_gap}
-use Rattle.orders.specs.Orders.{IsLegalCall, IsLegal, KeepsPrecedence, after_call, after_calls, calls_at, IsCompletedAt, IsOrder}
-use Rattle.orders.proofs.OrderLemmas.{IsLegal-front, IsLegal-back, after_calls-push}
-use Rattle.list_laws.proofs.Lists.{AllPairs-back, Contains-first, Contains-later, Contains-split}
-use Rattle.list_laws.proofs.FilterLemmas.{Contains-from_filter_map}
+use Rattle.call_choices.proofs.Common.{◌≡◌, ℕ, ◌+◌, ◌<◌, ◌≤◌, Bool, true, false, cond, List, [], ◌∷◌, ◌++◌, Option, Some, None, length, refl, sym, ap}
+use Rattle.call_choices.proofs.Common.{◌∙◌, subst, ⊎_elim, inl, inr, arith, ◌≢◌, ◌⊎◌, is_some, min, slice_get, IfSome, All, AllPairs, Contains}
+use Rattle.call_choices.proofs.Common.{cases_lt, cases_order, ltb-false, All-contains, Contains-append_left, Contains-append_cases}
+use Rattle.call_choices.proofs.Common.{Contains-push_cases, same_Some, slice_get_within, Call, Get, Insert, Remove, Scan, Replace, Reply, Operation}
+use Rattle.call_choices.proofs.Common.{Response, is_before, is_completed, precedes, Contents, IsRising, value_at, below, above, within, put, is_just}
+use Rattle.call_choices.proofs.Common.{value_reply, reply_to, after, after_reply, IsLegalReply, AreBelow-below, AreAbove-above, value_at_found}
+use Rattle.call_choices.proofs.Common.{value_at_gap, IsLegalCall, IsLegal, KeepsPrecedence, after_call, after_calls, calls_at, IsCompletedAt, IsOrder}
+use Rattle.call_choices.proofs.Common.{IsLegal-front, IsLegal-back, after_calls-push, AllPairs-back, Contains-first, Contains-later, Contains-split}
+use Rattle.call_choices.proofs.Common.{Contains-from_filter_map, IsRead, earlier_of, IsCallOf, value_behind, value_behind_reply, value_behind_call}
+use Rattle.call_choices.proofs.Common.{value_at-within, AllPairs-before, read_leaves, IsOut, value_left, after_call_cases, rising_kept, rising_after}
+use Rattle.call_choices.proofs.Common.{pairs_after, Puts, IsLeftBy, IsUnput, HasListed, Reports, IsStuck, StuckCallsAreDeadEnds, IsReported}
+use Rattle.call_choices.proofs.Common.{HasOrderAfter}
 use Rattle.quiet_cuts.specs.KeptCalls.{begun_at}
-use Rattle.quiet_cuts.specs.Replies.{IsRead}
-use Rattle.quiet_cuts.specs.Earliest.{earlier_of}
-use Rattle.quiet_cuts.specs.Values.{IsCallOf, value_behind, value_behind_reply, value_behind_call}
-use Rattle.segments.proofs.RangeLemmas.{value_at-within}
-use Rattle.quiet_cuts.proofs.AroundLemmas.{AllPairs-before}
-use Rattle.quiet_cuts.proofs.ReplyLemmas.{read_leaves}
-use Rattle.quiet_cuts.proofs.ValueLemmas.{IsOut, value_left, after_call_cases, rising_kept, rising_after}
-use Rattle.search.specs.Standing.{pairs_after}
-use Rattle.call_choices.specs.Dead.{Puts, IsLeftBy, IsUnput, HasListed, Reports, IsStuck, StuckCallsAreDeadEnds, IsReported}
-use Rattle.call_choices.specs.Reads.{HasOrderAfter}
 use Rattle.call_choices.proofs.EarliestLemmas.{below_or_at}
 use Rattle.call_choices.proofs.IdleLemmas.{listed, not_refused, begins_later}
 use Rattle.call_choices.proofs.ReadLemmas.{not_twice, parts, legal_rest}
@@ -72,7 +55,7 @@ keeps_or_puts m (Replace own expected new) key value is = by_test (is_just (valu
     by_test true is = insert_keeps m own new key value is
     by_test false is = inl is
 
--- and so after it was answered
+-- what an answered call leaves at a key was there, or the call puts it there
 call_keeps_or_puts : (m : Contents) (p : Operation) (key : ℕ) (value : Option ℕ) → value_at (after_call m p.call p.response) key ≡ value
     → (value_at m key ≡ value) ⊎ Puts key value p.call
 call_keeps_or_puts m p key value =
@@ -147,7 +130,7 @@ module _ (start : Contents) (calls : List Operation) (path : List ℕ) (n : ℕ)
     legal : IsLegal (pairs_after start calls path) (before ++ stuck.call ∷ behind)
     legal = legal_rest start calls path n stuck.call stuck.here front back order
 
-    -- it precedes none of the calls before it
+    -- the stuck call precedes none of the calls before it
     free : All (λ b. precedes stuck.call b ≡ false) before
     free = AllPairs-before (λ b c. precedes c b ≡ false) before stuck.call behind
         (AllPairs-back (λ b c. precedes c b ≡ false) (calls_at calls path) (before ++ stuck.call ∷ behind)

@@ -1,17 +1,8 @@
 -- The earliest answer of the calls that are left, and which of them may come next, call by call.
-use Rattle.std.proofs.Common.{◌≡◌, ℕ, ◌+◌, ◌<◌, ◌≤◌, true, false, List, Option, Some, None, length, refl, sym, ap, ◌∙◌, subst, ⊎_elim, inl}
-use Rattle.std.proofs.Common.{inr, arith}
-use Rattle.std.specs.Prelude.{◌⊎◌, slice_get, AllPairs, Contains}
-use Rattle.std.proofs.lemmas.Bool.{false≢true, lt-ltb, ltb-true, cases_order, cases_lt, both_ways}
-use Rattle.std.proofs.lemmas.Option.{same_Some, slice_get_within}
-use Rattle.events.specs.declared.operation.Operation.{Operation}
-use Rattle.events.specs.declared.operation.Response.{Response}
-use Rattle.events.specs.Precedence.{is_before, precedes, NonePrecedesItself}
-use Rattle.map_object.specs.MapObject.{Contents}
-use Rattle.configurations.proofs.FrontLemmas.{IsNext}
-use Rattle.list_laws.proofs.Lists.{AllPairs-at, All-at}
-use Rattle.search.specs.Remaining.{RemainsBefore, IsEarliestAnswer}
-use Rattle.quiet_cuts.specs.Earliest.{earlier_of}
+use Rattle.call_choices.proofs.Common.{◌≡◌, ℕ, ◌+◌, ◌<◌, ◌≤◌, true, false, List, Option, Some, None, length, refl, sym, ap, ◌∙◌, subst, ⊎_elim, inl}
+use Rattle.call_choices.proofs.Common.{inr, arith, ◌⊎◌, slice_get, AllPairs, Contains, false≢true, lt-ltb, ltb-true, cases_order, cases_lt, both_ways}
+use Rattle.call_choices.proofs.Common.{same_Some, slice_get_within, Operation, Response, is_before, precedes, NonePrecedesItself, Contents, IsNext}
+use Rattle.call_choices.proofs.Common.{AllPairs-at, All-at, RemainsBefore, IsEarliestAnswer, earlier_of}
 
 -- the earliest answer of the calls left with a number below this
 abbrev pub IsEarliestBelow : List Operation → List ℕ → ℕ → Option ℕ → Type 0
@@ -20,7 +11,7 @@ IsEarliestBelow calls path i (Some answered) =
     (place : ℕ) → (answered < place → (r : RemainsBefore calls path place) × (r.n < i))
     × ((r : RemainsBefore calls path place) → r.n < i → answered < place)
 
--- a number below the next one is below this one, or is this one
+-- a number below the next one is this one, or is below it
 pub below_or_at : (n i : ℕ) → n < i + 1 → (n < i) ⊎ (n ≡ i)
 below_or_at n i lt = ⊎_elim (λ is. inr is) (λ apart. ⊎_elim (λ lower. inl lower) (λ higher. absurd (omega arith)) apart) (cases_order n i)
 

@@ -1,38 +1,18 @@
--- Where what is left has an order, it has one that begins with a call of one of some keys.
+-- If what is left has an order, it has one that begins with a call of one of some keys.
 use Rattle.events.specs.declared.event.Reply.TheVariants as replies
-use Rattle.std.proofs.Common.{◌≡◌, ℕ, ◌+◌, ◌<◌, ◌≤◌, true, false, List, [], ◌∷◌, ◌++◌, Option, Some, None, length, refl, sym, ap, ◌∙◌, subst}
-use Rattle.std.proofs.Common.{append_assoc, ⊎_elim, inl, inr, arith}
-use Rattle.std.specs.Prelude.{◌⊎◌, is_some, slice_get, IfSome, All, AllPairs, Contains}
-use Rattle.std.proofs.lemmas.Bool.{both_ways, cases_Bool, cases_lt, cases_order, false_from_ne_true, ltb-false}
-use Rattle.std.proofs.lemmas.List.Elements.{All-head, All-tail, All-contains, Contains-append_left, Contains-append_cases}
-use Rattle.std.proofs.lemmas.Option.{same_Some, slice_get_within}
-use Rattle.events.specs.declared.event.Call.{Call}
-use Rattle.events.specs.declared.event.Call.TheVariants.{Get, Insert, Remove, Scan, Replace}
-use Rattle.events.specs.declared.event.Reply.{Reply}
-use Rattle.events.specs.declared.operation.Operation.{Operation}
-use Rattle.events.specs.declared.operation.Response.{Response}
-use Rattle.events.specs.Keys.{low_key, high_key}
-use Rattle.events.specs.Precedence.{is_before, is_completed, precedes, NonePrecedesItself}
-use Rattle.list_laws.specs.Lists.{has_number}
-use Rattle.list_laws.proofs.Lists.{All-back, All-at, All-from_contains, AllPairs-back, AllPairs-across, AllPairs-head}
-use Rattle.list_laws.proofs.Lists.{Contains-nil, Contains-first, Contains-cases, Contains-split}
-use Rattle.list_laws.proofs.FilterLemmas.{Contains-filter_map, Contains-from_filter_map}
-use Rattle.list_laws.proofs.NumberLemmas.{slice_get-below, has_number-Contains, has_number-from_Contains}
-use Rattle.map_object.specs.MapObject.{Contents, IsRising, value_at, IsLegalReply}
-use Rattle.orders.specs.Orders.{IsLegalCall, IsLegal, KeepsPrecedence, after_call, after_calls, calls_at, IsCompletedAt, IsOrder}
-use Rattle.orders.proofs.OrderLemmas.{IsLegal-front, IsLegal-back, calls_at-append}
-use Rattle.quiet_cuts.specs.Values.{IsCallOf}
-use Rattle.quiet_cuts.proofs.ValueLemmas.{in_or_out, after_call_cases, rising_after}
-use Rattle.segments.proofs.RangeLemmas.{IsOutside}
-use Rattle.configurations.proofs.FrontLemmas.{IsNext, IsNext-from_front, IsFront-from_order}
-use Rattle.search.specs.Remaining.{IsEarliestAnswer}
-use Rattle.search.specs.Standing.{pairs_after}
-use Rattle.search.proofs.EarliestLemmas.{preceded_from_earliest}
-use Rattle.call_choices.specs.Dead.{IsLeftBy}
-use Rattle.call_choices.specs.FirstKeys.{IsCallOfOne, IsScanOfOne, IsMissed, MissesOne, HasAnswered, AllMissOne, AreFirstKeys, BeginsWithOne}
-use Rattle.call_choices.specs.FirstKeys.{FewKeysGoFirst, Differs, OneDiffers, AreNextOfOne}
-use Rattle.call_choices.specs.Reads.{HasOrderAfter}
-use Rattle.call_choices.specs.Standing.{AreNext, Closes, AreChoices}
+use Rattle.call_choices.proofs.Common.{◌≡◌, ℕ, ◌+◌, ◌<◌, ◌≤◌, true, false, List, [], ◌∷◌, ◌++◌, Option, Some, None, length, refl, sym, ap, ◌∙◌, subst}
+use Rattle.call_choices.proofs.Common.{append_assoc, ⊎_elim, inl, inr, arith, ◌⊎◌, is_some, slice_get, IfSome, All, AllPairs, Contains, both_ways}
+use Rattle.call_choices.proofs.Common.{cases_Bool, cases_lt, cases_order, false_from_ne_true, ltb-false, All-head, All-tail, All-contains}
+use Rattle.call_choices.proofs.Common.{Contains-append_left, Contains-append_cases, same_Some, slice_get_within, Call, Get, Insert, Remove, Scan}
+use Rattle.call_choices.proofs.Common.{Replace, Reply, Operation, Response, low_key, high_key, is_before, is_completed, precedes, NonePrecedesItself}
+use Rattle.call_choices.proofs.Common.{has_number, All-back, All-at, All-from_contains, AllPairs-back, AllPairs-across, AllPairs-head, Contains-nil}
+use Rattle.call_choices.proofs.Common.{Contains-first, Contains-cases, Contains-split, Contains-filter_map, Contains-from_filter_map, slice_get-below}
+use Rattle.call_choices.proofs.Common.{has_number-Contains, has_number-from_Contains, Contents, IsRising, value_at, IsLegalReply, IsLegalCall}
+use Rattle.call_choices.proofs.Common.{IsLegal, KeepsPrecedence, after_call, after_calls, calls_at, IsCompletedAt, IsOrder, IsLegal-front}
+use Rattle.call_choices.proofs.Common.{IsLegal-back, calls_at-append, IsCallOf, in_or_out, after_call_cases, rising_after, IsOutside, IsNext}
+use Rattle.call_choices.proofs.Common.{IsNext-from_front, IsFront-from_order, IsEarliestAnswer, pairs_after, preceded_from_earliest, IsLeftBy}
+use Rattle.call_choices.proofs.Common.{IsCallOfOne, IsScanOfOne, IsMissed, MissesOne, HasAnswered, AllMissOne, AreFirstKeys, BeginsWithOne}
+use Rattle.call_choices.proofs.Common.{FewKeysGoFirst, Differs, OneDiffers, AreNextOfOne, HasOrderAfter, AreNext, Closes, AreChoices}
 use Rattle.call_choices.proofs.ApartLemmas.{LetsPass, passes, value_stays}
 use Rattle.call_choices.proofs.DeadLemmas.{found_there}
 use Rattle.call_choices.proofs.EarliestLemmas.{below_or_at}
@@ -76,7 +56,7 @@ record HasFirstOf (calls : List Operation) (keys tail : List ℕ) : Type 0 where
   of_one : IsCallOfOne keys call.call
   others : (k : ℕ) (p : Operation) → Contains front k → slice_get calls k ≡ Some p → IsCallOfOne keys p.call → ⊥
 
--- or none is
+-- none of the calls listed is of these keys
 abbrev HasNoneOf : List Operation → List ℕ → List ℕ → Type 0
 HasNoneOf calls keys tail = (k : ℕ) (p : Operation) → Contains tail k → slice_get calls k ≡ Some p → IsCallOfOne keys p.call → ⊥
 
@@ -161,7 +141,8 @@ point_passes : (a : Operation) (key own : ℕ) → (low_key a.call ≡ key) × (
 point_passes a key own bounds other = ⊎_elim (λ less. inl (omega (arith, less, bounds.0))) (λ more. inr (omega (arith, more, bounds.1)))
     (apart_keys own key other)
 
--- a call of one key is let pass by calls that are not of it, but for scans that list pairs over it
+-- a call of one key is let pass by calls that are not of it, except for scans that list pairs over
+-- it
 lets_pass : (m : Contents) (a : Operation) (inv key : ℕ) (call : Call) (response : Option Response)
     → IsCallOf key a.call → (IsCallOf key call → ⊥) → IsLegalCall m call response
     → ((low high : ℕ) (r : Response) (pairs : Contents) → call ≡ Scan low high → response ≡ Some r → r.reply ≡ replies.Pairs pairs → low ≤ key
@@ -216,7 +197,7 @@ module _ (start : Contents) (calls : List Operation) (path : List ℕ) (answered
       subst (IsLegal m) (calls_at-append calls front (k ∷ back) ∙ ap (λ xs. calls_at calls front ++ xs) at_k) legal in
       (IsLegal-back m (calls_at calls front) (p ∷ calls_at calls back) whole).0
 
-  -- the call that is answered first stands after a call of these keys, or is one
+  -- the call that is answered first comes after a call of these keys, or is one
   not_before : (list : List ℕ) → HasNoneOf calls keys list → IsLegal m (calls_at calls list) → Contains list first.first.n → ⊥
   not_before list none legal within =
       let (front, back, is) = Contains-split list first.first.n within in
@@ -264,7 +245,7 @@ module _ (start : Contents) (calls : List Operation) (path : List ℕ) (answered
     keeps = AllPairs-back (λ b d. precedes d b ≡ false) (calls_at calls path) (calls_at calls front ++ a ∷ calls_at calls back)
         (subst KeepsPrecedence (parts start calls path n a c.here front back order) order.legal_order.precedence)
 
-    -- so a call that it does not precede begins no later than its answer
+    -- a call that the first one does not precede begins no later than its answer
     early : (p : Operation) → precedes e p ≡ false → p.inv ≤ answered
     early p free = subst (λ place. p.inv ≤ place) first.first.at
         (ltb-false first.first.response.res p.inv (ap (λ o. is_before o p.inv) (sym first.first.is_answered) ∙ free))
@@ -384,7 +365,7 @@ few_choices start calls path answered keys rest pairs rising apart earliest hold
 abbrev pub IsOfOther : List Operation → List ℕ → ℕ → Type 0
 IsOfOther calls keys n = (a : Operation) → slice_get calls n ≡ Some a → IsCallOfOne keys a.call → ⊥
 
--- all that may come next are listed, but for those
+-- all that may come next are listed, except for those
 pub next_of_one : (start : Contents) (calls : List Operation) (path keys rest : List ℕ) → AreNext start calls path rest
     → ((n : ℕ) → IsNext start calls path n → Contains rest n ⊎ IsOfOther calls keys n) → AreNextOfOne start calls path keys rest
 next_of_one start calls path keys rest next all = record {

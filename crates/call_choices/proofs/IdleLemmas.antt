@@ -1,44 +1,22 @@
 -- Pending calls for which no completed call waits need not be tried.
 use Rattle.events.specs.declared.event.Reply.TheVariants as replies
-use Rattle.std.proofs.Common.{◌≡◌, ℕ, ◌+◌, ◌<◌, ◌≤◌, true, false, List, [], ◌∷◌, ◌++◌, Option, Some, None, length, refl, sym, ap, ◌∙◌}
-use Rattle.std.proofs.Common.{subst, append_assoc, ⊎_elim, arith}
-use Rattle.std.specs.Prelude.{◌≢◌, ◌⊎◌, is_some, slice_get, All, AllPairs, Contains}
-use Rattle.std.proofs.lemmas.Bool.{false≢true, both_ways, cases_Bool, cases_lt}
-use Rattle.std.proofs.lemmas.List.{length-append}
-use Rattle.std.proofs.lemmas.List.Elements.{All-head, All-tail, All-contains, Contains-append_left, Contains-append_right, Contains-append_cases}
-use Rattle.std.proofs.lemmas.Option.{same_Some, slice_get_within}
-use Rattle.events.specs.declared.event.Reply.{Reply}
-use Rattle.events.specs.declared.event.Call.TheVariants.{Scan}
-use Rattle.events.specs.declared.operation.Operation.{Operation}
-use Rattle.events.specs.declared.operation.Response.{Response}
-use Rattle.events.specs.Keys.{low_key, high_key}
-use Rattle.events.specs.Precedence.{is_before, is_completed, precedes, NonePrecedesItself}
-use Rattle.map_object.specs.MapObject.{Contents, IsRising, value_at, within}
-use Rattle.map_object.proofs.MapLemmas.{AreBelow, AreAbove, value_at_found}
-use Rattle.orders.specs.Orders.{IsLegalCall, IsLegal, after_calls, calls_at, IsCompletedAt, IsOrder}
-use Rattle.orders.proofs.OrderLemmas.{IsLegal-back}
-use Rattle.list_laws.proofs.Lists.{All-back, All-from_contains, Contains-nil, Contains-cases, Contains-at, Contains-first}
-use Rattle.list_laws.proofs.Lists.{Contains-split, place_of-Contains, place_before-Contains, slice_get-append_left, slice_get-middle}
-use Rattle.list_laws.proofs.FilterLemmas.{Contains-from_filter_map}
-use Rattle.list_laws.proofs.NumberLemmas.{slice_get-below}
-use Rattle.quiet_cuts.proofs.AroundLemmas.{AllPairs-before, AllPairs-behind}
-use Rattle.quiet_cuts.proofs.ValueLemmas.{rising_after, within_rises}
-use Rattle.segments.proofs.RangeLemmas.{IsOutside, value_at-within}
-use Rattle.configurations.specs.Fronts.{IsFront}
-use Rattle.configurations.proofs.FrontLemmas.{IsNext, IsNext-from_front, IsFront-from_order, completed}
-use Rattle.search.specs.Remaining.{IsEarliestAnswer}
-use Rattle.search.specs.Standing.{pairs_after}
-use Rattle.call_choices.specs.Standing.{Closes, AreNext}
-use Rattle.std.proofs.lemmas.List.Elements.{Contains-push, Contains-push_cases}
-use Rattle.call_choices.specs.Idle.{IsOpenNext, IsFree, IsBarred, WaitsForNone, IsDoneNext, AreIdle, IsPassedOver, MissesPair}
+use Rattle.call_choices.proofs.Common.{◌≡◌, ℕ, ◌+◌, ◌<◌, ◌≤◌, true, false, List, [], ◌∷◌, ◌++◌, Option, Some, None, length, refl, sym, ap, ◌∙◌, subst}
+use Rattle.call_choices.proofs.Common.{append_assoc, ⊎_elim, arith, ◌≢◌, ◌⊎◌, is_some, slice_get, All, AllPairs, Contains, false≢true, both_ways}
+use Rattle.call_choices.proofs.Common.{cases_Bool, cases_lt, length-append, All-head, All-tail, All-contains, Contains-append_left}
+use Rattle.call_choices.proofs.Common.{Contains-append_right, Contains-append_cases, same_Some, slice_get_within, Reply, Scan, Operation, Response}
+use Rattle.call_choices.proofs.Common.{low_key, high_key, is_before, is_completed, precedes, NonePrecedesItself, Contents, IsRising, value_at, within}
+use Rattle.call_choices.proofs.Common.{AreBelow, AreAbove, value_at_found, IsLegalCall, IsLegal, after_calls, calls_at, IsCompletedAt, IsOrder}
+use Rattle.call_choices.proofs.Common.{IsLegal-back, All-back, All-from_contains, Contains-nil, Contains-cases, Contains-at, Contains-first}
+use Rattle.call_choices.proofs.Common.{Contains-split, place_of-Contains, place_before-Contains, slice_get-append_left, slice_get-middle}
+use Rattle.call_choices.proofs.Common.{Contains-from_filter_map, slice_get-below, AllPairs-before, AllPairs-behind, rising_after, within_rises}
+use Rattle.call_choices.proofs.Common.{IsOutside, value_at-within, IsFront, IsNext, IsNext-from_front, IsFront-from_order, completed}
+use Rattle.call_choices.proofs.Common.{IsEarliestAnswer, pairs_after, Closes, AreNext, Contains-push, Contains-push_cases, IsOpenNext, IsFree}
+use Rattle.call_choices.proofs.Common.{IsBarred, WaitsForNone, IsDoneNext, AreIdle, IsPassedOver, MissesPair, IsOrder-not_yet, AllPairs-at, Bool, inl}
+use Rattle.call_choices.proofs.Common.{inr, cases_order}
 use Rattle.call_choices.proofs.ApartLemmas.{LetsPass, passes, pending_passes, value_stays}
 use Rattle.call_choices.proofs.ReadLemmas.{not_twice, legal_rest, moves_forward}
 use Rattle.call_choices.proofs.EarliestLemmas.{below_or_at}
 use Rattle.call_choices.proofs.StandingLemmas.{all_close}
-use Rattle.search.proofs.EarliestLemmas.{IsOrder-not_yet}
-use Rattle.list_laws.proofs.Lists.{AllPairs-at}
-use Rattle.std.proofs.Common.{Bool, inl, inr}
-use Rattle.std.proofs.lemmas.Bool.{cases_order}
 
 -- ---- a scan that lists a pair which is not there, and which no pending call may put there
 
@@ -237,7 +215,7 @@ module _ (start : Contents) (calls : List Operation) (path : List ℕ) (answered
         subst (IsOrder start calls) (sym (append_assoc path (first.n ∷ []) (first.front ++ first.back))) (comes_first tail first order),
       )
 
-  -- and so do all that may come next, where the pending ones are passed over only where they are idle
+  -- all calls that may come next make an end, if only idle pending ones are passed over
   pub choices_close : (rest : List ℕ) → ((n : ℕ) → IsNext start calls path n → Contains rest n ⊎ IsPassedOver true calls n)
       → Closes start calls path rest
   choices_close rest all = idle_close rest (λ n a next done. ⊎_elim
@@ -324,7 +302,8 @@ module _ (calls : List Operation) (path : List ℕ) (answered : ℕ) where
 
 -- ---- the calls to be tried, call by call
 
--- of the calls with a number below this those that may come next are listed, or are of some that are passed over, and no others are listed
+-- each call with a number below this that may come next is listed, or passed over, and no others
+-- are listed
 abbrev pub AreTried : Contents → List Operation → List ℕ → (ℕ → Type 0) → List ℕ → ℕ → Type 0
 AreTried start calls path Passed rest i =
     AreNext start calls path rest × ((n : ℕ) → n < i → IsNext start calls path n → Contains rest n ⊎ Passed n) × (length rest ≤ i)

@@ -1,3 +1,4 @@
+mod Common
 mod ToldLemmas
 pub mod ReadLemmas
 mod ApartLemmas

@@ -1,13 +1,8 @@
 -- Which calls are taken, and a place below which all are.
-use Rattle.std.proofs.Common.{◌≡◌, ℕ, ◌<◌, ◌≤◌, Bool, true, false, List, [], ◌∷◌, ◌++◌, length, get_or, set, replicate, refl, sym, ap, ◌∙◌}
-use Rattle.std.proofs.Common.{⊎_elim, arith}
-use Rattle.std.specs.Prelude.{◌≢◌, ◌⊎◌, ◌||◌, Contains}
-use Rattle.std.proofs.lemmas.Bool.{cases_order, eq-eqb, ne_eqb, false_from_ne_true}
-use Rattle.std.proofs.lemmas.List.{length-set, get_or-set_same, get_or-set_other, get_or-replicate, length-replicate}
-use Rattle.std.proofs.lemmas.List.Elements.{Contains-append_left, Contains-push_cases}
-use Rattle.list_laws.specs.Lists.{has_number}
-use Rattle.list_laws.proofs.NumberLemmas.{has_number-Contains, has_number-push}
-use Rattle.call_choices.specs.Standing.{AreMarked}
+use Rattle.call_choices.proofs.Common.{◌≡◌, ℕ, ◌<◌, ◌≤◌, Bool, true, false, List, [], ◌∷◌, ◌++◌, length, get_or, set, replicate, refl, sym, ap, ◌∙◌}
+use Rattle.call_choices.proofs.Common.{⊎_elim, arith, ◌≢◌, ◌⊎◌, ◌||◌, Contains, cases_order, eq-eqb, ne_eqb, false_from_ne_true, length-set}
+use Rattle.call_choices.proofs.Common.{get_or-set_same, get_or-set_other, get_or-replicate, length-replicate, Contains-append_left}
+use Rattle.call_choices.proofs.Common.{Contains-push_cases, has_number, has_number-Contains, has_number-push, AreMarked}
 
 -- no call is taken
 pub marked-none : (size : ℕ) → AreMarked size [] (replicate size false) 0
@@ -26,7 +21,7 @@ or_true : (b : Bool) → b || true ≡ true
 or_true true = refl
 or_true false = refl
 
--- a number that is not the last one is among others where it is among those before
+-- a number other than the last one is in the list exactly if it is before the last one
 not_last : (path : List ℕ) (n k : ℕ) → k ≢ n → has_number (path ++ n ∷ []) k ≡ has_number path k
 not_last path n k other = has_number-push path n k ∙ ap (λ b. has_number path k || b) (ne_eqb n k (λ is. other (sym is)))
     ∙ or_false (has_number path k)

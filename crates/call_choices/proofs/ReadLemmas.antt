@@ -1,21 +1,13 @@
 -- A completed call that leaves the map as it is may go first.
-use Rattle.std.proofs.Common.{◌≡◌, ℕ, ◌<◌, true, false, List, Some, [], ◌∷◌, ◌++◌, refl, sym, ap, ◌∙◌, subst, append_assoc, ⊎_elim}
-use Rattle.std.specs.Prelude.{◌≢◌, slice_get, length, All, AllPairs, Contains}
-use Rattle.std.proofs.lemmas.Bool.{false_from_ne_true}
-use Rattle.std.proofs.lemmas.List.Elements.{All-contains, All-append, Contains-append_left, Contains-append_right, Contains-append_cases}
-use Rattle.events.specs.declared.operation.Operation.{Operation}
-use Rattle.events.specs.Precedence.{precedes}
-use Rattle.map_object.specs.MapObject.{Contents, IsRising}
-use Rattle.orders.specs.Orders.{IsLegalCall, IsLegal, after_call, after_calls, calls_at, IsCompletedAt, IsLegalOrder, IsOrder}
-use Rattle.orders.specs.Orders.{KeepsPrecedence}
-use Rattle.list_laws.proofs.Lists.{All-front, All-back, All-from_contains, Contains-split, Contains-around, AllPairs-back, AllPairs-across}
-use Rattle.list_laws.proofs.FilterLemmas.{Contains-from_filter_map}
-use Rattle.orders.proofs.OrderLemmas.{IsLegal-append, IsLegal-front, IsLegal-back, calls_at-append}
-use Rattle.quiet_cuts.proofs.AroundLemmas.{beside, middle, All-around, All-before, All-here, All-behind, AllPairs-before, AllPairs-behind}
-use Rattle.quiet_cuts.proofs.AroundLemmas.{AllPairs-around, AllPairs-beside}
-use Rattle.quiet_cuts.proofs.ValueLemmas.{rising_after}
-use Rattle.search.specs.Standing.{pairs_after}
-use Rattle.call_choices.specs.Reads.{HasOrderAfter, IsReadNext, ReadsGoFirst}
+use Rattle.call_choices.proofs.Common.{◌≡◌, ℕ, ◌<◌, true, false, List, Some, [], ◌∷◌, ◌++◌, refl, sym, ap, ◌∙◌, subst, append_assoc, ⊎_elim, ◌≢◌}
+use Rattle.call_choices.proofs.Common.{slice_get, All, AllPairs, Contains, false_from_ne_true, All-contains, All-append, Contains-append_left}
+use Rattle.call_choices.proofs.Common.{Contains-append_right, Contains-append_cases, Operation, precedes, Contents, IsRising, IsLegalCall, IsLegal}
+use Rattle.call_choices.proofs.Common.{after_call, after_calls, calls_at, IsCompletedAt, IsLegalOrder, IsOrder, KeepsPrecedence, All-front, All-back}
+use Rattle.call_choices.proofs.Common.{All-from_contains, Contains-split, Contains-around, AllPairs-back, AllPairs-across, Contains-from_filter_map}
+use Rattle.call_choices.proofs.Common.{IsLegal-append, IsLegal-front, IsLegal-back, calls_at-append, beside, middle, All-around, All-before, All-here}
+use Rattle.call_choices.proofs.Common.{All-behind, AllPairs-before, AllPairs-behind, AllPairs-around, AllPairs-beside, rising_after, pairs_after}
+use Rattle.call_choices.proofs.Common.{HasOrderAfter, IsReadNext, ReadsGoFirst}
+use Rattle.std.specs.Prelude.{length}
 
 -- an element among others is taken to an earlier place
 module _ {X : Type 0} (path front : List X) (x : X) (back : List X) where
@@ -48,7 +40,7 @@ module _ {X : Type 0} (path front : List X) (x : X) (back : List X) where
       (Contains-around front x back y later))
       (Contains-append_cases path (front ++ x ∷ back) y h)
 
--- no element of distinct ones stands in two parts
+-- no element of distinct ones is in two parts
 pub not_twice : (path tail : List ℕ) → AllPairs (λ k l. k ≢ l) (path ++ tail) → (k : ℕ) → Contains path k → Contains tail k → ⊥
 not_twice path tail distinct k in_path later =
     All-contains (λ l. k ≢ l) tail k
@@ -66,7 +58,7 @@ legal_forward m front back a legal leaves leaves_there h =
           (IsLegal-append m front back (IsLegal-front m front (a ∷ back) h) (subst (λ n. IsLegal n back) leaves_there rest.1)),
     )
 
--- an order in which a call stands later than where a path ends
+-- an order in which a call comes later than where a path ends
 module _ (start : Contents) (calls : List Operation) (path : List ℕ) (n : ℕ) (a : Operation) (here : slice_get calls n ≡ Some a)
     (front back : List ℕ) (order : IsOrder start calls (path ++ (front ++ n ∷ back))) where
   legal_order : IsLegalOrder start calls (path ++ (front ++ n ∷ back))
@@ -93,7 +85,8 @@ module _ (start : Contents) (calls : List Operation) (path : List ℕ) (n : ℕ)
   pub legal_rest : IsLegal (pairs_after start calls path) (calls_at calls front ++ a ∷ calls_at calls back)
   legal_rest = IsLegal-back start (calls_at calls path) (calls_at calls front ++ a ∷ calls_at calls back) legal_whole
 
-  -- the call may stand there, where none of those that stood before it precedes it and it is legal there, as the others are after it
+  -- the call may be there, where none of those that came before it precedes it and it is legal
+  -- there, as the others are after it
   pub moves_forward : All (λ b. precedes b a ≡ false) (calls_at calls front)
       → IsLegal (pairs_after start calls path) (a ∷ (calls_at calls front ++ calls_at calls back))
       → IsOrder start calls (path ++ n ∷ (front ++ back))
@@ -120,11 +113,11 @@ module _ (start : Contents) (calls : List Operation) (path : List ℕ) (n : ℕ)
   a = read.call
 
   module _ (front back : List ℕ) (order : IsOrder start calls (path ++ (front ++ n ∷ back))) where
-    -- no call stands twice
+    -- no call appears twice
     apart : (k : ℕ) → Contains path k → Contains (front ++ n ∷ back) k → ⊥
     apart = not_twice path (front ++ n ∷ back) order.legal_order.distinct
 
-    -- none of the calls that stood before it precedes it
+    -- none of the calls that came before it precedes it
     free : All (λ b. precedes b a ≡ false) (calls_at calls front)
     free = All-from_contains (λ b. precedes b a ≡ false) (calls_at calls front)
         (λ b is. false_from_ne_true (precedes b a) (not_before b is))
@@ -140,7 +133,7 @@ module _ (start : Contents) (calls : List Operation) (path : List ℕ) (n : ℕ)
     path_rises : IsRising (pairs_after start calls path)
     path_rises = rising_after (calls_at calls path) start rising
 
-    -- where it stood, it left the pairs as they were, too
+    -- at its old place it left the pairs as they were, too
     leaves_there : after_call (after_calls (pairs_after start calls path) (calls_at calls front)) a.call a.response
         ≡ after_calls (pairs_after start calls path) (calls_at calls front)
     leaves_there =

@@ -1,30 +1,18 @@
--- How a search stands after each of its steps.
-use Rattle.std.proofs.Common.{Vec, Global, ◌≡◌, ℕ, ◌+◌, ◌<◌, ◌≤◌, Bool, true, false, List, Some, [], ◌∷◌, ◌++◌, length, take, replicate}
-use Rattle.std.proofs.Common.{set, get_or}
-use Rattle.std.proofs.Common.{refl, sym, ap, ◌∙◌, subst, inl, inr, ⊎_elim, arith}
-use Rattle.std.specs.Prelude.{◌⊎◌, slice_get, Contains}
-use Rattle.std.proofs.lemmas.Bool.{cases_lt}
-use Rattle.std.proofs.lemmas.List.{append-nil, append_assoc, map-append, take-append-le, take_all, length-append, length-map}
-use Rattle.std.proofs.lemmas.List.Elements.{Contains-append_left, Contains-push, Contains-push_cases}
-use Rattle.std.proofs.lemmas.Option.{none-some, same_Some, slice_get_within}
-use Rattle.events.specs.declared.operation.Operation.{Operation}
-use Rattle.events.specs.Precedence.{is_completed, NonePrecedesItself}
-use Rattle.map_object.specs.MapObject.{Contents, IsRising}
-use Rattle.orders.specs.Orders.{IsLegalCall, after_call, IsOrder, IsLinearizable}
-use Rattle.orders.proofs.OrderLemmas.{after_calls-push}
-use Rattle.configurations.specs.Fronts.{IsFront}
+-- The state of a search after each of its steps.
+use Rattle.call_choices.proofs.Common.{Vec, Global, ◌≡◌, ℕ, ◌+◌, ◌<◌, ◌≤◌, Bool, true, false, List, Some, [], ◌∷◌, ◌++◌, length, take, replicate, set}
+use Rattle.call_choices.proofs.Common.{get_or, refl, sym, ap, ◌∙◌, subst, inl, inr, ⊎_elim, arith, ◌⊎◌, slice_get, Contains, cases_lt, append-nil}
+use Rattle.call_choices.proofs.Common.{map-append, take-append-le, take_all, length-append, length-map, Contains-append_left, Contains-push}
+use Rattle.call_choices.proofs.Common.{Contains-push_cases, none-some, same_Some, slice_get_within, Operation, is_completed, NonePrecedesItself}
+use Rattle.call_choices.proofs.Common.{Contents, IsRising, IsLegalCall, after_call, IsOrder, IsLinearizable, after_calls-push, IsFront, IsNext}
+use Rattle.call_choices.proofs.Common.{IsNext-from_front, IsFront-next, IsFront-front, IsFront-nil, IsFront-from_order, Contains-nil, Contains-first}
+use Rattle.call_choices.proofs.Common.{Contains-cases, Contains-at, place_before-Contains, place-push, slice_get-append_left, slice_get-middle}
+use Rattle.call_choices.proofs.Common.{pairs_after, IsReadNext, places, IsDead, IsDeadAt, AreNext, Closes, Remembers, IsSettled, AreMarked}
+use Rattle.call_choices.proofs.Common.{StandsWith, AreChoices, IsNextOf, IsReduced, HasMoved, IsLooked, IsStep, to_try}
+use Rattle.std.proofs.lemmas.List.{append_assoc}
 use Rattle.configurations.specs.Configurations.{Configuration, LeadsTo, IsReachable}
-use Rattle.configurations.proofs.FrontLemmas.{IsNext, IsNext-from_front, IsFront-next, IsFront-front, IsFront-nil, IsFront-from_order}
 use Rattle.configurations.proofs.ConfigurationLemmas.{configuration_of, LeadsTo-nil}
-use Rattle.list_laws.proofs.Lists.{Contains-nil, Contains-first, Contains-cases, Contains-at, place_before-Contains, place-push}
-use Rattle.list_laws.proofs.Lists.{slice_get-append_left, slice_get-middle}
 use Rattle.search.specs.Undo.{undone}
 use Rattle.search.proofs.FutureLemmas.{same_completion}
-use Rattle.search.specs.Standing.{pairs_after}
-use Rattle.call_choices.specs.Reads.{IsReadNext}
-use Rattle.call_choices.specs.Standing.{places, IsDead, IsDeadAt, AreNext, Closes, Remembers, IsSettled, AreMarked, StandsWith, AreChoices}
-use Rattle.call_choices.specs.Standing.{IsNextOf, IsReduced}
-use Rattle.call_choices.specs.Standing.{HasMoved, IsLooked, IsStep, to_try}
 use Rattle.call_choices.specs.declared.branch.CallSearch.{CallSearch}
 use Rattle.call_choices.specs.declared.branch.SearchStep.{SearchStep}
 use Rattle.call_choices.specs.declared.branch.SearchStep.TheVariants.{Made, Order, NoOrder}
@@ -32,7 +20,7 @@ use Rattle.call_choices.specs.declared.branch.Branch.{Branch}
 use Rattle.call_choices.proofs.ReadLemmas.{reads_first}
 use Rattle.call_choices.proofs.MarkLemmas.{marked-none, marked-push, marked-pop}
 
--- what stands in the beginning of a list stands in the list
+-- what is in the beginning of a list is in the list
 Contains-from_take : (xs : List ℕ) (i n : ℕ) → Contains (take i xs) n → Contains xs n
 Contains-from_take xs i n h = let (j, before, there) = place_before-Contains xs i n h in Contains-at xs j n there
 
@@ -77,11 +65,11 @@ module _ (start : Contents) (calls : List Operation) where
       let next = IsNext-from_front start calls path n tail (IsFront-from_order start calls (path ++ n ∷ tail) apart order) in
       dead n (all n next) (tail, subst (IsOrder start calls) (sym (append_assoc path (n ∷ []) tail)) order)
 
-  -- and so does a read alone
+  -- a read on its own makes an end
   pub read_closes : (path : List ℕ) (n : ℕ) → IsRising start → IsReadNext start calls path n → Closes start calls path (n ∷ [])
   read_closes path n rising read dead more = dead n (Contains-first n []) ((reads_first start calls path n rising read).0 more)
 
-  -- the same calls in another order
+  -- calls to try may be listed in another order
   pub choices_again : (path rest again : List ℕ) → ((n : ℕ) → Contains rest n → Contains again n)
       → ((n : ℕ) → Contains again n → Contains rest n)
       → AreChoices start calls path rest → AreChoices start calls path again
@@ -321,7 +309,7 @@ module _ (start : Contents) (calls : List Operation) where
     pub choices-pop : AreChoices start calls front level.rest.items
     choices-pop = record { next = remembered.next; closes = remembered.closes dead_whole }
 
--- a search whose parts are these stands so
+-- a search whose parts are equal to these is in the same state
 pub stands-same : (start : Contents) (calls : List Operation) (levels l : List Branch) (at a : ℕ) (pairs m : Contents)
     (visited v : List Configuration)
     (taken t : List Bool) (low k : ℕ) → l ≡ levels → a ≡ at → m ≡ pairs → v ≡ visited → t ≡ taken → k ≡ low

@@ -1,22 +1,12 @@
--- Where a call leaves the map as it is, a reply that reports all says so.
+-- If a call leaves the map as it is, a reply that reports all says so.
 use Rattle.events.specs.declared.event.Reply.TheVariants as replies
-use Rattle.std.proofs.Common.{◌≡◌, ℕ, Bool, true, false, not, ◌==◌, ◌||◌, Option, Some, None, ◌++◌, refl, sym, ap, ◌∙◌, subst, inl, inr, eq-eqb}
-use Rattle.std.proofs.Common.{eqb-true}
-use Rattle.std.specs.Prelude.{if◌then◌else◌}
-use Rattle.std.proofs.lemmas.Bool.{false≢true}
-use Rattle.std.proofs.lemmas.Option.{same_Some}
-use Rattle.events.specs.declared.event.Call.{Call}
-use Rattle.events.specs.declared.event.Call.TheVariants.{Get, Insert, Remove, Scan, Replace}
-use Rattle.events.specs.declared.event.Reply.{Reply}
-use Rattle.events.specs.declared.operation.Response.{Response}
+use Rattle.call_choices.proofs.Common.{◌≡◌, ℕ, Bool, true, false, not, ◌==◌, Option, Some, None, ◌++◌, refl, sym, ap, ◌∙◌, subst, inl, inr, eqb-true}
+use Rattle.call_choices.proofs.Common.{if◌then◌else◌, false≢true, same_Some, Call, Get, Insert, Remove, Scan, Replace, Reply, Response, Contents}
+use Rattle.call_choices.proofs.Common.{IsRising, value_at, below, above, put, is_just, value_reply, reply_to, after, after_reply, IsLegalReply}
+use Rattle.call_choices.proofs.Common.{AreBelow-below, AreAbove-above, value_at_found, value_at_gap, after_call, IsLegalCall, says_unchanged}
+use Rattle.call_choices.proofs.Common.{unchanged, is_told_response, ToldCallsLeaveAll}
+use Rattle.std.proofs.Common.{◌||◌, eq-eqb}
 use Rattle.events.specs.Told.{is_told}
-use Rattle.map_object.specs.MapObject.{Contents, IsRising, value_at, below, above, put, is_just, value_reply, reply_to, after, after_reply}
-use Rattle.map_object.specs.MapObject.{IsLegalReply}
-use Rattle.map_object.proofs.MapLemmas.{AreBelow-below, AreAbove-above, value_at_found, value_at_gap}
-use Rattle.orders.specs.Orders.{after_call, IsLegalCall}
-use Rattle.quiet_cuts.specs.Replies.{says_unchanged}
-use Rattle.quiet_cuts.proofs.ReplyLemmas.{unchanged}
-use Rattle.call_choices.specs.Reads.{is_told_response, ToldCallsLeaveAll}
 
 value_put : (m : Contents) (key value : ℕ) → put key value m ≡ m → value_at m key ≡ Some value
 value_put m key value is =

@@ -52,9 +52,9 @@ pub record HasListed (key : ℕ) (value : Option ℕ) (call : Call) (reply : Rep
 abbrev pub Reports : ℕ → Option ℕ → Call → Reply → Type 0
 Reports key value call reply = HasFound key value call reply ⊎ HasListed key value call reply
 
--- a call that is left is stuck: it reported that a key had a value, or none, which the key does not
--- have, and no call that is left and begins no later than its answer puts that there. The call itself
--- is one of these: if it puts what it found, it changes nothing
+-- A call that is left is stuck. It reported that a key had a value, or none, which the key does not
+-- have. No call that is left and begins no later than its answer puts that there. The call itself
+-- is one of these: if it puts what it found, it changes nothing.
 pub record IsStuck (m : Contents) (calls : List Operation) (path : List ℕ) (n : ℕ) : Type 0 where
   pub call : Operation
   pub response : Response
@@ -67,7 +67,7 @@ pub record IsStuck (m : Contents) (calls : List Operation) (path : List ℕ) (n 
   pub missing : value_at m key ≢ value
   pub unput : IsUnput calls path response.res key value
 
--- where a call is stuck, what is left has no order
+-- if a call is stuck, what is left has no order
 abbrev pub StuckCallsAreDeadEnds : Type 0
 StuckCallsAreDeadEnds =
     (start : Contents) (calls : List Operation) (path : List ℕ) (n : ℕ) → IsRising start → IsStuck (pairs_after start calls path) calls path n

@@ -83,7 +83,7 @@ FewKeysGoFirst =
     → IsEarliestAnswer calls path (Some answered) → AreFirstKeys (pairs_after start calls path) calls path answered keys
     → HasOrderAfter start calls path → BeginsWithOne start calls path keys
 
--- of the calls that may come next those of these keys, pending ones too
+-- the calls of these keys among those that may come next, pending ones too
 pub record AreNextOfOne (start : Contents) (calls : List Operation) (path keys rest : List ℕ) : Type 0 where
   pub next : AreNext start calls path rest
   pub all : (n : ℕ) (a : Operation) → slice_get calls n ≡ Some a → IsCallOfOne keys a.call → IsNext start calls path n → Contains rest n

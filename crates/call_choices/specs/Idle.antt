@@ -1,5 +1,5 @@
--- Pending calls that need not be tried where a search stands: no completed call that could be the
--- next one waits for them.
+-- Pending calls that need not be tried in the state of a search: no completed call that could be
+-- the next one waits for them.
 use Rattle.std.specs.Prelude.{◌≡◌, ◌⊎◌, ℕ, ◌≤◌, Bool, true, List, Some, None, slice_get, All, Contains, IsSomeAnd}
 use Rattle.events.specs.declared.operation.Operation.{Operation}
 use Rattle.events.specs.Keys.{low_key, high_key}

@@ -17,8 +17,8 @@ HasOrderAfter start calls path = (tail : List ℕ) × IsOrder start calls (path 
 abbrev pub LeavesAll : Operation → Type 0
 LeavesAll a = (m : Contents) → IsRising m → IsLegalCall m a.call a.response → after_call m a.call a.response ≡ m
 
--- a completed call that is left, that none which is left precedes, that does its reply where these
--- calls lead, and leaves the pairs as they are wherever it may be answered so
+-- a completed call that is left and that no call that is left precedes; it gives its reply where
+-- these calls lead, and leaves the pairs as they are wherever it may be answered so
 pub record IsReadNext (start : Contents) (calls : List Operation) (path : List ℕ) (n : ℕ) : Type 0 where
   pub call : Operation
   pub here : slice_get calls n ≡ Some call

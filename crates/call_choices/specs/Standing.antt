@@ -1,4 +1,4 @@
--- Where a search stands: what its stack, its map, its memo and its lists say of the calls taken.
+-- The state of a search: what its stack, its map, its memo and its lists say of the calls taken.
 use Rattle.std.specs.Prelude.{◌≡◌, ◌⊎◌, ℕ, ◌+◌, ◌-◌, ◌*◌, ◌<◌, ◌≤◌, true, false, Bool, List, [], ◌∷◌, ◌++◌, length, map, take, Option, Some}
 use Rattle.std.specs.Prelude.{slice_get}
 use Rattle.std.specs.Prelude.{slice_index_or, slice_set, Contains}
@@ -34,12 +34,12 @@ IsDeadAt start calls c = (path : List ℕ) → IsFront start calls path → Lead
 abbrev pub AreNext : Contents → List Operation → List ℕ → List ℕ → Type 0
 AreNext start calls path rest = (n : ℕ) → Contains rest n → IsNext start calls path n
 
--- where each call listed is taken in vain, the calls taken are a dead end
+-- if each call listed is taken in vain, the calls taken are a dead end
 abbrev pub Closes : Contents → List Operation → List ℕ → List ℕ → Type 0
 Closes start calls path rest = ((n : ℕ) → Contains rest n → IsDead start calls (path ++ n ∷ [])) → IsDead start calls path
 
--- a level of the stack: where the search stood before its call, what undoes the call, and what is
--- to be tried in its stead
+-- a level of the stack: the search's state before its call, what undoes the call, and what is left
+-- to try instead
 pub record Remembers (start : Contents) (calls : List Operation) (visited : List Configuration) (path : List ℕ)
     (level : Branch) : Type 0 where
   pub at : IsConfigurationAt start calls visited path level.at
@@ -58,7 +58,7 @@ pub record AreMarked (size : ℕ) (path : List ℕ) (taken : List Bool) (low : �
   pub within : low ≤ size
   pub below : (n : ℕ) → n < low → Contains path n
 
--- a search stands here, but for what it is to try next
+-- this is the state of a search, apart from what it tries next
 pub record StandsWith (start : Contents) (calls : List Operation) (levels : List Branch) (at : ℕ) (pairs : Contents)
     (visited : List Configuration) (taken : List Bool) (low : ℕ) : Type 0 where
   pub is_front : IsFront start calls (places levels)
@@ -83,7 +83,7 @@ pub record IsReduced (start : Contents) (calls : List Operation) (path rest fewe
   pub others : (n : ℕ) → Contains rest n → Contains fewer n ⊎ IsDead start calls (path ++ n ∷ [])
   pub few : length fewer ≤ length rest
 
--- a search stands here
+-- this is the state of a search
 abbrev pub Stands : Contents → List Operation → CallSearch → Type 0
 Stands start calls s = StandsBare start calls s × AreChoices start calls (places s.levels.items) s.rest.items
 

@@ -1,10 +1,10 @@
-// Where a search stands.
+// The state of a search.
 use events::Call;
 use map_object::SortedMap;
 use memo::Memo;
 
-/// A call taken: by its place, with what undoes it on the map, the configuration before it, by its
-/// place in the memo, and the calls that are to be tried in its stead.
+/// A call taken, by its place. It has what undoes the call on the map, the place in the memo of the
+/// configuration before it, and the calls left to try instead.
 #[derive(Drop)]
 pub struct Branch {
     pub place: u32,
@@ -13,9 +13,9 @@ pub struct Branch {
     pub rest: Vec<u32>,
 }
 
-/// Where a search stands: the calls taken, those that are to be tried next, the last one first, the
-/// configuration that it stands at, the map there, the configurations visited, which calls are
-/// taken, and a place below which all are.
+/// The state of a search: the calls taken, those to try next, the last one first, the configuration
+/// that it has reached, the map there, the configurations visited, which calls are taken, and a
+/// place below which all are.
 pub struct CallSearch {
     pub levels: Vec<Branch>,
     pub rest: Vec<u32>,

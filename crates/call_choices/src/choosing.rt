@@ -19,7 +19,7 @@ use orders::may_come_next;
 use quiet_cuts::{earlier_answer, is_behind, is_read};
 use std::alloc::Global;
 
-/// The calls that are to be tried where a search stands, the last one first: one read alone, if
+/// The calls to try next in the state of a search, the last one first: one read on its own, if
 /// there is one, or else all calls that may come next. Those that were answered first are tried
 /// first. Pending ones are passed over if no completed one could wait for them, and otherwise tried
 /// last, by invocation. If several calls are left to try, only those of a few keys are, pending
@@ -58,7 +58,7 @@ pub fn choices(
     Ok(Some(by_answer(calls, rest)))
 }
 
-/// Whether a list has one call only, and that was answered that it changed nothing.
+/// Whether a list has only one call, and its answer says that it changed nothing.
 fn is_lone_read(calls: &[Operation], next: &[u32]) -> bool {
     let [place] = next else {
         return false;
@@ -69,7 +69,7 @@ fn is_lone_read(calls: &[Operation], next: &[u32]) -> bool {
     }
 }
 
-/// Of several calls that are to be tried only those of a few keys, if such keys are seen.
+/// Keeps, of several calls to try, only those of a few keys, if such keys are seen.
 fn narrowed(
     alloc: Global,
     calls: &[Operation],
@@ -101,7 +101,7 @@ fn narrowed(
     Ok(few)
 }
 
-/// Of the calls that may come next those of these keys, by rising place.
+/// The calls of these keys among those that may come next, by rising place.
 fn next_of_keys(
     alloc: Global,
     calls: &[Operation],
@@ -144,8 +144,8 @@ fn is_of_one(call: &Call, keys: &[u64]) -> bool
     false
 }
 
-/// The place by which calls begin that are asked whether they are stuck: at the start of a search
-/// all calls are, and later those that begin no later than the earliest answer.
+/// The place up to which a call has to begin to be tested for being stuck. At the start of a search
+/// all calls are tested, and later those that begin no later than the earliest answer.
 fn last_of_look(standing: &CallSearch, answered: usize) -> usize {
     if standing.levels.is_empty() {
         return usize::MAX;
@@ -180,7 +180,7 @@ fn hopeful(
     Ok(rest)
 }
 
-/// The calls at these places, the one that was answered first last. Pending ones stand before all
+/// The calls at these places, the one that was answered first last. Pending ones come before all
 /// others, those that were invoked later first.
 fn by_answer(calls: &[Operation], mut rest: Vec<u32>) -> Vec<u32>
     ensures { IsPermutation rest.items result.items }
@@ -201,8 +201,8 @@ fn answer_of(calls: &[Operation], place: u32) -> usize {
     }
 }
 
-/// One read that may come next, or else all calls that may, by rising place, but for the pending
-/// ones where no completed call that could come next waits for them.
+/// One read that may come next, or else all calls that may, by rising place. Pending calls are left
+/// out if no completed call that could come next waits for them.
 fn next_calls(
     alloc: Global,
     calls: &[Operation],

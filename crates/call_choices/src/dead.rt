@@ -15,10 +15,10 @@ use crate::idle::is_taken;
 use events::{Call, Operation, Reply};
 use quiet_cuts::{earlier_answer, is_behind, is_read, value_behind};
 
-/// How many calls that are left are looked at, at most.
+/// The most calls that are left and looked at.
 const MOST: usize = 256;
 
-/// The place up to which calls are looked at: 256 of those that are left stand before it, or all.
+/// The place up to which calls are looked at: 256 of those that are left come before it, or all.
 pub(crate) fn end_of_look(calls: &[Operation], standing: &CallSearch) -> usize
     ghost start: { Contents }
     requires stands { StandsBare start calls.now standing.now }
@@ -37,10 +37,10 @@ pub(crate) fn end_of_look(calls: &[Operation], standing: &CallSearch) -> usize
     calls.len()
 }
 
-/// Whether a call that is left, and begins no later than a place, is seen to be stuck: so the calls
-/// taken are a dead end. Calls are looked at up to `end`. It costs a look into the map for each of
-/// those that are left and begin by that place, and where the map does not have what the call
-/// reported, a look at the calls up to `end` that are left.
+/// Whether a call that is left, and begins no later than a place, is seen to be stuck. Then the
+/// calls taken are a dead end. Calls are looked at up to `end`. It costs a look into the map for
+/// each call that is left and begins by that place. If the map does not have what the call
+/// reported, it also costs a look at the calls up to `end` that are left.
 pub(crate) fn is_dead_end(
     calls: &[Operation],
     standing: &CallSearch,
@@ -130,8 +130,8 @@ fn is_lost(
     !may_be_put(calls, standing, end, last, key, value)
 }
 
-/// Whether one of the calls that are left, and begin no later than a place, may put a value, or
-/// none, at a key: one of those before `end` does, or others begin by that place.
+/// Whether a call that is left, and begins no later than a place, may put a value, or none, at a
+/// key. It says so if one of those before `end` does, or if others begin by that place.
 fn may_be_put(
     calls: &[Operation],
     standing: &CallSearch,
@@ -162,8 +162,8 @@ fn may_be_put(
     calls[end].inv <= last
 }
 
-/// Whether a call may put a value, or none, at a key: it does so if it is done, and was not
-/// answered that it changed nothing.
+/// Whether a call may put a value, or none, at a key: it does so if it is done, and its answer does
+/// not say that it changed nothing.
 fn may_put(call: &Operation, key: u64, value: Option<u64>) -> bool
     ensures { result ≡ false → Puts key value call.now.call → IsRead call.now }
 {
@@ -184,10 +184,10 @@ fn puts(call: &Call, key: u64, value: Option<u64>) -> bool
     }
 }
 
-/// Whether a call is seen to leave another one stuck, if it is the next one taken: it changes a
-/// value that another reported, and that nobody puts there again before that one. It costs a look
-/// into the map, and if the call changes its key, two looks at the calls up to `end` that are left,
-/// with the pairs of the scans among them.
+/// Whether a call is seen to leave another one stuck, if it is the next one taken. It does so if it
+/// changes a value that another reported, and no call puts that value there again before the other.
+/// It costs a look into the map. If the call changes its key, it also costs two looks at the calls
+/// up to `end` that are left, with the pairs of the scans among them.
 pub(crate) fn is_futile(
     calls: &[Operation],
     standing: &CallSearch,
@@ -225,7 +225,7 @@ fn keeps(value: Option<u64>, call: &Operation) -> bool
     value_behind(value, call) == value
 }
 
-/// The earliest answer of a call that is left, before `end` and another than this one, and reported
+/// The earliest answer of another call than this one that is left, is before `end`, and reported
 /// that a key had a value, or none.
 fn first_report(
     calls: &[Operation],

@@ -17,9 +17,10 @@ use std::alloc::Global;
 /// How many keys are taken together, at most.
 const MOST: usize = 64;
 
-/// Keys of which a call goes first, if such are seen: the key of the call that was answered first,
-/// or one that this call missed, with one more for each scan over them that missed none. For each
-/// of these keys it looks at the scans that begin no later than the answer, and at their pairs.
+/// Keys of which a call goes first, if such are seen. The first key is the key of the call that was
+/// answered first, or one that this call missed. Each scan over these keys that missed none of them
+/// adds one more. For each of these keys it looks at the scans that begin no later than the answer,
+/// and at their pairs.
 pub(crate) fn first_keys(
     alloc: Global,
     calls: &[Operation],
@@ -173,8 +174,8 @@ fn missed_key(map: &SortedMap, call: &Operation) -> Option<u64>
     }
 }
 
-/// A key of a range that has another value, or none, in a map than among some pairs: the first of
-/// those among the pairs, or else the least that is in the map.
+/// A key of a range that has another value, or none, in a map than among some pairs. It is the
+/// first such key among the pairs, or else the least that is in the map.
 fn differing_key(map: &SortedMap, low: u64, high: u64, pairs: &[(u64, u64)]) -> Option<u64>
     ensures { IfSome result (Differs map.now low high pairs.now) }
 {
@@ -186,8 +187,8 @@ fn differing_key(map: &SortedMap, low: u64, high: u64, pairs: &[(u64, u64)]) -> 
     unlisted_key(map, low, high, pairs)
 }
 
-/// The least key of a range that is in a map and not among some pairs, where the map has all of
-/// these.
+/// The least key of a range that is in a map and not among some pairs, if the map has all of these
+/// pairs.
 fn unlisted_key(map: &SortedMap, low: u64, high: u64, pairs: &[(u64, u64)]) -> Option<u64>
     ensures { IfSome result (Differs map.now low high pairs.now) }
 {

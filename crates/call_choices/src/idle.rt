@@ -1,4 +1,4 @@
-// Pending calls that need not be tried where a search stands.
+// Pending calls that need not be tried in the state of a search.
 ghost use Rattle.std.specs.Prelude.{◌≡◌, ◌↔◌, ◌⊎◌, ℕ, ◌<◌, true, false, length, Some, AllPairs, IsTrue, Contains, slice_get, slice_index_or};
 ghost use Rattle.list_laws.specs.Lists.{has_number};
 ghost use Rattle.events.specs.declared.operation.Operation.{Operation};
@@ -13,9 +13,9 @@ use crate::branch::CallSearch;
 use events::{Call, Operation, Reply};
 use map_object::SortedMap;
 
-/// Whether there are pending calls that could come next, and no completed one that could waits for
-/// them: so none of them need be tried here. It costs as much as those that could come next, each
-/// with each, and the pairs that a scan lists.
+/// Whether there are pending calls that could come next, and no completed call that could come next
+/// waits for them. Then no pending call has to be tried here. It compares the calls that could come
+/// next with one another, and with the pairs that a scan lists.
 pub(crate) fn are_idle(calls: &[Operation], standing: &CallSearch, answered: usize) -> bool
     ghost start: { Contents }
     requires rising { AllPairs (λ a b. a.inv < b.inv) calls.now }
@@ -60,8 +60,9 @@ fn may_wait(calls: &[Operation], standing: &CallSearch, place: usize, answered: 
     }
 }
 
-/// Whether a call that was answered so waits for no pending one: these change none of its keys, or
-/// it is a scan that lists a pair which the map does not hold, at a key that none of them changes.
+/// Whether a call that was answered so waits for no pending one. That is so if they change none of
+/// its keys. It is also so for a scan that lists a pair which the map does not hold, at a key that
+/// none of them changes.
 fn waits_for_none(
     calls: &[Operation],
     standing: &CallSearch,

@@ -1,12 +1,9 @@
 //! Searches calls for an order from a map: Wing and Gong 1993, who take calls that may come next
-//! and go back where none may, with the memo of Lowe 2017.
-//!
-//! The calls may be of any places, as those that are left of a stream of events are. Which of them
-//! are tried where, and why these suffice, is said in `call_choices`.
-//!
-//! It says of the calls only whether they have an order, and gives one; which configurations it
-//! counts is its own. The exact search of a segment, which counts what its definitions say, is
-//! `search`'s.
+//! and go back if none may, with the memo of Lowe 2017. The calls may be of any places, as those
+//! that are left of a stream of events are. `call_choices` says which of them are tried where, and
+//! why these suffice. The search says of the calls only whether they have an order, and gives one;
+//! how it counts configurations is its own. `search` is the exact search of a segment, which counts
+//! what its definitions say.
 #![tactic(auto)]
 
 mod found;

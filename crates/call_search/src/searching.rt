@@ -14,12 +14,12 @@ use std::alloc::Global;
 
 /// Searches calls for an order from a map: an order if there is one, `NoOrder` if there is none,
 /// and `Spent` if more configurations were met than the budget. `Memory` if memory runs out, and at
-/// 4,294,967,295 calls or more, which no memory holds. The calls stand by rising invocation, at any
+/// 4,294,967,295 calls or more, which no memory holds. The calls are sorted by invocation, at any
 /// places. It goes on from each configuration once, and from a call that may come next and leaves
-/// the map as it is to no other. A call that was answered earlier is tried earlier. Of several
-/// calls only those of a few keys are tried, if such keys are seen (`few_keys_go_first`). Nothing
-/// is tried where a call is seen to be stuck (`stuck_calls_are_dead_ends`), nor a call that is seen
-/// to leave another one stuck. It does not recurse: it keeps the calls taken in a list.
+/// the map as it is to no other. A call that was answered earlier is tried earlier. If several
+/// calls may be tried, only those of a few keys are, if such keys are seen (`few_keys_go_first`).
+/// Nothing is tried where a call is seen to be stuck (`stuck_calls_are_dead_ends`), nor a call that
+/// is seen to leave another one stuck. It does not recurse: it keeps the calls taken in a list.
 pub fn search_calls(
     alloc: Global,
     map: SortedMap,
@@ -37,7 +37,7 @@ pub fn search_calls(
     search_on(alloc, calls, &mut standing, budget)
 }
 
-/// Searches on from where a search stands.
+/// Searches on from the present state of a search.
 fn search_on(
     alloc: Global,
     calls: &[Operation],

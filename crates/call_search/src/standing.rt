@@ -1,4 +1,4 @@
-// Where a search stands, and its steps.
+// The state of a search, and its steps.
 ghost use Rattle.std.specs.Prelude.{◌≡◌, ◌+◌, ◌<◌, ◌≤◌, ◌^◌, length, [], AllPairs, IfOk, OnOk};
 ghost use Rattle.events.specs.Precedence.{NonePrecedesItself};
 ghost use Rattle.map_object.specs.MapObject.{Contents, IsRising};
@@ -34,7 +34,7 @@ pub(crate) fn open(alloc: Global, map: SortedMap, calls: &[Operation]) -> Result
     })
 }
 
-/// One step: the next call is tried, or the search goes back where there is none.
+/// One step: the next call is tried, or the search goes back if there is none.
 pub(crate) fn make_step(
     alloc: Global,
     calls: &[Operation],
@@ -113,7 +113,7 @@ fn push(
     Ok(())
 }
 
-/// Looks which calls may come next where the search now stands.
+/// Looks which calls may come next in the present state of the search.
 pub(crate) fn look_on(
     alloc: Global,
     calls: &[Operation],
@@ -136,7 +136,7 @@ pub(crate) fn look_on(
     }
 }
 
-/// Back by one call, where nothing is to be tried.
+/// Goes back by one call, since nothing is left to try.
 fn go_back(
     alloc: Global,
     calls: &[Operation],

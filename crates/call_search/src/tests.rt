@@ -22,9 +22,9 @@ fn found(alloc: Global, events: Vec<Event>, budget: u32) -> Result<SearchEnd, Fa
     Ok(search_calls(alloc, SortedMap::new(alloc), history.calls(), budget)?)
 }
 
-/// What a search finds, in a word, where key 1 has 5, and a get of it was answered so. Inserts at
-/// two other keys ran at the same time, and this call, answered or pending. At the first
-/// configuration only the insert of 5 may come next, and at the second at least two of the others.
+/// What a search finds, in a word. Key 1 has 5, and a get of it was answered so. Inserts at two
+/// other keys ran at the same time, and this call, answered or pending. At the first configuration
+/// only the insert of 5 may come next, and at the second at least two of the others.
 fn get_found(
     alloc: Global,
     reply: Reply,
@@ -77,7 +77,8 @@ fn a_value_may_still_be_put(rt: HostRuntime) -> Result<(), Fail> {
     Ok(())
 }
 
-// An insert that found its own value changed nothing, so it is no writer of it. It is stuck itself.
+// An insert that found its own value changed nothing, so it is no writer of that value. It is stuck
+// itself.
 #[test]
 fn a_call_that_changed_nothing_puts_nothing(rt: HostRuntime) -> Result<(), Fail> {
     let alloc = rt.alloc();
@@ -87,7 +88,7 @@ fn a_call_that_changed_nothing_puts_nothing(rt: HostRuntime) -> Result<(), Fail>
     Ok(())
 }
 
-// A get of which only is known that it was done.
+// A get of which it is known only that it was done.
 #[test]
 fn a_call_that_reports_less_is_not_stuck(rt: HostRuntime) -> Result<(), Fail> {
     let alloc = rt.alloc();
@@ -141,7 +142,7 @@ fn is_order(alloc: Global, events: Vec<Event>, places: &[u32], budget: u32) -> R
     }
 }
 
-// Of two inserts the one that was answered first is tried first.
+// The insert that was answered first is tried first.
 #[test]
 fn calls_are_tried_by_answer(rt: HostRuntime) -> Result<(), Fail> {
     let alloc = rt.alloc();

@@ -1,22 +1,12 @@
 -- Where a list of numbers ceases to be a legal order, and that it shows one fault there.
-use Rattle.std.proofs.Common.{◌≡◌, ℕ, ◌+◌, ◌<◌, false, List, Some, [], ◌∷◌, ◌++◌, length, take, drop, refl, sym, ap, ◌∙◌, subst, arith, inl}
-use Rattle.std.proofs.Common.{inr}
-use Rattle.std.specs.Prelude.{◌≢◌, slice_get, Contains}
-use Rattle.std.proofs.lemmas.Bool.{false≢true, cases_order}
-use Rattle.std.proofs.lemmas.List.{take-take, take-append-drop}
-use Rattle.std.proofs.lemmas.List.Elements.{All-head}
-use Rattle.std.proofs.lemmas.Option.{slice_get_within}
-use Rattle.events.specs.declared.operation.Operation.{Operation}
-use Rattle.events.specs.Precedence.{precedes}
-use Rattle.map_object.specs.MapObject.{Contents}
-use Rattle.orders.specs.Orders.{IsLegalOrder, IsOrder, IsLegalCall, IsLegal, KeepsPrecedence, after_calls, calls_at}
-use Rattle.certificate.specs.OrderFaults.{PrecedesSome, IsNextAt, IsUnknownAt, IsRepeatedAt, IsNewAt, BreaksPrecedenceAt, IsIllegalAt}
-use Rattle.certificate.specs.OrderFaults.{IsLeastMissing}
-use Rattle.list_laws.proofs.Lists.{All-front, All-back, AllPairs-front, AllPairs-across}
-use Rattle.orders.proofs.OrderLemmas.{IsLegal-front, IsLegal-back, calls_at-append, calls_at-push}
+use Rattle.certificate.proofs.Common.{◌≡◌, ℕ, ◌+◌, ◌<◌, false, List, Some, [], ◌∷◌, ◌++◌, length, take, drop, refl, sym, ap, ◌∙◌, subst, arith, inl}
+use Rattle.certificate.proofs.Common.{inr, ◌≢◌, slice_get, Contains, false≢true, cases_order, take-take, take-append-drop, All-head, slice_get_within}
+use Rattle.certificate.proofs.Common.{Operation, precedes, Contents, IsLegalOrder, IsOrder, IsLegalCall, IsLegal, KeepsPrecedence, after_calls}
+use Rattle.certificate.proofs.Common.{calls_at, PrecedesSome, IsNextAt, IsUnknownAt, IsRepeatedAt, IsNewAt, BreaksPrecedenceAt, IsIllegalAt}
+use Rattle.certificate.proofs.Common.{IsLeastMissing, All-front, All-back, AllPairs-front, AllPairs-across, IsLegal-front, IsLegal-back}
+use Rattle.certificate.proofs.Common.{calls_at-append, calls_at-push, IsFirstFault, IsRefusedFor}
 use Rattle.certificate.specs.declared.fault.OrderFault.{OrderFault}
 use Rattle.certificate.specs.declared.fault.OrderFault.TheVariants.{Unknown, Repeated, Precedence, Reply, Missing, Memory}
-use Rattle.certificate.specs.Faults.{IsFirstFault, IsRefusedFor}
 use Rattle.certificate.proofs.PrefixLemmas.{take-next}
 
 -- the front of a legal order is a legal order
@@ -43,7 +33,7 @@ known_last : (start : Contents) (calls : List Operation) (numbers : List ℕ) (n
     → n < length calls
 known_last start calls numbers n h = All-head (λ m. m < length calls) n [] (All-back (λ m. m < length calls) numbers (n ∷ []) h.known)
 
--- the last number of a legal order does not stand before
+-- the last number of a legal order does not come before
 new_last : (start : Contents) (calls : List Operation) (numbers : List ℕ) (n : ℕ) → IsLegalOrder start calls (numbers ++ n ∷ [])
     → Contains numbers n → ⊥
 new_last start calls numbers n h (k, within, is) =
@@ -84,7 +74,7 @@ module _ (start : Contents) (calls : List Operation) (order : List ℕ) where
       at_p.broken (subst (IsLegalOrder start calls) (take-take (p + 1) q order (omega arith))
       (IsLegalOrder-take start calls (take q order) (p + 1) at_q.sound))
 
-  -- so it breaks at one place only
+  -- a list breaks at only one place
   same_place : (p q : ℕ) → BreaksAt start calls order p → BreaksAt start calls order q → p ≡ q
   same_place p q at_p at_q = elim (cases_order p q) [
     | inl same ↦ same
@@ -122,19 +112,19 @@ module _ (start : Contents) (calls : List Operation) (order : List ℕ) where
       → (p q : ℕ) → P p → Q q → ⊥
   apart P Q breaks_P breaks_Q clash p q h k = clash q (subst P (same_place p q (breaks_P p h) (breaks_Q q k)) h) k
 
-  -- an unknown number is not one that stands before
+  -- an unknown number is not one that comes before
   unknown_repeated : (p : ℕ) → IsUnknownAt start calls order p → IsRepeatedAt start calls order p → ⊥
   unknown_repeated p h k =
       let same : h.number ≡ k.number = cc in
       absurd (omega (arith, h.unknown, k.known))
 
-  -- nor that of a call
+  -- an unknown number is not that of a call
   unknown_new : (p : ℕ) (a : Operation) → IsUnknownAt start calls order p → IsNewAt start calls order p a → ⊥
   unknown_new p a h k =
       let same : h.number ≡ k.number = cc in
       absurd (omega (arith, h.unknown, slice_get_within calls k.number a k.call))
 
-  -- a number that stands before is not there for the first time
+  -- a number that comes before is not there for the first time
   repeated_new : (p : ℕ) (a : Operation) → IsRepeatedAt start calls order p → IsNewAt start calls order p a → ⊥
   repeated_new p a h k =
       let same : h.number ≡ k.number = cc in
@@ -206,7 +196,7 @@ module _ (start : Contents) (calls : List Operation) (order : List ℕ) where
   faulty_is_no_order (Missing n) h k = h.missing (k.complete n h.completed)
   faulty_is_no_order Memory h k = h
 
--- an order is refused for want of memory alone
+-- an order is refused only if memory runs out
 pub refused_order : (start : Contents) (calls : List Operation) (order : List ℕ) (fault : OrderFault) → IsRefusedFor start calls order fault
     → IsOrder start calls order → fault ≡ Memory
 refused_order start calls order Memory h k = refl

@@ -1,3 +1,4 @@
+mod Common
 pub mod PrefixLemmas
 pub mod FaultLemmas
 pub mod PushLemmas

@@ -1,31 +1,22 @@
--- What is kept of the numbers so far tells what is wrong with the next one.
-use Rattle.std.proofs.Common.{◌≡◌, ℕ, ◌+◌, ◌<◌, ◌≢◌, Bool, true, false, List, Some, [], ◌∷◌, ◌++◌, length, get_or, set, take, sym, ap, ◌∙◌}
-use Rattle.std.proofs.Common.{arith}
-use Rattle.std.proofs.Common.{get_or-set_other, get_or-set_same, inl, inr}
-use Rattle.std.specs.Prelude.{max, map, ◌==◌, is_some, slice_get, Contains}
-use Rattle.std.proofs.lemmas.Bool.{false≢true, or_right}
+-- What is stored of the numbers so far says what is wrong with the next one.
+use Rattle.certificate.proofs.Common.{◌≡◌, ℕ, ◌+◌, ◌<◌, Bool, true, false, List, Some, [], ◌∷◌, ◌++◌, length, get_or, set, take, sym, ap, ◌∙◌, arith}
+use Rattle.certificate.proofs.Common.{get_or-set_other, get_or-set_same, inl, inr, max, map, ◌==◌, is_some, slice_get, Contains, false≢true, or_right}
+use Rattle.certificate.proofs.Common.{take_more, map-append, length-set, slice_get_within, get_or_from_slice_get, Operation, greatest, has_number}
+use Rattle.certificate.proofs.Common.{is_before, Contents, IsCompletedAt, IsLegalCall, after_call, calls_at, PrecedesSome, IsNewAt}
+use Rattle.certificate.proofs.Common.{after_calls-append, calls_at-push, greatest-push, has_number-Contains, has_number-from_Contains}
+use Rattle.certificate.proofs.Common.{has_number-push, IsPrefixOf}
+use Rattle.std.proofs.Common.{◌≢◌}
 use Rattle.std.proofs.Math.Bool.{or-false}
 use Rattle.std.proofs.lemmas.Bool.Decides.{eqb_tells}
-use Rattle.std.proofs.lemmas.List.{take_more, map-append, length-set}
-use Rattle.std.proofs.lemmas.Option.{slice_get_within, get_or_from_slice_get}
-use Rattle.events.specs.declared.operation.Operation.{Operation}
-use Rattle.list_laws.specs.Lists.{greatest, has_number}
-use Rattle.events.specs.Precedence.{is_before}
-use Rattle.map_object.specs.MapObject.{Contents}
-use Rattle.orders.specs.Orders.{IsCompletedAt, IsLegalCall, after_call, calls_at}
-use Rattle.certificate.specs.OrderFaults.{PrecedesSome, IsNewAt}
-use Rattle.orders.proofs.OrderLemmas.{after_calls-append, calls_at-push}
 use Rattle.certificate.proofs.PushLemmas.{IsLegalOrder-push, before_latest, before_latest-from}
-use Rattle.list_laws.proofs.NumberLemmas.{greatest-push, has_number-Contains, has_number-from_Contains, has_number-push}
 use Rattle.certificate.specs.declared.prefix.Prefix.{Prefix}
-use Rattle.certificate.specs.Prefix.{IsPrefixOf}
 
 -- the first elements of a list, one element further
 pub take-next : {X : Type 0} (xs : List X) (i : ℕ) (x : X) → slice_get xs i ≡ Some x → take (i + 1) xs ≡ take i xs ++ x ∷ []
 take-next xs i x here = take_more xs i x (slice_get_within xs i x here)
     ∙ ap (λ y. take i xs ++ y ∷ []) (get_or_from_slice_get xs i x x here)
 
--- a number that is marked as taken stands among the numbers
+-- a number that is marked as taken is among the numbers
 pub Contains-taken : (start : Contents) (calls : List Operation) (numbers : List ℕ) (prefix : Prefix) (n : ℕ)
     → IsPrefixOf start calls numbers prefix
     → n < length calls → get_or prefix.taken.items n false ≡ true → Contains numbers n
@@ -38,7 +29,7 @@ pub not_Contains-taken : (start : Contents) (calls : List Operation) (numbers : 
 not_Contains-taken start calls numbers prefix n h known free in_it =
     false≢true (sym free ∙ (h.taken n known ∙ has_number-from_Contains numbers n in_it))
 
--- a call whose response stands before the latest invocation precedes one of the calls
+-- a call whose response comes before the latest invocation precedes one of the calls
 pub PrecedesSome-latest : (start : Contents) (calls : List Operation) (numbers : List ℕ) (prefix : Prefix) (a : Operation)
     → IsPrefixOf start calls numbers prefix → is_before a.response prefix.latest ≡ true → PrecedesSome calls numbers a
 PrecedesSome-latest start calls numbers prefix a h before = before_latest-from a (calls_at calls numbers) (rw (← h.latest) before)
@@ -65,7 +56,7 @@ pub IsCompletedAt-response : (calls : List Operation) (n : ℕ) (a : Operation) 
     → IsCompletedAt calls n
 IsCompletedAt-response calls n a here completed = rw here completed
 
--- and one without is not
+-- a call without a response is not completed
 pub response-IsCompletedAt : (calls : List Operation) (n : ℕ) (a : Operation) → slice_get calls n ≡ Some a → IsCompletedAt calls n
     → is_some a.response ≡ true
 response-IsCompletedAt calls n a here completed = rw here at completed

@@ -1,22 +1,11 @@
 -- A legal order that goes on with one more call.
-use Rattle.std.proofs.Common.{◌≡◌, ℕ, ◌<◌, ◌≤◌, true, false, List, Some, None, [], ◌∷◌, ◌++◌, length, get_or, Option, ◌∙◌, inl, inr, ⊎_elim}
-use Rattle.std.proofs.Common.{arith}
-use Rattle.std.specs.Prelude.{◌≢◌, ◌⊎◌, max, map, slice_get, Any, Contains}
-use Rattle.std.proofs.lemmas.Bool.{lt-ltb, ltb-true, false≢true, false_from_ne_true}
-use Rattle.std.proofs.lemmas.List.{get_or_default}
-use Rattle.std.proofs.lemmas.List.Elements.{All-push}
+use Rattle.certificate.proofs.Common.{◌≡◌, ℕ, ◌<◌, ◌≤◌, true, false, List, Some, None, [], ◌∷◌, ◌++◌, length, get_or, Option, ◌∙◌, inl, inr, ⊎_elim}
+use Rattle.certificate.proofs.Common.{arith, ◌≢◌, ◌⊎◌, max, map, slice_get, Any, Contains, lt-ltb, ltb-true, false≢true, false_from_ne_true}
+use Rattle.certificate.proofs.Common.{get_or_default, All-push, slice_get_within, Operation, greatest, is_before, precedes, Contents, IsLegalCall}
+use Rattle.certificate.proofs.Common.{after_calls, calls_at, IsLegalOrder, PrecedesSome, Any-first, Any-later, IsLegal-append, calls_at-push}
+use Rattle.certificate.proofs.Common.{greatest_bound}
 use Rattle.std.proofs.lemmas.List.Quantifiers.{all_pairs_push}
-use Rattle.std.proofs.lemmas.Option.{slice_get_within}
-use Rattle.events.specs.declared.operation.Operation.{Operation}
 use Rattle.events.specs.declared.operation.Response.{Response}
-use Rattle.list_laws.specs.Lists.{greatest}
-use Rattle.events.specs.Precedence.{is_before, precedes}
-use Rattle.map_object.specs.MapObject.{Contents}
-use Rattle.orders.specs.Orders.{IsLegalCall, after_calls, calls_at, IsLegalOrder}
-use Rattle.certificate.specs.OrderFaults.{PrecedesSome}
-use Rattle.list_laws.proofs.Lists.{Any-first, Any-later}
-use Rattle.orders.proofs.OrderLemmas.{IsLegal-append, calls_at-push}
-use Rattle.list_laws.proofs.NumberLemmas.{greatest_bound}
 
 -- a legal order goes on with a new call that precedes none of its calls and is legal after them
 pub IsLegalOrder-push : (start : Contents) (calls : List Operation) (order : List ℕ) (n : ℕ) (a : Operation)
@@ -37,17 +26,17 @@ IsLegalOrder-push start calls order n a sound here new free legal =
       legal = rw pushed (IsLegal-append start taken (a ∷ []) sound.legal (legal, tt));
     }
 
--- a response that stands before a place stands before each later one
+-- a response that comes before a place comes before each later one
 is_before-later : (response : Option Response) (m n : ℕ) → m ≤ n → is_before response m ≡ true → is_before response n ≡ true
 is_before-later None m n le h = h
 is_before-later (Some r) m n le h = lt-ltb r.res n (omega (arith, ltb-true r.res m h))
 
--- no response stands before the first place
+-- no response comes before the first place
 is_before-first : (response : Option Response) → is_before response 0 ≡ true → ⊥
 is_before-first None h = false≢true h
 is_before-first (Some r) h = absurd (omega (arith, ltb-true r.res 0 h))
 
--- what stands before the greater of two places stands before one of them
+-- what comes before the greater of two places comes before one of them
 is_before-greater : (response : Option Response) (m n : ℕ) → is_before response (max m n) ≡ true → (is_before response m ≡ true)
     ⊎ (is_before response n ≡ true)
 is_before-greater None m n h = inl h
@@ -62,7 +51,7 @@ pub before_latest : (a : Operation) (calls : List Operation) → Any (λ b. prec
     → is_before a.response (greatest (map (λ b. b.inv) calls)) ≡ true
 before_latest a calls h = is_before-later a.response h.1.inv _ (greatest_bound (λ b. b.inv) calls h.1 (h.0, h.2, h.3)) h.4
 
--- a call whose response stands before the latest of some invocations precedes one of those calls
+-- a call whose response comes before the latest of some invocations precedes one of those calls
 pub before_latest-from : (a : Operation) (calls : List Operation) → is_before a.response (greatest (map (λ b. b.inv) calls)) ≡ true
     → Any (λ b. precedes a b ≡ true) calls
 before_latest-from a [] h = absurd (is_before-first a.response h)

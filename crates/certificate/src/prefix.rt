@@ -12,8 +12,8 @@ use map_object::SortedMap;
 use orders::{apply, may_come_next};
 use std::alloc::Global;
 
-/// What the checker remembers of the first numbers of a list, as long as they show no fault: the
-/// pairs after their calls, which numbers they are, and the latest of their invocations. A call
+/// What the checker remembers of the first numbers of a list, as long as they show no fault. It is
+/// the pairs after their calls, which numbers they are, and the latest of their invocations. A call
 /// precedes one of their calls exactly if its response comes before the latest invocation. So no
 /// call is looked at twice.
 #[derive(Drop)]

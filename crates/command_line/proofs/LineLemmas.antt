@@ -1,6 +1,6 @@
 -- `check`, `judge`, `locate`, `draw` and `drive` are uses of the program's table, and ask for their lines.
 use Rattle.std.proofs.Common.{◌≡◌, ◌∙◌, ◌++◌, append-nil, map, get_or, ℕ, refl, sym, ap, ap₂, inl, inr, arith, List, [], ◌∷◌, Option, Some}
-use Rattle.std.proofs.Common.{None, codes, false, true≢false}
+use Rattle.std.proofs.Common.{None, Bool, codes, false, true, true≢false}
 use Rattle.std.specs.Option.{option_map_or}
 use Rattle.std.specs.Prelude.{IfSome}
 use Rattle.std.specs.Str.{bytes_eq}
@@ -13,11 +13,11 @@ use Rattle.command_line.specs.Limits.{budget_default, budget_limit, rows16_defau
 use Rattle.command_line.specs.Limits.{rows4_default, rows4_limit}
 use Rattle.command_line.specs.Limits.{rows48_default, rows48_limit, steps_limit, workers_default, workers_limit}
 use Rattle.command_line.specs.Lines.{ChecksNumbers, Draws, Drives, NamesTree, IsCheck, IsDraw, IsDrive, IsJudge, IsLocate}
-use Rattle.command_line.specs.Lines.{asked_by}
+use Rattle.command_line.specs.Lines.{asked_by, switch_number}
 use Rattle.command_line.specs.Lines.{option_words as words_of}
 use Rattle.command_line.specs.Numbers.{IsNumberWithin, number_of}
 use Rattle.command_line.specs.Program.{bench_table, check_usage, draw_usage, drive_usage, judge_usage, locate_usage, number_flag}
-use Rattle.command_line.specs.Program.{tree_flag}
+use Rattle.command_line.specs.Program.{switch_flag, tree_flag}
 use Rattle.command_line.specs.Requests.{IsReadFrom}
 use Rattle.command_line.specs.Tables.{Flag}
 use Rattle.command_line.specs.Trees.{name_of, place_of, trees}
@@ -312,11 +312,20 @@ locate_use words budget is = record {
   no_calls = λ _. refl;
 }
 
+-- no order is asked for
+no_order : (budget : Option Text) (order : Bool)
+    → IsReadFrom (switch_flag (codes "order")) (value_given (given_as (codes "budget") budget) (codes "order")) (switch_number order)
+    → order ≡ false
+no_order budget false read = refl
+no_order None true read = cc
+no_order (Some b) true read = cc
+
 pub locates : (budget : Option Text) (line : Line) → Gives locate_usage (locate_given budget) [] (asked_by line)
-    → line ≡ Locate (option_map_or number_of budget budget_default)
+    → line ≡ Locate (option_map_or number_of budget budget_default) false
 unfolding locate_given
-locates budget (Locate x) gives =
-    ap Locate
+locates budget (Locate x order) gives =
+    ap₂ Locate
     (read_number (codes "budget") 1 budget_limit budget_default _ x gives.numbers.0.read
     ∙ ap (λ (o : Option Text). option_map_or number_of o budget_default) (value_of_budget budget))
+    (no_order budget order gives.numbers.1.0.read)
 locates budget other gives = absurd (other_name _ _ gives.name refl)

@@ -17,9 +17,9 @@ use Rattle.clap.specs.declared.builder.value_parser.ValueParser.TheVariants.{Uns
 use Rattle.clap.specs.declared.parser.matches.ValueSource.TheVariants.{CommandLine}
 use Rattle.clap.proofs.FaultLemmas.{past}
 use Rattle.clap.proofs.ValueTestLemmas.{Accepts-accepts}
-use Rattle.command_line.specs.Commands.{parser_for}
+use Rattle.command_line.specs.Commands.{parser_for, values_of}
 use Rattle.command_line.specs.Limits.{u64_limit}
-use Rattle.command_line.specs.Tables.{Choice, Flag, Usage, among, are_flags, flag_named, is_choice, within}
+use Rattle.command_line.specs.Tables.{Choice, Flag, Usage, among, are_flags, flag_named, is_choice, switch, within}
 use Rattle.command_line.specs.Words.{AreOptionsOf, Given, IsValue, IsValueOf, has_option, option_words}
 use Rattle.command_line.proofs.PlainLemmas.{IsPlain, value_is_plain}
 use Rattle.command_line.proofs.TableLemmas.{IsFlagWord, IsFound, built_calls, built_flag, built_usage, by_id, by_long, flag_word}
@@ -68,11 +68,19 @@ value_passes (within least greatest) text sound value =
     let fits = leb-true greatest u64_limit sound in
     Accepts-accepts false (Unsigned least greatest) text (value.0, omega arith, value.1, value.2)
 value_passes (among words) text sound value = refl
+value_passes switch text sound value = absurd value
 
 -- and is kept as it was written
 read_as_written : (choice : Choice) → reading_of (parser_for choice) ≡ AsWritten
 read_as_written (within least greatest) = refl
 read_as_written (among words) = refl
+read_as_written switch = refl
+
+-- an option that takes a value takes one
+takes_one : (choice : Choice) (text : Text) → IsValue choice text → values_of choice ≡ 1
+takes_one (within least greatest) text value = refl
+takes_one (among words) text value = refl
+takes_one switch text value = absurd value
 
 -- the row of an option that is given
 abbrev pub row_given : Given → Row
@@ -127,6 +135,9 @@ module _ (u : Usage) (all : are_flags u.flags ≡ true) where
     passes : accepts false (parser_for is.flag.values) text ≡ true
     passes = value_passes is.flag.values text (and_parts _ _ found.is_flag.limits).0 is.value
 
+    one : values_of is.flag.values ≡ 1
+    one = takes_one is.flag.values text is.value
+
     -- the walk takes the flag
     flag_walked : (h : Held) → walked shape.rules [] (walk_from h) (45 ∷ 45 ∷ name) ≡ between name h
     unfolding walked between
@@ -135,7 +146,8 @@ module _ (u : Usage) (all : are_flags u.flags ≡ true) where
         let long = word.long_is in
         let by = flag_long in
         let same = found.name_is in
-        rw (dashes, long, by, same) refl
+        let takes = one in
+        rw (dashes, long, by, same, takes) refl
 
     -- which has no fault
     flag_turn : (h : Held) → Settles h → turn_fault shape [] (walk_from h) (45 ∷ 45 ∷ name) ≡ []
@@ -144,7 +156,8 @@ module _ (u : Usage) (all : are_flags u.flags ≡ true) where
         let dashes = word.not_dashes in
         let long = word.long_is in
         let by = flag_long in
-        rw (dashes, long, by) (past _ _ settles)
+        let takes = one in
+        rw (dashes, long, by, takes) (past _ _ settles)
 
     -- and then its value
     value_walked : (h : Held) → walked shape.rules [] (between name h) text ≡ walk_from (taken name text h)
@@ -155,7 +168,8 @@ module _ (u : Usage) (all : are_flags u.flags ≡ true) where
         let short = plain.not_short in
         let by = flag_id in
         let same = (bytes_eq-Decides name is.flag.name).1 (sym found.name_is) in
-        rw (dashes, long, short, by, same) refl
+        let takes = one in
+        rw (dashes, long, short, by, same, takes) refl
 
     -- which has none either
     value_turn : (h : Held) → turn_fault shape [] (between name h) text ≡ []
@@ -184,7 +198,8 @@ module _ (u : Usage) (all : are_flags u.flags ≡ true) where
           let by = flag_id in
           let same = found.name_is in
           let accepted = passes in
-          rw (by, same, new, accepted) refl
+          let takes = one in
+          rw (by, same, new, accepted, takes) refl
 
     -- it is not that of the calls
     taken_other : (h : Held) → is_pending built_calls (taken name text h).pending ≡ false

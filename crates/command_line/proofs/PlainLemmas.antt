@@ -8,7 +8,7 @@ use Rattle.std.proofs.lemmas.Str.Parse.{digit_from_value}
 use Rattle.clap.specs.Lexer.{long_of, short_of}
 use Rattle.clap.specs.Walk.{Text}
 use Rattle.command_line.specs.Numbers.{IsSpelled}
-use Rattle.command_line.specs.Tables.{Choice, among, is_among, is_choice, is_no_flag, within}
+use Rattle.command_line.specs.Tables.{Choice, among, is_among, is_choice, is_no_flag, switch, within}
 use Rattle.command_line.specs.Words.{IsValue}
 
 -- the text is no flag and no `--`
@@ -59,3 +59,4 @@ pub value_is_plain : (choice : Choice) (text : Text) → is_choice choice ≡ tr
 value_is_plain (within least greatest) text sound value = spelled_is_plain text value.0
 value_is_plain (among words) text sound value =
     no_flag_is_plain text (word_is_no_flag text words value (and_parts _ (list_all is_no_flag words) sound).1)
+value_is_plain switch text sound value = absurd value

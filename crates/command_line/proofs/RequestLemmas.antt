@@ -24,9 +24,9 @@ use Rattle.command_line.specs.Commands.{parser_for, table_app}
 use Rattle.command_line.specs.Numbers.{IsNumber, number_of}
 use Rattle.command_line.specs.Requests.{AreCallsOf, AreNumbersOf, IsNumberOf, Meets, StandsFor, are_named, is_named, values_of}
 use Rattle.command_line.specs.Tables.{Choice, Flag, Usage, among, are_flags, are_usages, greatest_of, has_limits, is_choice, least_of}
-use Rattle.command_line.specs.Tables.{usage_named, within}
+use Rattle.command_line.specs.Tables.{switch, usage_named, within}
 use Rattle.command_line.proofs.PlaceLemmas.{place_among}
-use Rattle.command_line.proofs.RowLemmas.{AllOwn, HasValues, IsOwn, RowPasses, RowsPass, level_passes, neither}
+use Rattle.command_line.proofs.RowLemmas.{AllOwn, HasValues, IsOwn, RowPasses, RowsPass, level_passes, neither, wants_value}
 use Rattle.command_line.proofs.StopLemmas.{enters}
 use Rattle.command_line.proofs.TableLemmas.{built_calls, built_flag, built_is, built_rules, built_table, built_tail, built_usage}
 use Rattle.command_line.proofs.TableLemmas.{flag_parts, found_usage}
@@ -102,6 +102,7 @@ value_within (within least greatest) text named none = go (accepts false (Unsign
 value_within (among words) text named none =
     let has = place_among text words named in
     record { number = has.place; stands = has.is; least = omega arith; greatest = has.inside }
+value_within switch text named none = record { number = 1; stands = refl; least = omega arith; greatest = omega arith }
 
 -- a row that is found passes
 found_row : (c : List Rule) (rows : List Row) (p : Row → Bool) (r : Row) → RowsPass c rows → find p rows ≡ Some r
@@ -118,10 +119,17 @@ found_row c (x ∷ xs) p r all found = go (p x) refl found (found_row c xs p r a
 abbrev pub is_missing : List Row → Rule → Bool
 is_missing rows a = a.required && not (is_given a.id rows)
 
+-- each use of an option has a value
+wants_some : (name : Text) (values : Choice) (default : Option ℕ)
+    → wants_value (built_flag (record { name = name; values = values; default = default })) ≡ true
+wants_some name (within least greatest) default = refl
+wants_some name (among words) default = refl
+wants_some name switch default = refl
+
 -- the first of values that pass stands for a number of the option
 first_number : (f : Flag) (values : List Text) → HasValues (built_flag f) values → is_named f.values (slice_get values 0) ≡ true
     → (n : ℕ) × IsNumberOf f (slice_get values 0) n
-first_number f [] has named = absurd (has.some refl)
+first_number f [] has named = absurd (has.some (wants_some f.name f.values f.default))
 first_number f (v ∷ vs) has named =
     let number = value_within f.values v named (neither (value_kinds false (parser_for f.values) v) _ has.pass).0 in
     (number.number, record { read = number.stands; least = number.least; greatest = number.greatest })

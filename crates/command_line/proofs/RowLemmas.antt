@@ -2,7 +2,7 @@
 -- each row pass the parser of its argument, and there are some where each use of it wants some. Each
 -- lemma says so of one step: it leaves rows that pass where the rows before it do and the step has no
 -- fault.
-use Rattle.std.proofs.Common.{◌≡◌, ◌∙◌, arith, ◌+◌, ◌++◌, ◌&&◌, ◌||◌, ℕ, Bool, zero, suc, true, false, cond, refl, sym, ap, subst, List, []}
+use Rattle.std.proofs.Common.{◌≡◌, ◌∙◌, arith, ◌+◌, ◌++◌, ◌&&◌, ◌||◌, ℕ, Bool, zero, suc, true, false, not, cond, refl, sym, ap, subst, List, []}
 use Rattle.std.proofs.Common.{◌∷◌, length, min}
 use Rattle.std.proofs.Common.{drop, nat_lt, Option, Some, None, is_some}
 use Rattle.std.specs.List.{find, fold}
@@ -71,9 +71,9 @@ some_after : (xs ys : List Text) → AreSome ys → AreSome (xs ++ ys)
 some_after [] ys some = some
 some_after (x ∷ xs) ys some = tt
 
--- each use of the argument wants some value
+-- each use of the argument wants some value, or has one where none is written
 abbrev pub wants_value : Rule → Bool
-wants_value a = nat_lt 0 (unwrap_or_range a.range).start_inclusive
+wants_value a = nat_lt 0 (unwrap_or_range a.range).start_inclusive || not (is_empty a.missing)
 
 -- the values pass the parser of the argument, and there are some where it wants some
 pub record HasValues (a : Rule) (values : List Text) : Type 0 where
@@ -83,7 +83,13 @@ pub record HasValues (a : Rule) (values : List Text) : Type 0 where
 -- a use that has not too few values has some, where the argument wants some
 used_some : (a : Rule) (most : ℕ) (values : List Text) → range_kinds (unwrap_or_range a.range).start_inclusive most (length values) ≡ []
     → wants_value a ≡ true → AreSome (values_or_missing a values)
-used_some a most [] none wants = let bad : kind.InvalidValue ∷ [] ≡ [] = rw wants at none in cc
+used_some a most [] none wants = go (nat_lt 0 (unwrap_or_range a.range).start_inclusive) a.missing refl wants
+  where
+    go : (b : Bool) (missing : List Text) → nat_lt 0 (unwrap_or_range a.range).start_inclusive ≡ b → (b || not (is_empty missing)) ≡ true
+        → AreSome missing
+    go true missing is wants = let bad : kind.InvalidValue ∷ [] ≡ [] = rw is at none in cc
+    go false [] is wants = cc
+    go false (v ∷ vs) is wants = tt
 used_some a most (v ∷ vs) none wants = tt
 
 -- ---- rows

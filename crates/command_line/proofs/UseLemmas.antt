@@ -24,7 +24,7 @@ use Rattle.clap.proofs.ValueTestLemmas.{Accepts-accepts}
 use Rattle.command_line.specs.Commands.{table_app}
 use Rattle.command_line.specs.Numbers.{IsNumber, number_of}
 use Rattle.command_line.specs.Requests.{AreCallsOf, AreNumbersOf, Asked, Asks, IsNumberOf, are_named, has_named, is_named, values_of}
-use Rattle.command_line.specs.Tables.{Choice, Flag, Usage, among, are_flags, are_usages, flag_named, usage_named, within}
+use Rattle.command_line.specs.Tables.{Choice, Flag, Usage, among, are_flags, are_usages, flag_named, switch, usage_named, within}
 use Rattle.command_line.specs.Words.{AreOptionsOf, Given, Gives, IsUse, IsValue, IsValueOf, has_option, has_required, option_words}
 use Rattle.command_line.specs.Words.{value_given}
 use Rattle.command_line.proofs.OptionLemmas.{Goes, Settles, new_row, options_go, row_given, row_with, taken_all}
@@ -165,11 +165,13 @@ flags_own (f ∷ fs) all =
 none_named : (choice : Choice) → is_named choice None ≡ true
 none_named (within least greatest) = refl
 none_named (among words) = refl
+none_named switch = refl
 
 -- and a value that the option takes is a word where it has to be
 value_named : (choice : Choice) (text : Text) → IsValue choice text → is_named choice (Some text) ≡ true
 value_named (within least greatest) text value = refl
 value_named (among words) text value = value
+value_named switch text value = refl
 
 -- so is the one that is given
 given_named : (flags : List Flag) (f : Flag) (given : List Given) → flag_named f.name flags ≡ Some f → AreOptionsOf flags given

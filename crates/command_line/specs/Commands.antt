@@ -1,11 +1,12 @@
 -- The command of a table, as `clap` reads it: its subcommands and their arguments.
-use Rattle.std.specs.Prelude.{Bool, true, not, if◌then◌else◌, is_some, Some, codes, List, [], ◌∷◌, ◌++◌, map}
+use Rattle.std.specs.Prelude.{ℕ, Bool, true, not, if◌then◌else◌, is_some, Some, codes, List, [], ◌∷◌, ◌++◌, map}
 use Rattle.clap.specs.Words.{App, Rule, Text, new_rule}
 use Rattle.clap.specs.Simple.{new_shape}
 use Rattle.clap.specs.Lexer.{usize_max}
+use Rattle.clap.specs.declared.builder.action.ArgAction.TheVariants.{Set}
 use Rattle.clap.specs.declared.builder.value_parser.ValueParser.{ValueParser}
 use Rattle.clap.specs.declared.builder.value_parser.ValueParser.TheVariants.{String, Unsigned}
-use Rattle.command_line.specs.Tables.{Choice, Flag, Usage, among, has_none, within}
+use Rattle.command_line.specs.Tables.{Choice, Flag, Usage, among, has_none, switch, within}
 
 -- `[CALL]..`: any number of values, each a number that a `u32` holds
 abbrev pub calls_rule : Rule
@@ -18,12 +19,28 @@ calls_rule = record (new_rule (codes "CALL")) {
 abbrev pub parser_for : Choice → ValueParser
 parser_for (within least greatest) = Unsigned least greatest
 parser_for (among words) = String
+parser_for switch = String
 
--- `--NAME VALUE`, which has to be there where it has no default
+-- how many values it takes
+abbrev pub values_of : Choice → ℕ
+values_of (within least greatest) = 1
+values_of (among words) = 1
+values_of switch = 0
+
+-- the values that are read where none is written
+abbrev pub missing_of : Choice → List Text
+missing_of (within least greatest) = []
+missing_of (among words) = []
+missing_of switch = codes "given" ∷ []
+
+-- `--NAME VALUE`, or `--NAME`, which has to be there where it has no default
 abbrev pub option_rule : Flag → Rule
 option_rule f = record (new_rule f.name) {
   long = Some f.name;
+  action = Some Set;
+  range = Some (record { start_inclusive = values_of f.values; end_inclusive = values_of f.values });
   value_names = 1;
+  missing = missing_of f.values;
   parser = Some (parser_for f.values);
   required = not (is_some f.default);
 }

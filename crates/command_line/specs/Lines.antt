@@ -1,5 +1,5 @@
 -- What the words of a command line ask for.
-use Rattle.std.specs.Prelude.{ℕ, ◌≡◌, ◌<◌, ◌≤◌, ◌⊎◌, ⊤, List, [], ◌∷◌, ◌++◌, Option, Some, None, map, codes}
+use Rattle.std.specs.Prelude.{ℕ, Bool, true, false, ◌≡◌, ◌<◌, ◌≤◌, ◌⊎◌, ⊤, List, [], ◌∷◌, ◌++◌, Option, Some, None, map, codes}
 use Rattle.std.specs.Prelude.{IfSome}
 use Rattle.std.specs.List.{All}
 use Rattle.std.specs.Option.{option_map_or}
@@ -23,12 +23,17 @@ use Rattle.command_line.specs.declared.line.Tree.TheVariants.{Optimistic}
 abbrev pub rows_then : Rows → List ℕ → List ℕ
 rows_then rows later = rows.rows4 ∷ rows.rows16 ∷ rows.rows48 ∷ rows.rows256 ∷ later
 
+-- the number of a switch
+abbrev pub switch_number : Bool → ℕ
+switch_number true = 1
+switch_number false = 0
+
 -- the subcommand of a line, the numbers of its options in the order of the table, and its calls
 abbrev pub asked_by : Line → Asked
 asked_by (Check order) = record { name = codes "check"; numbers = []; calls = order.items }
 asked_by (Judge budget workers) =
     record { name = codes "judge"; numbers = budget ∷ workers ∷ []; calls = [] }
-asked_by (Locate budget) = record { name = codes "locate"; numbers = budget ∷ []; calls = [] }
+asked_by (Locate budget order) = record { name = codes "locate"; numbers = budget ∷ switch_number order ∷ []; calls = [] }
 asked_by (Explain budget) = record { name = codes "explain"; numbers = budget ∷ []; calls = [] }
 asked_by (Draw budget workers around calls) =
     record { name = codes "draw"; numbers = budget ∷ workers ∷ around ∷ calls ∷ []; calls = [] }
@@ -64,7 +69,7 @@ abbrev pub IsWithinLimits : Line → Type 0
 IsWithinLimits (Check order) = ⊤
 IsWithinLimits (Judge budget workers) =
     (1 ≤ budget) × (budget ≤ budget_limit) × (1 ≤ workers) × (workers ≤ workers_limit)
-IsWithinLimits (Locate budget) = (1 ≤ budget) × (budget ≤ budget_limit)
+IsWithinLimits (Locate budget order) = (1 ≤ budget) × (budget ≤ budget_limit)
 IsWithinLimits (Explain budget) = (1 ≤ budget) × (budget ≤ budget_limit)
 IsWithinLimits (Draw budget workers around calls) = (1 ≤ budget) × (budget ≤ budget_limit) × (1 ≤ workers)
     × (workers ≤ workers_limit) × (around ≤ around_limit) × (calls ≤ shown_limit)
@@ -102,7 +107,7 @@ pub record IsJudge (words : List Text) (budget workers : Option Text) : Type 0 w
   pub budget_within : IfSome budget (IsNumberWithin budget_limit)
   pub workers_within : IfSome workers (IsNumberWithin workers_limit)
 
--- the words are a name, `locate` and its option, whose value spells a number within its limits
+-- the words are a name, `locate` and its budget, whose value spells a number within its limits
 pub record IsLocate (words : List Text) (budget : Option Text) : Type 0 where
   pub name : Text
   pub words_are : words ≡ name ∷ codes "locate" ∷ option_words (codes "--budget") budget

@@ -6,7 +6,7 @@ use Rattle.command_line.specs.Limits.{around_limit, budget_default, budget_limit
 use Rattle.command_line.specs.Limits.{rows256_default, rows256_limit, rows4_default, rows4_limit}
 use Rattle.command_line.specs.Limits.{rows48_default, rows48_limit, shown_limit, steps_limit, turns_limit, u32_limit}
 use Rattle.command_line.specs.Limits.{u64_limit, workers_default, workers_limit}
-use Rattle.command_line.specs.Tables.{Flag, Usage, among, within}
+use Rattle.command_line.specs.Tables.{Flag, Usage, among, switch, within}
 use Rattle.command_line.specs.Trees.{name_of, place_of, scheduled_place_of, scheduled_trees, strategies, strategy_name, strategy_place, trees}
 use Rattle.command_line.specs.declared.line.Strategy.TheVariants.{Pos}
 use Rattle.command_line.specs.declared.line.Tree.TheVariants.{Optimistic}
@@ -37,9 +37,17 @@ judge_usage = search_usage (codes "judge")
 abbrev pub budget_usage : Text → Usage
 budget_usage name = record { name = name; flags = number_flag (codes "budget") 1 budget_limit budget_default ∷ []; takes_calls = false }
 
--- `locate [--budget N]`
+-- `--NAME`, which stands for 1, and for 0 where it is left out
+abbrev pub switch_flag : Text → Flag
+switch_flag name = record { name = name; values = switch; default = Some 0 }
+
+-- `locate [--budget N] [--order]`
 abbrev pub locate_usage : Usage
-locate_usage = budget_usage (codes "locate")
+locate_usage = record {
+  name = codes "locate";
+  flags = number_flag (codes "budget") 1 budget_limit budget_default ∷ switch_flag (codes "order") ∷ [];
+  takes_calls = false;
+}
 
 -- `explain [--budget N]`
 abbrev pub explain_usage : Usage

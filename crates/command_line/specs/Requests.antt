@@ -8,7 +8,7 @@ use Rattle.std.specs.Str.{bytes_eq}
 use Rattle.clap.specs.Words.{Row, Text, all_of, first_of}
 use Rattle.command_line.specs.Numbers.{IsNumber, IsSpelled, number_of}
 use Rattle.command_line.specs.Tables.{Choice, Flag, Usage, among, greatest_of, is_among, least_of, place_named}
-use Rattle.command_line.specs.Tables.{usage_named, usage_of, within}
+use Rattle.command_line.specs.Tables.{switch, usage_named, usage_of, within}
 use Rattle.command_line.specs.declared.asked.Request.{Request}
 
 -- a subcommand, the numbers of its options in the order of the table, and the numbers of its calls
@@ -33,11 +33,12 @@ abbrev pub IsDescribedBy : List Usage → Request → Type 0
 IsDescribedBy table r = usage_named r.subcommand.now.name.now table ≡ Some (usage_of r.subcommand.now)
 
 -- the text stands for the number: it spells the number, or is the word at this place, the first that
--- is this text
+-- is this text; any text that is read of a switch stands for 1
 abbrev pub StandsFor : Choice → Text → ℕ → Type 0
 StandsFor (within least greatest) text n =
     IsSpelled text × (number_of text < 2 ^ 64) × (n ≡ number_of text)
 StandsFor (among words) text n = position (λ word. bytes_eq word text) words ≡ Some n
+StandsFor switch text n = n ≡ 1
 
 -- the number is the one that the value stands for, or the default where there is no value
 abbrev pub IsReadFrom : Flag → Option Text → ℕ → Type 0
@@ -81,6 +82,7 @@ pub record Asks (table : List Usage) (met : Option (Text × List Row)) (asked : 
 abbrev pub is_named : Choice → Option Text → Bool
 is_named (within least greatest) value = true
 is_named (among words) value = option_map_or (λ text. is_among text words) value true
+is_named switch value = true
 
 -- so it is of each option
 abbrev pub are_named : List Flag → (Text → Option Text) → Bool

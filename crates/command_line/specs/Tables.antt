@@ -11,29 +11,33 @@ use Rattle.command_line.specs.Limits.{u64_limit}
 use Rattle.command_line.specs.declared.table.Subcommand.{Subcommand}
 use Rattle.command_line.specs.declared.table.ValueOption.{ValueOption}
 use Rattle.command_line.specs.declared.table.Values.{Values}
-use Rattle.command_line.specs.declared.table.Values.TheVariants.{Within, Among}
+use Rattle.command_line.specs.declared.table.Values.TheVariants.{Within, Among, Switch}
 
 -- what the value of an option may be, and the number that it stands for: a number from the least to
--- the greatest, or one of some words, which stands for its place among them
+-- the greatest, or one of some words, which stands for its place among them; a switch has no value,
+-- and stands for 1
 pub data Choice : Type 0 where
   within : ℕ → ℕ → Choice
   among : List Text → Choice
+  switch : Choice
 
 -- the least and the greatest number that a value may stand for
 abbrev pub least_of : Choice → ℕ
 least_of (within least greatest) = least
 least_of (among words) = 0
+least_of switch = 0
 
 abbrev pub greatest_of : Choice → ℕ
 greatest_of (within least greatest) = greatest
 greatest_of (among words) = length words - 1
+greatest_of switch = 1
 
 -- the text is one of the words
 abbrev pub is_among : Text → List Text → Bool
 is_among text words = list_any (λ word. bytes_eq word text) words
 
--- an option `--NAME VALUE`, with the number that is read where it is left out; one with no default may
--- not be left out
+-- an option `--NAME VALUE`, or `--NAME` for a switch, with the number that is read where it is left
+-- out; one with no default may not be left out
 pub record Flag : Type 0 where
   pub name : Text
   pub values : Choice
@@ -49,6 +53,7 @@ pub record Usage : Type 0 where
 abbrev pub choice_of : Values → Choice
 choice_of (Within least greatest) = within least greatest
 choice_of (Among words) = among (texts words.now)
+choice_of Switch = switch
 
 abbrev pub flag_of : ValueOption → Flag
 flag_of o = record { name = o.name.now; values = choice_of o.values; default = o.default }
@@ -89,6 +94,7 @@ is_no_flag (x ∷ xs) = not (x == 45)
 abbrev pub is_choice : Choice → Bool
 is_choice (within least greatest) = nat_le greatest u64_limit
 is_choice (among words) = not (is_empty words) && list_all is_no_flag words
+is_choice switch = true
 
 -- so it is of the option's values, and the default is within their limits
 abbrev pub has_limits : Flag → Bool

@@ -6,7 +6,7 @@ use Rattle.std.specs.Str.{bytes_eq}
 use Rattle.clap.specs.Words.{Text}
 use Rattle.command_line.specs.Numbers.{IsNumber, IsNumberFrom, number_of}
 use Rattle.command_line.specs.Requests.{Asked, AreNumbersOf}
-use Rattle.command_line.specs.Tables.{Choice, Flag, Usage, among, flag_named, is_among, usage_named, within}
+use Rattle.command_line.specs.Tables.{Choice, Flag, Usage, among, flag_named, is_among, switch, usage_named, within}
 
 -- an option's name, and the text of its value
 abbrev pub Given : Type 0
@@ -25,10 +25,11 @@ has_option name given = list_any (λ g. bytes_eq g.0 name) given
 abbrev pub value_given : List Given → Text → Option Text
 value_given given name = option_map (λ g. g.1) (find (λ g. bytes_eq g.0 name) given)
 
--- the text spells a number within the limits, or is one of the words
+-- the text spells a number within the limits, or is one of the words; a switch has no value
 abbrev pub IsValue : Choice → Text → Type 0
 IsValue (within least greatest) text = IsNumberFrom least greatest text
 IsValue (among words) text = is_among text words ≡ true
+IsValue switch text = ⊥
 
 -- so it does by the values of the option
 abbrev pub IsValueOf : Option Flag → Text → Type 0

@@ -2,12 +2,13 @@
 ghost use Rattle.std.specs.Prelude.{◌≡◌, IfOk, false, map};
 ghost use Rattle.clap.specs.Words.{app_of, rule_of};
 ghost use Rattle.clap.specs.declared.builder.command.Command.TheViews.{out-Command};
-ghost use Rattle.command_line.specs.Commands.{calls_rule, leaf, option_rule, parser_for, rules_for, table_app};
+ghost use Rattle.clap.specs.Walk.{texts};
+ghost use Rattle.command_line.specs.Commands.{calls_rule, leaf, missing_of, option_rule, parser_for, rules_for, table_app, values_of};
 ghost use Rattle.command_line.specs.Tables.{flag_of, usage_of, choice_of};
 
 use crate::table::{Subcommand, ValueOption, Values};
 use clap::builder::ValueParser;
-use clap::{Arg, Command};
+use clap::{Arg, ArgAction, Command};
 use std::alloc::{AllocError, Global};
 
 /// The command of a program with these subcommands.
@@ -60,7 +61,7 @@ fn with_options<'a>(
     Ok(command)
 }
 
-// `--NAME VALUE`
+// `--NAME VALUE`, or `--NAME`
 fn option_argument<'a>(alloc: Global, option: &'a ValueOption<'a>) -> Arg<'a>
     ensures rule { rule_of result ≡ option_rule (flag_of option.entry.now) }
     ensures local { result.global ≡ false }
@@ -70,6 +71,9 @@ fn option_argument<'a>(alloc: Global, option: &'a ValueOption<'a>) -> Arg<'a>
         .help(option.help)
         .value_name(value_name(option.values))
         .required(option.default.is_none())
+        .action(ArgAction::Set)
+        .num_args(values_of(option.values))
+        .default_missing_values(missing_of(option.values))
         .value_parser(parser_for(option.values))
 }
 
@@ -78,6 +82,27 @@ fn value_name(values: Values<'_>) -> &'static str {
     match values {
         Values::Within(..) => "N",
         Values::Among(_) => "NAME",
+        Values::Switch => "",
+    }
+}
+
+// How many values it takes.
+fn values_of(values: Values<'_>) -> usize
+    ensures { result ≡ values_of (choice_of values.entry) }
+{
+    match values {
+        Values::Within(..) | Values::Among(_) => 1,
+        Values::Switch => 0,
+    }
+}
+
+// The values that are read where none is written.
+fn missing_of(values: Values<'_>) -> &'static [&'static str]
+    ensures { texts result.now ≡ missing_of (choice_of values.entry) }
+{
+    match values {
+        Values::Within(..) | Values::Among(_) => &[],
+        Values::Switch => &["given"],
     }
 }
 
@@ -88,7 +113,7 @@ fn parser_for<'a>(values: Values<'_>) -> ValueParser<'a>
 {
     match values {
         Values::Within(least, greatest) => ValueParser::unsigned(least, greatest),
-        Values::Among(_) => ValueParser::string(),
+        Values::Among(_) | Values::Switch => ValueParser::string(),
     }
 }
 

@@ -16,9 +16,11 @@ pub enum Line {
     },
     /// It asks at which event the history on standard input stops being linearizable. A verdict
     /// searches at most `budget` configurations of each segment, and a follower reaches at most
-    /// `budget` positions in a search at one key. The limits are those of `Judge`.
+    /// `budget` positions in a search at one key. The limits are those of `Judge`. With `order` it
+    /// also asks for an order of the calls before that event.
     Locate {
         budget: u32,
+        order: bool,
     },
     /// It asks for few calls of the history on standard input that are not linearizable, where one
     /// thread judges it and searches at most `budget` configurations of each segment, and of some

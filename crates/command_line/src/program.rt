@@ -84,7 +84,15 @@ pub(crate) static SUBCOMMANDS: [Subcommand<'static>; 11] = [
     Subcommand {
         name: "locate",
         about: "Reports the response at which a history stops being linearizable",
-        options: &[budget_option!()],
+        options: &[
+            budget_option!(),
+            ValueOption {
+                name: "order",
+                help: "Also prints an order of the operations before that response",
+                values: Values::Switch,
+                default: Some(0),
+            },
+        ],
         takes_calls: false,
     },
     Subcommand {

@@ -1,12 +1,12 @@
 // From words to the line that they ask for.
-ghost use Rattle.std.specs.Prelude.{◌≡◌, ◌<◌, ℕ, IfErr, IfOk, List, MatchResult, OnOk, Option, true};
+ghost use Rattle.std.specs.Prelude.{◌≡◌, ◌<◌, ◌≤◌, ℕ, IfErr, IfOk, List, MatchResult, OnOk, Option, true, false};
 ghost use Rattle.std.specs.Option.{option_map_or};
 ghost use Rattle.clap.specs.Words.{Text, takes};
 ghost use Rattle.clap.specs.Walk.{texts};
 ghost use Rattle.command_line.specs.WordsFaults.{HasNamed, IsAccepted, IsFaultAt};
 ghost use Rattle.command_line.specs.Limits.{budget_default, workers_default};
 ghost use Rattle.command_line.specs.Lines.{asked_by, ChecksNumbers, Draws, Drives, IsCheck, IsDraw, IsDrive};
-ghost use Rattle.command_line.specs.Lines.{IsJudge, IsLineOf, IsLocate, IsWithinLimits};
+ghost use Rattle.command_line.specs.Lines.{IsJudge, IsLineOf, IsLocate, IsWithinLimits, switch_number};
 ghost use Rattle.command_line.specs.Trees.{place_of, scheduled_place_of, strategy_place};
 ghost use Rattle.command_line.specs.Numbers.{number_of};
 ghost use Rattle.command_line.specs.Program.{bench_app, bench_table, draw_usage, drive_usage, explain_usage, follow_usage};
@@ -36,7 +36,8 @@ pub fn read_line<'a>(alloc: Global, words: &'a [&'a str]) -> Result<Line, LineFa
     // The same by the test that `clap` states for words that a command takes.
     ensures taken { takes bench_app (texts words.entry.now) ≡ true
         → HasNamed (texts words.entry.now) → IfErr result (λ e. e ≡ LineFault.Memory) }
-    // A subcommand, its options in any order and numbers of calls are always a line.
+    // A subcommand, its options that take a value, in any order, and numbers of calls are always a
+    // line.
     ensures given { (usage : Usage) (given : List Given) (calls : List Text)
         → IsUse bench_table (texts words.entry.now) usage given calls
         → MatchResult result (λ line. Gives usage given calls (asked_by line))
@@ -51,9 +52,10 @@ pub fn read_line<'a>(alloc: Global, words: &'a [&'a str]) -> Result<Line, LineFa
         (λ line. line ≡ Line.Judge (option_map_or number_of budget budget_default)
         (option_map_or number_of workers workers_default))
         (λ e. e ≡ LineFault.Memory) }
-    // And `locate` is, with or without its option.
+    // And `locate` is, with or without its budget. Without `--order` it asks for no order.
     ensures locate { (budget : Option (List ℕ)) → IsLocate (texts words.entry.now) budget
-        → MatchResult result (λ line. line ≡ Line.Locate (option_map_or number_of budget budget_default))
+        → MatchResult result
+        (λ line. line ≡ Line.Locate (option_map_or number_of budget budget_default) false)
         (λ e. e ≡ LineFault.Memory) }
     // And `draw` is, with any of its options in any order.
     ensures draw { (given : List Given) → IsDraw (texts words.entry.now) given
@@ -113,6 +115,19 @@ fn locate_line(request: &Request<'_>) -> Line
 {
     Line::Locate {
         budget: request.number("budget"),
+        order: is_given(request.number("order")),
+    }
+}
+
+// Whether a switch with this number is given.
+fn is_given(number: u32) -> bool
+    requires { number ≤ 1 }
+    ensures { switch_number result ≡ number }
+{
+    match number {
+        0 => false,
+        1 => true,
+        _ => unreachable!(),
     }
 }
 

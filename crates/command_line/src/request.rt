@@ -218,6 +218,7 @@ fn number_of_value(values: Values<'_>, text: &str) -> u64
     match values {
         Values::Within(..) => text.parse::<u64>().unwrap(),
         Values::Among(words) => place_of(text, words).unwrap() as u64,
+        Values::Switch => 1,
     }
 }
 

@@ -7,9 +7,11 @@ pub(crate) enum Values<'a> {
     Within(u64, u64),
     /// The option takes one of these words, which stands for its place among them, from 0.
     Among(&'a [&'a str]),
+    /// The option takes no value. It stands for 1.
+    Switch,
 }
 
-/// An option `--NAME VALUE` of a subcommand.
+/// An option of a subcommand: `--NAME VALUE`, or `--NAME` if it takes no value.
 #[derive(Clone, Copy)]
 pub(crate) struct ValueOption<'a> {
     /// The name, without its hyphens.

@@ -115,7 +115,8 @@ pub record IsNext (start : Contents) (calls : List Operation) (front : List ℕ)
   pub preceded : (m : ℕ) → PrecedesAt calls m n → Contains front m
   pub legal : IsLegalCall (after_calls start (calls_at calls front)) call.call call.response
 
--- a front goes on with a new call that all its predecessors stand before and that is legal after them
+-- a front goes on with a new call that all its predecessors come before and that is legal after
+-- them
 pub IsFront-push : (start : Contents) (calls : List Operation) (front : List ℕ) (n : ℕ) (a : Operation) → IsFront start calls front
     → slice_get calls n ≡ Some a → (Contains front n → ⊥) → ((m : ℕ) → PrecedesAt calls m n → Contains front m)
     → IsLegalCall (after_calls start (calls_at calls front)) a.call a.response → IsFront start calls (front ++ n ∷ [])

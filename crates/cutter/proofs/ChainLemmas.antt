@@ -1,17 +1,9 @@
 -- Ranges by rising low key hang together where each begins within the reach of those before it.
-use Rattle.std.proofs.Common.{◌≡◌, ℕ, ◌+◌, ◌<◌, ◌≤◌, List, [], ◌∷◌, ◌++◌, length, get_or, map, max, take, drop, Some, sym, ap, ◌∙◌, subst}
-use Rattle.std.proofs.Common.{⊎_elim, arith}
-use Rattle.std.specs.Prelude.{slice_get, All, Any, AllPairs, Contains}
-use Rattle.std.proofs.lemmas.Bool.{cases_lt}
-use Rattle.std.proofs.lemmas.List.{take_more, length-take, length-drop, get_or-drop}
-use Rattle.std.proofs.lemmas.List.Elements.{All-contains, Contains-push, Contains-append_left, Contains-push_cases}
-use Rattle.std.proofs.lemmas.Option.{same_Some, slice_get-get_or}
-use Rattle.list_laws.specs.Lists.{greatest}
-use Rattle.list_laws.proofs.Lists.{All-from_contains, AllPairs-at, place_before-Contains}
-use Rattle.list_laws.proofs.NumberLemmas.{greatest_bound, greatest_more}
-use Rattle.list_laws.proofs.NumberLemmas.{greatest_is}
-use Rattle.cutter.specs.declared.key_range.KeyRange.{KeyRange}
-use Rattle.cutter.specs.KeyRanges.{GoesOver, AreChained, AreApart}
+use Rattle.cutter.proofs.Common.{◌≡◌, ℕ, ◌+◌, ◌<◌, ◌≤◌, List, [], ◌∷◌, ◌++◌, length, get_or, map, max, take, drop, Some, sym, ap, ◌∙◌, subst, ⊎_elim}
+use Rattle.cutter.proofs.Common.{arith, slice_get, All, Any, AllPairs, Contains, cases_lt, take_more, length-take, length-drop, get_or-drop}
+use Rattle.cutter.proofs.Common.{All-contains, Contains-push, Contains-append_left, Contains-push_cases, same_Some, slice_get-get_or, greatest}
+use Rattle.cutter.proofs.Common.{All-from_contains, AllPairs-at, place_before-Contains, greatest_bound, greatest_more, greatest_is, KeyRange}
+use Rattle.cutter.proofs.Common.{GoesOver, AreChained, AreApart}
 
 -- the greatest key that ranges reach
 abbrev pub reach_of : List KeyRange → ℕ
@@ -82,7 +74,7 @@ IsWalked-more ranges i reach d sorted within meets h =
       reach_is = rw (h.reach_is, further);
     }
 
--- what is in the part from a place on stands there or later
+-- what is in the part from a place on is there or later
 place_from-Contains : (ranges : List KeyRange) (i : ℕ) (s : KeyRange) → Contains (drop i ranges) s → (j : ℕ) × (i ≤ j)
     × (slice_get ranges j ≡ Some s)
 place_from-Contains ranges i s (k, within, is) = (

@@ -1,24 +1,12 @@
 -- Which calls are together: those whose ranges hang together are, and those whose ranges lie apart are not.
-use Rattle.std.proofs.Common.{◌≡◌, ℕ, ◌+◌, ◌<◌, ◌≤◌, true, false, ◌&&◌, ltb, leb, List, ◌++◌, get_or, Some, refl, sym, ap, ◌∙◌, inl, inr}
-use Rattle.std.proofs.Common.{⊎_elim, arith}
-use Rattle.std.specs.Prelude.{◌⊎◌, slice_get, All, Contains}
-use Rattle.std.proofs.lemmas.Bool.{false≢true, both_ways, cases_Bool, or_left, or_cases, and_left, and_right, and_from, le-ltb, lt-leb}
-use Rattle.std.proofs.lemmas.Bool.{lt-ltb, le-leb}
-use Rattle.std.proofs.lemmas.List.Elements.{All-contains, Contains-append_left, Contains-append_right, Contains-append_cases}
-use Rattle.std.proofs.lemmas.Option.{same_Some, slice_get-get_or}
+use Rattle.cutter.proofs.Common.{◌≡◌, ℕ, ◌+◌, ◌<◌, ◌≤◌, true, false, ◌&&◌, ltb, leb, List, ◌++◌, get_or, Some, refl, sym, ap, ◌∙◌, inl, inr, ⊎_elim}
+use Rattle.cutter.proofs.Common.{arith, ◌⊎◌, slice_get, All, Contains, false≢true, both_ways, cases_Bool, or_left, or_cases, and_left, and_right}
+use Rattle.cutter.proofs.Common.{and_from, le-ltb, lt-leb, lt-ltb, le-leb, All-contains, Contains-append_left, Contains-append_right}
+use Rattle.cutter.proofs.Common.{Contains-append_cases, same_Some, slice_get-get_or, Operation, is_completed, low_key, high_key, may_change, belongs}
+use Rattle.cutter.proofs.Common.{spans, IsCut, Separates, BelongsAt, AreTogether, Contains-at, All-from_contains, greatest_bound, Contains-from_map}
+use Rattle.cutter.proofs.Common.{greatest_is, KeyRange, IsRangeOf, AreRanges, AreChained, AreApart}
 use Rattle.events.specs.declared.event.Call.{Call}
 use Rattle.events.specs.declared.event.Call.TheVariants.{Get, Insert, Remove, Scan, Replace}
-use Rattle.events.specs.declared.operation.Operation.{Operation}
-use Rattle.events.specs.Precedence.{is_completed}
-use Rattle.events.specs.Keys.{low_key, high_key, may_change}
-use Rattle.events.specs.Precedence.{belongs}
-use Rattle.segments.specs.Cuts.{spans, IsCut, Separates, BelongsAt, AreTogether}
-use Rattle.list_laws.proofs.Lists.{Contains-at, All-from_contains}
-use Rattle.list_laws.proofs.NumberLemmas.{greatest_bound}
-use Rattle.list_laws.proofs.FilterLemmas.{Contains-from_map}
-use Rattle.list_laws.proofs.NumberLemmas.{greatest_is}
-use Rattle.cutter.specs.declared.key_range.KeyRange.{KeyRange}
-use Rattle.cutter.specs.KeyRanges.{IsRangeOf, AreRanges, AreChained, AreApart}
 use Rattle.cutter.proofs.ChainLemmas.{reach_of, Any-from_contains}
 
 -- a call that may change the map names one key
@@ -49,7 +37,7 @@ AreTogether-at : (calls : List Operation) (m n : ℕ) (a b : Operation) → slic
     → ((c : ℕ) → IsCut calls c → Separates c a.call b.call → ⊥) → AreTogether calls m n
 AreTogether-at calls m n a b m_here n_here h = rw (m_here, n_here) h
 
--- and back
+-- what is said of the numbers is said of the calls at their places
 AreTogether-from : (calls : List Operation) (m n : ℕ) (a b : Operation) → slice_get calls m ≡ Some a → slice_get calls n ≡ Some b
     → AreTogether calls m n
     → (c : ℕ) → IsCut calls c → Separates c a.call b.call → ⊥

@@ -1,21 +1,11 @@
 -- The ranges of the calls that belong to a segment, found one after another and sorted.
-use Rattle.std.proofs.Common.{◌≡◌, ℕ, ◌+◌, ◌<◌, ◌≤◌, true, false, eqb, List, [], ◌∷◌, ◌++◌, length, get_or, map, Some, refl, arith}
-use Rattle.std.specs.Prelude.{◌≢◌, slice_get, All, AllPairs, IsPermutation}
+use Rattle.cutter.proofs.Common.{◌≡◌, ℕ, ◌+◌, ◌<◌, ◌≤◌, true, false, eqb, List, [], ◌∷◌, ◌++◌, length, get_or, map, Some, refl, arith, ◌≢◌, slice_get}
+use Rattle.cutter.proofs.Common.{All, AllPairs, IsPermutation, IsNonDecreasing, IsNonDecreasingBy, IsStrictlyIncreasing, ne_eqb, eqb-false}
+use Rattle.cutter.proofs.Common.{map-append, All-push, All-permutation, Contains-permutation, IsPermutation-map, Operation, low_key, high_key}
+use Rattle.cutter.proofs.Common.{belongs, AllPairs-weaker, AllPairs-from_map, KeyRange, range_with, IsRangeOf, AreRanges}
 use Rattle.std.specs.List.{IsDistinct}
-use Rattle.std.specs.List.Sorted.{IsNonDecreasing, IsNonDecreasingBy, IsStrictlyIncreasing}
-use Rattle.std.proofs.lemmas.Bool.{ne_eqb, eqb-false}
-use Rattle.std.proofs.lemmas.List.{map-append}
-use Rattle.std.proofs.lemmas.List.Elements.{All-push}
-use Rattle.std.proofs.lemmas.List.Sorted.{All-permutation, Contains-permutation, IsPermutation-map}
-use Rattle.std.proofs.lemmas.Map.Keys.{IsDistinct-from_apart, apart_from_distinct, IsDistinct-IsPermutation}
-use Rattle.std.proofs.lemmas.Map.Keys.{IsStrictlyIncreasing-from_distinct}
-use Rattle.events.specs.declared.operation.Operation.{Operation}
-use Rattle.events.specs.Keys.{low_key, high_key}
-use Rattle.events.specs.Precedence.{belongs}
-use Rattle.list_laws.proofs.FilterLemmas.{AllPairs-weaker, AllPairs-from_map}
+use Rattle.std.proofs.lemmas.Map.Keys.{IsDistinct-from_apart, apart_from_distinct, IsDistinct-IsPermutation, IsStrictlyIncreasing-from_distinct}
 use Rattle.segments.proofs.BelongingLemmas.{BelongBelow, BelongBelow-take, BelongBelow-skip, BelongBelow-all}
-use Rattle.cutter.specs.declared.key_range.KeyRange.{KeyRange}
-use Rattle.cutter.specs.KeyRanges.{range_with, IsRangeOf, AreRanges}
 use Rattle.cutter.proofs.ChainLemmas.{RiseByLow}
 
 -- the numbers of ranges
@@ -40,7 +30,7 @@ AreRangesBelow-take calls place ranges a h here belonging in_order =
           (BelongBelow-take calls place (numbers_of ranges) a h.numbers here belonging);
     }
 
--- no more, where it does not
+-- the call at the place does not belong, so no range is added
 pub AreRangesBelow-skip : (calls : List Operation) (place : ℕ) (ranges : List KeyRange) (a : Operation) → AreRangesBelow calls place ranges
     → slice_get calls place ≡ Some a → belongs a ≡ false → AreRangesBelow calls (place + 1) ranges
 AreRangesBelow-skip calls place ranges a h here apart =
@@ -64,7 +54,7 @@ IsDistinct-from_pairs number xs h =
     IsDistinct-from_apart (λ x y. eqb (number x) (number y)) xs
     (λ i j d before within. ne_eqb (number (get_or xs i d)) (number (get_or xs j d)) (h i j d before within))
 
--- and back
+-- no two elements that are distinct by number have one number
 pairs_from_IsDistinct : {X : Type 0} (number : X → ℕ) (xs : List X) → IsDistinct (λ x y. eqb (number x) (number y)) xs
     → AllPairs (λ x y. number x ≢ number y) xs
 pairs_from_IsDistinct number xs h i j d before within =

@@ -1,3 +1,4 @@
+mod Common
 mod KeyRangeLemmas
 mod ChainLemmas
 mod CutLemmas

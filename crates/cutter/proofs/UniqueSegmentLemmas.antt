@@ -1,20 +1,12 @@
 -- A history has one list of segments: classes of calls that are together, by rising key.
-use Rattle.std.proofs.Common.{◌≡◌, ℕ, ◌<◌, ◌≤◌, List, [], ◌∷◌, length, refl, sym, ap, ◌∙◌, subst, ⊎_elim, arith}
-use Rattle.std.specs.Prelude.{All, AllPairs, Contains}
-use Rattle.std.proofs.lemmas.List.Elements.{All-head, All-tail, All-contains, All-weaker}
-use Rattle.events.specs.declared.operation.Operation.{Operation}
+use Rattle.cutter.proofs.Common.{◌≡◌, ℕ, ◌<◌, ◌≤◌, List, [], ◌∷◌, length, refl, sym, ap, ◌∙◌, subst, ⊎_elim, arith, All, AllPairs, Contains, All-head}
+use Rattle.cutter.proofs.Common.{All-tail, All-contains, All-weaker, Operation, low_key, high_key, operations, Contents, SegmentView, segment_of}
+use Rattle.cutter.proofs.Common.{IsSegment, AreSegments, AllPairs-head, AllPairs-tail, Contains-first, Contains-later, Contains-cases, Contains-nil}
+use Rattle.cutter.proofs.Common.{Contains-at, slice_get-below, keys_in_order-operations}
 use Rattle.events.specs.HistoryView.{HistoryView}
 use Rattle.events.specs.Histories.{IsHistory}
-use Rattle.events.specs.Keys.{low_key, high_key}
-use Rattle.events.specs.Operations.{operations}
-use Rattle.map_object.specs.MapObject.{Contents}
-use Rattle.segments.specs.SegmentView.{SegmentView, segment_of}
-use Rattle.segments.specs.Segments.{IsSegment, AreSegments}
-use Rattle.list_laws.proofs.Lists.{AllPairs-head, AllPairs-tail, Contains-first, Contains-later, Contains-cases, Contains-nil, Contains-at}
-use Rattle.list_laws.proofs.NumberLemmas.{slice_get-below}
 use Rattle.list_laws.proofs.RisingLemmas.{rising_unique}
 use Rattle.segments.proofs.SegmentLemmas.{known-IsSegment, IsInside-segment}
-use Rattle.segments.proofs.SegmentViewLemmas.{keys_in_order-operations}
 
 -- no scan has its ends the wrong way round
 abbrev pub KeysInOrder : List Operation → Type 0

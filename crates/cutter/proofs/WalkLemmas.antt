@@ -1,29 +1,14 @@
 -- The walk over the ranges of a history's calls: each chain of ranges is the next segment.
-use Rattle.std.proofs.Common.{◌≡◌, ℕ, ◌<◌, ◌≤◌, List, [], ◌∷◌, ◌++◌, length, get_or, map, take, drop, refl, sym, ap, ◌∙◌, subst, inl, inr}
-use Rattle.std.proofs.Common.{⊎_elim, append_assoc}
-use Rattle.std.proofs.Common.{arith}
-use Rattle.std.specs.Prelude.{◌≢◌, ◌⊎◌, slice_get, All, Any, AllPairs, Contains, IsPermutation}
-use Rattle.std.specs.List.Sorted.{IsStrictlyIncreasing}
-use Rattle.std.proofs.lemmas.List.{take-append-drop, length-take-le, length-map}
-use Rattle.std.proofs.lemmas.List.Elements.{All-head, All-tail, All-append, All-push, All-map, All-take, All-weaker, All-contains}
-use Rattle.std.proofs.lemmas.List.Elements.{Contains-get_or}
-use Rattle.std.proofs.lemmas.List.Elements.{Contains-append_left, Contains-append_right, Contains-append_cases}
+use Rattle.cutter.proofs.Common.{◌≡◌, ℕ, ◌<◌, ◌≤◌, List, [], ◌∷◌, ◌++◌, length, get_or, map, take, drop, refl, sym, ap, ◌∙◌, subst, inl, inr, ⊎_elim}
+use Rattle.cutter.proofs.Common.{append_assoc, arith, ◌≢◌, ◌⊎◌, slice_get, All, Any, AllPairs, Contains, IsPermutation, IsStrictlyIncreasing}
+use Rattle.cutter.proofs.Common.{take-append-drop, length-take-le, length-map, All-head, All-tail, All-append, All-push, All-map, All-take}
+use Rattle.cutter.proofs.Common.{All-weaker, All-contains, Contains-get_or, Contains-append_left, Contains-append_right, Contains-append_cases}
+use Rattle.cutter.proofs.Common.{IsPermutation-sym, All-permutation, Contains-permutation, length_permutation, same_Some, slice_get_within, Operation}
+use Rattle.cutter.proofs.Common.{least, low_key, high_key, BelongsAt, AreTogether, Contents, calls_at, SegmentView, segment_of, IsSegment}
+use Rattle.cutter.proofs.Common.{AreSegments, AllPairs-front, AllPairs-back, All-front, All-back, All-from_contains, Contains-nil, Contains-first}
+use Rattle.cutter.proofs.Common.{Contains-map, Contains-from_map, Contains-filter_map, Contains-from_filter_map, greatest_is, KeyRange, IsRangeOf}
+use Rattle.cutter.proofs.Common.{AreRanges, AreChained, AreApart}
 use Rattle.std.proofs.lemmas.List.Quantifiers.{Any-push, all_pairs_push}
-use Rattle.std.proofs.lemmas.List.Sorted.{IsPermutation-sym, All-permutation, Contains-permutation, length_permutation}
-use Rattle.std.proofs.lemmas.Option.{same_Some, slice_get_within}
-use Rattle.events.specs.declared.operation.Operation.{Operation}
-use Rattle.list_laws.specs.Lists.{least}
-use Rattle.events.specs.Keys.{low_key, high_key}
-use Rattle.segments.specs.Cuts.{BelongsAt, AreTogether}
-use Rattle.map_object.specs.MapObject.{Contents}
-use Rattle.orders.specs.Orders.{calls_at}
-use Rattle.segments.specs.SegmentView.{SegmentView, segment_of}
-use Rattle.segments.specs.Segments.{IsSegment, AreSegments}
-use Rattle.list_laws.proofs.Lists.{AllPairs-front, AllPairs-back, All-front, All-back, All-from_contains, Contains-nil, Contains-first}
-use Rattle.list_laws.proofs.FilterLemmas.{Contains-map, Contains-from_map, Contains-filter_map, Contains-from_filter_map}
-use Rattle.list_laws.proofs.NumberLemmas.{greatest_is}
-use Rattle.cutter.specs.declared.key_range.KeyRange.{KeyRange}
-use Rattle.cutter.specs.KeyRanges.{IsRangeOf, AreRanges, AreChained, AreApart}
 use Rattle.cutter.proofs.ChainLemmas.{RiseByLow, Any-from_contains}
 use Rattle.cutter.proofs.KeyRangeLemmas.{numbers_of}
 use Rattle.cutter.proofs.CutLemmas.{AreTogether-chained, not_together-apart, range_from_belonging}
@@ -227,7 +212,7 @@ distinct_first start calls rest len segments h =
     AllPairs-front R (take len rest) (drop len rest)
     (subst (AllPairs R) (sym (take-append-drop len rest)) (AllPairs-back R h.before rest h.ranges.distinct))
 
--- their numbers are those of calls
+-- the numbers of the first ranges are those of calls
 pub known_first : (start : Contents) (calls : List Operation) (rest : List KeyRange) (len : ℕ) (segments : List SegmentView)
     (numbers : List ℕ)
     → AreSegmentsBefore start calls rest segments → IsPermutation (numbers_of (take len rest)) numbers
@@ -238,7 +223,7 @@ known_first start calls rest len segments numbers h same = All-permutation (λ n
     (λ r range. slice_get_within calls r.number range.operation range.here) rest
     (All-back (IsRangeOf calls) h.before rest h.ranges.each))))
 
--- and there are some
+-- the first ranges have some numbers
 pub some_first : (rest : List KeyRange) (len : ℕ) (numbers : List ℕ) → 0 < len → len ≤ length rest
     → IsPermutation (numbers_of (take len rest)) numbers
     → numbers ≢ []

@@ -1,24 +1,12 @@
 -- From the answers of each process to those of all calls.
-use Rattle.std.proofs.Common.{◌≡◌, ℕ, suc, ◌<◌, ◌≤◌, Bool, true, false, cond, ◌==◌, List, [], ◌∷◌, ◌++◌, append_assoc, Some, refl, ap, ◌∙◌}
-use Rattle.std.proofs.Common.{arith, subst, eq-eqb}
-use Rattle.std.proofs.lemmas.Bool.{ne_eqb}
-use Rattle.std.specs.Prelude.{IfSome, All}
-use Rattle.std.proofs.lemmas.List.Elements.{All-nil, All-cons, All-weaker}
-use Rattle.list_laws.proofs.Lists.{filter_none}
-use Rattle.events.specs.declared.event.Call.{Call}
-use Rattle.events.specs.declared.event.Reply.{Reply}
-use Rattle.events.specs.declared.event.Event.{Event}
-use Rattle.events.specs.declared.event.Event.TheVariants.{Invoke, Answer}
-use Rattle.events.specs.Events.{process_of, events_of}
-use Rattle.events.specs.HistoryFaults.{ends_waiting}
+use Rattle.drives.proofs.Common.{◌≡◌, ℕ, suc, ◌<◌, ◌≤◌, Bool, true, false, cond, ◌==◌, List, [], ◌∷◌, ◌++◌, append_assoc, Some, refl, ap, ◌∙◌, arith}
+use Rattle.drives.proofs.Common.{subst, eq-eqb, ne_eqb, IfSome, All, All-nil, All-cons, All-weaker, filter_none, Call, Reply, Event, Invoke, Answer}
+use Rattle.drives.proofs.Common.{process_of, events_of, ends_waiting, Pass, events_by, is_waiting, HasRecorded, AreAnswered, AreOwn, first_reply}
+use Rattle.drives.proofs.Common.{AnswersFit}
 use Rattle.events.specs.Operations.{response_from, operation_of, operations_from}
-use Rattle.recorder.specs.declared.pass.Pass.{Pass}
-use Rattle.recorder.specs.Passes.{events_by, is_waiting, HasRecorded}
-use Rattle.drives.specs.Drives.{AreAnswered}
-use Rattle.drives.specs.Passes.{AreOwn, first_reply, AnswersFit}
 use Rattle.drives.proofs.ScriptLemmas.{one-more, own-events}
 
--- where no call is open, the first reply is there already
+-- if no call is open, the first reply is there already
 first_reply-append : (es fs : List Event) → ends_waiting true es ≡ false → first_reply (es ++ fs) ≡ first_reply es
 first_reply-append [] fs idle = cc
 first_reply-append (Invoke p call ∷ es) fs idle = first_reply-append es fs idle
@@ -89,6 +77,6 @@ module _ (may_answer : Call → Reply → Type 0) where
       (response-reply (may_answer call) p (suc i) es (first-fits (p == p) p call (events_of p es) (eq-eqb p p refl) (h p)))
       (answered-from (suc i) es (λ q. rest-fits (p == q) (Invoke p call) (events_of q es) (h q)))
 
-  -- where the answers of each process fit, so do all
+  -- if the answers of each process fit, so do all
   pub AreAnswered-own : (es : List Event) → ((p : ℕ) → AnswersFit may_answer (events_of p es)) → AreAnswered may_answer es
   AreAnswered-own es h = answered-from 0 es h

@@ -1,39 +1,18 @@
 -- The history of an arena that closes after all processes did their scripts.
-use Rattle.std.proofs.Common.{◌≡◌, ℕ, ◌^◌, ◌<◌, ◌⊎◌, inl, inr, ⊎_elim, false, List, [], ◌∷◌, ◌++◌, length, map, Some, refl, sym, ap, ◌∙◌}
-use Rattle.std.proofs.Common.{arith, subst}
-use Rattle.std.specs.Prelude.{All, EachIndex, filter_map, slice_get, slice_index_or}
-use Rattle.std.specs.List.{range_with_len}
-use Rattle.std.proofs.lemmas.List.{get_or-map, length-map}
-use Rattle.std.proofs.lemmas.List.FromFn.{get_or-range_with_len, length-range_with_len}
-use Rattle.std.proofs.lemmas.Option.{slice_get_within}
-use Rattle.list_laws.proofs.NumberLemmas.{slice_get-below}
-use Rattle.events.specs.declared.event.Call.{Call}
-use Rattle.events.specs.declared.event.Event.{Event}
-use Rattle.events.specs.declared.event.Event.TheVariants.{Invoke, Answer}
-use Rattle.events.specs.Events.{events_of}
-use Rattle.events.specs.HistoryFaults.{ends_waiting}
-use Rattle.events.specs.HistoryView.{HistoryView}
-use Rattle.logs.specs.Logs.{Stamped}
+use Rattle.drives.proofs.Common.{◌≡◌, ℕ, ◌^◌, ◌<◌, ◌⊎◌, inl, inr, ⊎_elim, false, List, [], ◌∷◌, ◌++◌, length, map, Some, refl, sym, ap, ◌∙◌, arith}
+use Rattle.drives.proofs.Common.{subst, All, EachIndex, filter_map, slice_get, slice_index_or, range_with_len, get_or-map, length-map}
+use Rattle.drives.proofs.Common.{get_or-range_with_len, length-range_with_len, slice_get_within, slice_get-below, Call, Event, Invoke, Answer}
+use Rattle.drives.proofs.Common.{events_of, ends_waiting, HistoryView, Stamped, Process, begun, idle, Setup, View, Numbered, numbers_of, HasOwnEvents}
+use Rattle.drives.proofs.Common.{HasFinished, HasStopped, most_calls, Arena, shows, opened_for, setup_with, IsHistoryOf, HoldsAll, IsHandedBack}
+use Rattle.drives.proofs.Common.{IsArenaDriveOf, IsLimited, IsLinearizableIn, HasAnsweredAll, HasStoppedIn, HasDone, HasDoneOwn, WantsMemory}
 use Rattle.art_rows.specs.declared.table.Shape.{Shape}
 use Rattle.art_steps.specs.declared.variant.Variant.{Variant}
-use Rattle.art_core.specs.declared.process.Process.{Process}
-use Rattle.art_core.specs.Core.{begun, idle, invoked}
-use Rattle.art_shared.specs.declared.view.Setup.{Setup}
-use Rattle.art_shared.specs.declared.view.View.{View}
-use Rattle.art_shared.specs.Views.{Numbered, numbers_of}
-use Rattle.art_shared.specs.Ends.{HasOwnEvents}
-use Rattle.drives.specs.Drives.{HasFinished, HasStopped, most_calls}
-use Rattle.drives.specs.Drives as drives
-use Rattle.running.specs.declared.arena.Arena.{Arena}
+use Rattle.art_core.specs.Core.{invoked}
 use Rattle.running.specs.declared.group.Pass.{Pass}
-use Rattle.running.specs.Groups.{shows, opened_for, setup_with}
 use Rattle.running.specs.declared.fault.ArenaClose.{ArenaClose}
-use Rattle.running.specs.declared.fault.ArenaClose.TheVariants as faults
-use Rattle.running.specs.Closing.{IsHistoryOf, HoldsAll, IsHandedBack}
-use Rattle.drives.specs.ArenaDrives.{IsArenaDriveOf, IsLimited}
-use Rattle.running.specs.Linearizable.{IsLinearizableIn}
 use Rattle.drives.proofs.StepLemmas.{few-steps}
-use Rattle.drives.specs.Groups.{HasAnsweredAll, HasStoppedIn, HasDone, HasDoneOwn, WantsMemory}
+use Rattle.drives.specs.Drives as drives
+use Rattle.running.specs.declared.fault.ArenaClose.TheVariants as faults
 
 -- the calls that are invoked in a log are those that its process began
 calls-logged : (log : List Stamped) → drives.invoked (map (λ e. e.1) log) ≡ filter_map (λ e. invoked e.1) log
@@ -41,7 +20,7 @@ calls-logged [] = refl
 calls-logged ((stamp, Invoke p call) ∷ log) = ap (λ l. call ∷ l) (calls-logged log)
 calls-logged ((stamp, Answer p reply) ∷ log) = calls-logged log
 
--- a process whose events are those of its log did in them what it did by its log
+-- if the events of a process are those of its log, it did in them what its log says
 ended-in : (setup : Setup) (events : List Event) (p number limit : ℕ) (q : Process) (script : List Call)
     → events_of p events ≡ map (λ e. e.1) q.log
     → HasDone setup number limit script q
@@ -108,7 +87,7 @@ module _ (WasPassed : ℕ → Type 0) (shape : Shape) (variant : Variant) (limit
       let here : p < length v.processes = omega (arith, many, within) in
       subst WasPassed (number p (0, idle) here) (done p (0, idle) here).passed
 
-  -- so the history is one of a drive
+  -- the history is one of a drive
   pub drive-of : IsArenaDriveOf shape variant limit scripts history
   drive-of = record {
     view = v;
@@ -120,7 +99,7 @@ module _ (WasPassed : ℕ → Type 0) (shape : Shape) (variant : Variant) (limit
     ended = ended;
   }
 
--- an arena whose group holds all processes was not closed only for want of memory
+-- an arena whose group holds all processes was not closed only because memory ran out
 pub memory-wanted : (a : Arena) (p : Pass) (fault : ArenaClose) → HoldsAll (opened_for a) (shows p) → IsHandedBack a p fault
     → WantsMemory fault
 memory-wanted a p (faults.StillOut back given) all h = absurd (h.1 all)

@@ -1,22 +1,10 @@
 -- One process between its calls, and within one.
-use Rattle.std.proofs.Common.{◌≡◌, ℕ, ◌+◌, ◌*◌, ◌<◌, ◌≤◌, inr, true, false, IsTrue, List, [], ◌∷◌, ◌++◌, length, map, take, refl, sym, ap}
-use Rattle.std.proofs.Common.{subst, ◌∙◌, arith}
-use Rattle.std.specs.Prelude.{Some, None, slice_index_or}
-use Rattle.std.proofs.lemmas.List.{take_more, length-append}
-use Rattle.std.proofs.lemmas.List.Elements.{filter_map-append}
-use Rattle.events.specs.declared.event.Call.{Call}
-use Rattle.events.specs.declared.event.Reply.{Reply}
-use Rattle.events.specs.declared.event.Event.TheVariants.{Invoke, Answer}
-use Rattle.events.specs.HistoryFaults.{ends_waiting}
-use Rattle.logs.specs.Logs.{Stamped}
-use Rattle.art_core.specs.declared.process.Process.{Process}
-use Rattle.art_core.specs.Core.{Invokes, begun, idle, invoked, after_move}
-use Rattle.art_shared.specs.declared.view.Setup.{Setup}
-use Rattle.art_shared.specs.declared.view.View.{View}
-use Rattle.art_shared.specs.Views.{Numbered, invoking}
-use Rattle.running.specs.Steps.{is_open, Ran, HasReplied, HasInvoked}
-use Rattle.drives.specs.ArenaDrives.{alone, DoesCall, DoesCalls}
-use Rattle.drives.specs.Groups.{is_pending, HasAnsweredAll, ShowsDone}
+use Rattle.drives.proofs.Common.{◌≡◌, ℕ, ◌+◌, ◌*◌, ◌<◌, ◌≤◌, inr, true, false, IsTrue, List, [], ◌∷◌, ◌++◌, length, map, take, refl, sym, ap, subst}
+use Rattle.drives.proofs.Common.{◌∙◌, arith, None, slice_index_or, take_more, length-append, filter_map-append, Call, Reply, Invoke, Answer}
+use Rattle.drives.proofs.Common.{ends_waiting, Stamped, Process, Invokes, begun, idle, after_move, Setup, View, Numbered, invoking, is_open, Ran}
+use Rattle.drives.proofs.Common.{HasReplied, HasInvoked, alone, DoesCall, DoesCalls, is_pending, HasAnsweredAll, ShowsDone}
+use Rattle.std.specs.Prelude.{Some}
+use Rattle.art_core.specs.Core.{invoked}
 use Rattle.drives.proofs.RunLemmas.{ends-logged, ran, ran-open}
 
 -- one call more is one limit more
@@ -90,7 +78,7 @@ module _ (setup : Setup) (number limit : ℕ) where
     more : (limit + 1) * length (calls ++ call ∷ []) ≡ (limit + 1) * length calls + (limit + 1)
     more = ap (λ n. (limit + 1) * n) long ∙ mul-more (limit + 1) (length calls)
 
-    -- so it is done
+    -- the call is done
     done-in : (n : ℕ) (w : View) (new : Process) → n ≤ limit → Ran n v w → w ≡ alone setup number new
         → DoesCalls setup number limit (calls ++ call ∷ []) idle new
     done-in n w new few made is =

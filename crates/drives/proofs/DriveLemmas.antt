@@ -1,32 +1,18 @@
 -- The passes of all processes after their scripts, and the history that they make.
-use Rattle.std.proofs.Common.{◌≡◌, ℕ, ◌<◌, Bool, true, false, nat_lt, List, [], ◌∷◌, length, map, Some, Ok, Err, inl, inr, refl, sym}
-use Rattle.std.proofs.Common.{ap, ◌∙◌, arith, subst}
-use Rattle.std.specs.Prelude.{All, Contains, Result, IfOk, flat_map, slice_get, slice_index_or}
-use Rattle.std.specs.List.{list_all, range_with_len}
-use Rattle.std.proofs.lemmas.Bool.{and_parts, lt-ltb, ltb-true, cases_lt}
-use Rattle.std.proofs.lemmas.List.{get_or-map, length-map}
+use Rattle.drives.proofs.Common.{◌≡◌, ℕ, ◌<◌, Bool, true, false, List, [], ◌∷◌, length, map, Some, Ok, Err, inl, inr, refl, sym, ap, ◌∙◌, arith}
+use Rattle.drives.proofs.Common.{subst, All, Contains, Result, IfOk, flat_map, slice_get, slice_index_or, list_all, range_with_len, and_parts, lt-ltb}
+use Rattle.drives.proofs.Common.{ltb-true, cases_lt, get_or-map, length-map, All-head, All-tail, All-cons, All-nil, All-weaker, All-contains}
+use Rattle.drives.proofs.Common.{get_or-range_with_len, length-range_with_len, slice_get-get_or, get_or_from_slice_get, slice_get_within, same_Some}
+use Rattle.drives.proofs.Common.{slice_get-below, Call, Reply, Event, Memory, process_of, events_of, ends_waiting, with_no_start, by_stamp, Pass}
+use Rattle.drives.proofs.Common.{process_number, log_of, events_by, processes_of, IsPassOf, HasProcesses, history_of, invoked, HasFinished, IsDriveOf}
+use Rattle.drives.proofs.Common.{AreOwn, AnswersFit, HasRecordedScript, IsPassAfter, EachIsAfter, AreAfter}
+use Rattle.std.proofs.Common.{nat_lt}
 use Rattle.std.proofs.lemmas.List.Concat.{flat_map-cons}
-use Rattle.std.proofs.lemmas.List.Elements.{All-head, All-tail, All-cons, All-nil, All-weaker, All-contains}
 use Rattle.std.proofs.lemmas.List.Folds.{list_all-append, list_all-map}
-use Rattle.std.proofs.lemmas.List.FromFn.{get_or-range_with_len, length-range_with_len}
-use Rattle.std.proofs.lemmas.Option.{slice_get-get_or, get_or_from_slice_get, slice_get_within, same_Some}
-use Rattle.list_laws.proofs.NumberLemmas.{slice_get-below}
-use Rattle.events.specs.declared.event.Call.{Call}
-use Rattle.events.specs.declared.event.Reply.{Reply}
-use Rattle.events.specs.declared.event.Event.{Event}
-use Rattle.events.specs.declared.memory.Memory.{Memory}
-use Rattle.events.specs.Events.{process_of, events_of}
-use Rattle.events.specs.HistoryFaults.{ends_waiting}
-use Rattle.events.specs.HistoryView.{with_no_start}
-use Rattle.logs.specs.Logs.{by_stamp}
 use Rattle.logs.proofs.MergeLemmas.{all-by_stamp}
-use Rattle.recorder.specs.declared.pass.Pass.{Pass}
 use Rattle.recorder.specs.declared.recorders.Recorder.{Recorder}
-use Rattle.recorder.specs.Passes.{process_number, log_of, events_by}
-use Rattle.recorder.specs.Recorders.{processes_of, IsPassOf, HasProcesses, history_of, HasOwnEvents}
+use Rattle.recorder.specs.Recorders.{HasOwnEvents}
 use Rattle.recorder.specs.Closing.{IsOneOfEach}
-use Rattle.drives.specs.Drives.{invoked, HasFinished, IsDriveOf}
-use Rattle.drives.specs.Passes.{AreOwn, AnswersFit, HasRecordedScript, IsPassAfter, EachIsAfter, AreAfter}
 use Rattle.drives.proofs.ScriptLemmas.{own-events}
 use Rattle.drives.proofs.AnswerLemmas.{events_of-none, AreAnswered-own}
 
@@ -73,7 +59,7 @@ pub length-values : (done : List (Result Pass Memory)) (passes : List Pass) → 
     → length done ≡ length passes
 length-values done passes all = ap length all ∙ length-map passes Ok-pass
 
--- what all processes gave back, where none wanted memory
+-- what all processes gave back, if memory ran out in none
 pub each-pass : (may_answer : Call → Reply → Type 0) (r : Recorder) (scripts : List (List Call)) (done : List (Result Pass Memory))
     (passes : List Pass)
     → EachIsAfter may_answer r scripts done → done ≡ map (λ pass. Ok pass) passes
@@ -171,7 +157,7 @@ module _ (may_answer : Call → Reply → Type 0) (r : Recorder) (scripts : List
       let script = slice_get-below scripts k below in
       ((after.recorded script.0 script.1).own, let same = after.process_is in omega arith)
 
-  -- so it is what is recorded of the scripts
+  -- the history is what is recorded of the scripts
   pub drive-of : HasOwnEvents passes → IsDriveOf may_answer scripts (with_no_start (history_of passes))
   drive-of own = record {
     start = refl;

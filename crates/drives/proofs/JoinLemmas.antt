@@ -1,16 +1,9 @@
 -- What is known of the processes of groups that are joined.
-use Rattle.std.proofs.Common.{◌≡◌, ℕ, ◌+◌, true, false, List, [], ◌∷◌, length, Some, Ok, Err, sym, ap, subst, ◌∙◌, arith}
-use Rattle.std.specs.Prelude.{Result, All, IfOk, nat_lt, if◌then◌else◌}
-use Rattle.std.proofs.lemmas.List.Elements.{All-head, All-tail, All-cons, All-nil}
-use Rattle.std.proofs.lemmas.Option.{same_Some, none-some}
-use Rattle.events.specs.declared.event.Call.{Call}
-use Rattle.events.specs.declared.memory.Memory.{Memory}
-use Rattle.art_shared.specs.Views.{Numbered, placed, merge}
-use Rattle.running.specs.declared.arena.Arena.{Arena}
+use Rattle.drives.proofs.Common.{◌≡◌, ℕ, ◌+◌, true, false, List, [], ◌∷◌, length, Some, Ok, Err, sym, ap, subst, ◌∙◌, arith, Result, All, IfOk}
+use Rattle.drives.proofs.Common.{nat_lt, if◌then◌else◌, All-head, All-tail, All-cons, All-nil, same_Some, none-some, Call, Memory, Numbered, placed}
+use Rattle.drives.proofs.Common.{merge, Arena, shows, opened_for, HasDoneOwn, IsGroupAfter, gathered, joined}
 use Rattle.running.specs.declared.group.Pass.{Pass}
-use Rattle.running.specs.Groups.{shows, opened_for}
 use Rattle.running.proofs.GatherLemmas.{merge-length}
-use Rattle.drives.specs.Groups.{HasDoneOwn, IsGroupAfter, gathered, joined}
 
 module _ (P : Numbered → Type 0) where
   all-placed : (x : Numbered) (xs : List Numbered) → P x → All P xs → All P (placed x xs)

@@ -1,12 +1,7 @@
 -- The processes of a group that gives its last away.
-use Rattle.std.proofs.Common.{◌≡◌, ℕ, ◌+◌, ◌-◌, List, [], ◌∷◌, ◌++◌, length, map, take, drop, refl, sym, ap, ◌∙◌, arith}
-use Rattle.std.specs.List.{range_with_len}
-use Rattle.std.proofs.lemmas.List.FromFn.{length-map-range_with_len, take-map-range_with_len, map-range_with_len_more}
-use Rattle.art_core.specs.Core.{idle}
-use Rattle.art_shared.specs.declared.view.Setup.{Setup}
-use Rattle.art_shared.specs.declared.view.View.{View}
-use Rattle.art_shared.specs.Views.{Numbered, view, without_last, last_alone}
-use Rattle.drives.specs.ArenaDrives.{alone}
+use Rattle.drives.proofs.Common.{◌≡◌, ℕ, ◌+◌, ◌-◌, List, [], ◌∷◌, ◌++◌, length, map, take, drop, refl, sym, ap, ◌∙◌, arith, range_with_len}
+use Rattle.drives.proofs.Common.{length-map-range_with_len, take-map-range_with_len, map-range_with_len_more, idle, Setup, View, Numbered, view}
+use Rattle.drives.proofs.Common.{without_last, last_alone, alone}
 use Rattle.running.proofs.FitLemmas.{first_process}
 
 -- the first processes of all, before the first step

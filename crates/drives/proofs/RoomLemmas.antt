@@ -1,15 +1,9 @@
 -- The length of the longest script.
-use Rattle.std.proofs.Common.{◌≡◌, ℕ, ◌*◌, ◌<◌, ◌≤◌, List, [], ◌∷◌, length, map, take, slice_index_or, sym, ap, ◌∙◌, arith}
-use Rattle.std.specs.Prelude.{sum}
-use Rattle.std.proofs.Math.Nat.{mul-le-mul}
-use Rattle.std.proofs.lemmas.List.{get_or_default}
-use Rattle.std.proofs.lemmas.List.Sums.{sum_by-cons}
+use Rattle.drives.proofs.Common.{◌≡◌, ℕ, ◌*◌, ◌<◌, ◌≤◌, List, [], ◌∷◌, length, map, take, sym, ap, ◌∙◌, arith, sum, mul-le-mul, get_or_default}
+use Rattle.drives.proofs.Common.{sum_by-cons, greatest, greatest_bound, Call, most_calls}
+use Rattle.std.proofs.Common.{slice_index_or}
 use Rattle.std.proofs.lemmas.Simd.{map-map}
-use Rattle.list_laws.specs.Lists.{greatest}
-use Rattle.list_laws.proofs.NumberLemmas.{greatest_bound}
-use Rattle.events.specs.declared.event.Call.{Call}
 use Rattle.plans.specs.Plans.{AreFew}
-use Rattle.drives.specs.Drives.{most_calls}
 
 pub longest-within : (scripts : List (List Call)) → most_calls scripts ≤ sum (map (λ script. length script) scripts)
 longest-within [] = omega arith

@@ -1,24 +1,13 @@
 -- What turns of an open call make of a process that is alone in its view.
-use Rattle.std.proofs.Common.{◌≡◌, ℕ, zero, suc, ◌+◌, Bool, false, IsTrue, List, [], ◌∷◌, ◌++◌, length, map, refl, ap, subst, ◌∙◌, arith}
-use Rattle.std.specs.Prelude.{Option, Some, None, is_some}
-use Rattle.std.proofs.lemmas.List.{append-nil, length-append, map-append}
-use Rattle.std.proofs.lemmas.List.Elements.{filter_map-append}
-use Rattle.events.specs.declared.event.Call.{Call}
-use Rattle.events.specs.declared.event.Event.{Event}
-use Rattle.events.specs.declared.event.Event.TheVariants.{Answer}
-use Rattle.events.specs.Events.{is_invocation}
-use Rattle.events.specs.HistoryFaults.{ends_waiting}
-use Rattle.logs.specs.Logs.{Stamped}
+use Rattle.drives.proofs.Common.{◌≡◌, ℕ, zero, suc, ◌+◌, Bool, false, IsTrue, List, [], ◌∷◌, ◌++◌, length, map, refl, ap, subst, ◌∙◌, arith, Option}
+use Rattle.drives.proofs.Common.{None, is_some, append-nil, length-append, map-append, filter_map-append, Call, Event, Answer, is_invocation}
+use Rattle.drives.proofs.Common.{ends_waiting, Stamped, Process, Makes, Responds, begun, move_of, after_move, Setup, View, view, open_move}
+use Rattle.drives.proofs.Common.{moved_first, moved_if, is_open, Ran, alone}
+use Rattle.std.specs.Prelude.{Some}
 use Rattle.art_steps.specs.Steps.{Turn, Asks, Answers}
 use Rattle.art_steps.specs.Act.{act}
-use Rattle.art_core.specs.declared.process.Process.{Process}
 use Rattle.art_core.specs.Accesses.{told}
-use Rattle.art_core.specs.Core.{Makes, Responds, begun, invoked, move_of, after_move}
-use Rattle.art_shared.specs.declared.view.Setup.{Setup}
-use Rattle.art_shared.specs.declared.view.View.{View}
-use Rattle.art_shared.specs.Views.{view, open_move, moved_first, moved_if}
-use Rattle.running.specs.Steps.{is_open, Ran}
-use Rattle.drives.specs.ArenaDrives.{alone}
+use Rattle.art_core.specs.Core.{invoked}
 
 -- The last event of a list says whether the list ends with an invocation.
 
@@ -30,12 +19,13 @@ pub ends-logged : (log : List Stamped) (e : Stamped) → ends_waiting false (map
 ends-logged log e =
     ap (ends_waiting false) (map-append (λ (x : Stamped). x.1) log (e ∷ [])) ∙ ends-last false (map (λ (x : Stamped). x.1) log) e.1
 
--- What so many turns keep, and how many steps they are.
+-- What this many turns keep, and how many steps they are.
 pub record HasRun (n : ℕ) (old new : Process) : Type 0 where
   pub calls : begun new ≡ begun old
   pub steps : new.steps ≡ old.steps + n
 
--- What so many turns after which the call is still open keep, and how many words it got by them.
+-- What this many turns keep, if the call is still open after them, and how many words it got by
+-- them.
 pub record HasGone (n : ℕ) (old new : Process) : Type 0 where
   pub log : new.log ≡ old.log
   pub got : length new.got ≡ length old.got + n

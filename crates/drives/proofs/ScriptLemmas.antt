@@ -1,24 +1,11 @@
 -- What a pass shows after each call of a script.
-use Rattle.std.proofs.Common.{◌≡◌, ℕ, true, cond, ◌==◌, List, [], ◌∷◌, ◌++◌, length, nat_le, refl, sym, ap, ◌∙◌, arith}
-use Rattle.std.proofs.Common.{eq-eqb}
-use Rattle.std.proofs.lemmas.Bool.{and_parts}
-use Rattle.std.proofs.lemmas.List.{map-append, append-nil}
-use Rattle.std.proofs.lemmas.List.Elements.{All-push, All-weaker}
-use Rattle.list_laws.proofs.Lists.{filter_all}
-use Rattle.std.proofs.lemmas.List.Sums.{sum_by-cons}
-use Rattle.events.specs.declared.event.Call.{Call}
+use Rattle.drives.proofs.Common.{◌≡◌, ℕ, true, cond, ◌==◌, List, [], ◌∷◌, ◌++◌, length, nat_le, refl, sym, ap, ◌∙◌, arith, eq-eqb, and_parts}
+use Rattle.drives.proofs.Common.{map-append, append-nil, All-push, All-weaker, filter_all, sum_by-cons, Call, Reply, Event, Invoke, Answer}
+use Rattle.drives.proofs.Common.{process_of, is_invocation, events_of, is_tree_call, Pass, process_number, log_of, events_by, HasRecorded, invoked}
+use Rattle.drives.proofs.Common.{calls_by, AreOwn}
 use Rattle.events.specs.declared.event.Call.TheVariants.{Get, Insert, Remove, Scan, Replace}
-use Rattle.events.specs.declared.event.Reply.{Reply}
-use Rattle.events.specs.declared.event.Event.{Event}
-use Rattle.events.specs.declared.event.Event.TheVariants.{Invoke, Answer}
-use Rattle.events.specs.Events.{process_of, is_invocation, events_of}
 use Rattle.events.specs.Histories.{has_range, call_count}
-use Rattle.art_steps.specs.TreeCalls.{is_tree_call}
-use Rattle.recorder.specs.declared.pass.Pass.{Pass}
 use Rattle.recorder.specs.Records.{events_in}
-use Rattle.recorder.specs.Passes.{process_number, log_of, events_by, HasRecorded}
-use Rattle.drives.specs.Drives.{invoked, calls_by}
-use Rattle.drives.specs.Passes.{AreOwn}
 
 -- Lists of events.
 

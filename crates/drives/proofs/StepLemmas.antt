@@ -1,19 +1,10 @@
 -- Processes that keep within a limit for each of their calls make few steps together.
-use Rattle.std.proofs.Common.{◌≡◌, ℕ, ◌+◌, ◌*◌, ◌^◌, ◌<◌, ◌≤◌, List, [], ◌∷◌, length, map, arith, subst, sym}
-use Rattle.std.specs.Prelude.{All, sum}
-use Rattle.std.proofs.lemmas.List.Elements.{All-head, All-tail}
-use Rattle.std.proofs.lemmas.List.Sums.{sum_by-cons}
+use Rattle.drives.proofs.Common.{◌≡◌, ℕ, ◌+◌, ◌*◌, ◌^◌, ◌<◌, ◌≤◌, List, [], ◌∷◌, length, map, arith, subst, sym, All, sum, All-head, All-tail}
+use Rattle.drives.proofs.Common.{sum_by-cons, mul-add, begun, Setup, View, Numbered, plan_of, state_of, IsLimited}
 use Rattle.std.proofs.lemmas.Nat.{mul-le}
-use Rattle.std.proofs.Math.Nat.{mul-add}
 use Rattle.events.specs.Limits.{call_limit}
-use Rattle.art_core.specs.Core.{begun}
 use Rattle.art_core.specs.Plans.{IsPlan}
 use Rattle.art_core.specs.Runs.{HasFewSteps}
-use Rattle.art_shared.specs.declared.view.Setup.{Setup}
-use Rattle.art_shared.specs.declared.view.View.{View}
-use Rattle.art_shared.specs.Views.{Numbered}
-use Rattle.art_shared.specs.Ends.{plan_of, state_of}
-use Rattle.drives.specs.ArenaDrives.{IsLimited}
 
 abbrev steps_of : List Numbered → ℕ
 steps_of xs = sum (map (λ q. q.steps) (map (λ x. x.1) xs))
@@ -24,7 +15,7 @@ calls_of xs = sum (map (λ script. length script) (map begun (map (λ x. x.1) xs
 both-within : (a b c d e : ℕ) → a ≤ c → b ≤ d → e ≡ c + d → a + b ≤ e
 both-within a b c d e first second is = omega (arith, first, second, is)
 
--- at most so many for each call
+-- at most this many for each call
 steps-within : (setup : Setup) (limit : ℕ) (xs : List Numbered) → All (IsLimited setup limit) xs → steps_of xs ≤ (limit + 1) * calls_of xs
 steps-within setup limit [] all = omega arith
 steps-within setup limit (x ∷ xs) all =
@@ -36,7 +27,7 @@ steps-within setup limit (x ∷ xs) all =
     (All-head (IsLimited setup limit) x xs all).steps
     (steps-within setup limit xs (All-tail (IsLimited setup limit) x xs all)) (mul-add (limit + 1) (length (begun x.1)) (calls_of xs))))
 
--- so fewer than those for which the laws of runs are said
+-- these are fewer steps than the laws of runs allow
 pub few-steps : (setup : Setup) (limit : ℕ) (v : View) (words : List ℕ) → limit < 2 ^ 32 → IsPlan (plan_of setup v)
     → All (IsLimited setup limit) v.processes → HasFewSteps (state_of words v)
 few-steps setup limit v words small within limited =

@@ -8,9 +8,9 @@ use Rattle.art_steps.specs.declared.variant.Variant.{Variant}
 use Rattle.art_steps.specs.declared.variant.Variant.TheVariants.{Coupled, Optimistic}
 use Rattle.art_core.specs.declared.process.Process.{Process}
 use Rattle.art_core.specs.Core.{begun, idle}
-use Rattle.art_shared.specs.declared.view.Setup.{Setup}
-use Rattle.art_shared.specs.declared.view.View.{View}
-use Rattle.art_shared.specs.Views.{Numbered, view}
+use Rattle.running.specs.declared.view.Setup.{Setup}
+use Rattle.running.specs.declared.view.View.{View}
+use Rattle.running.specs.Views.{Numbered, view}
 use Rattle.drives.specs.Drives.{HasFinished, HasStopped, HaveScripts, most_calls}
 use Rattle.running.specs.Groups.{setup_with}
 use Rattle.running.specs.Closing.{IsHistoryOf}

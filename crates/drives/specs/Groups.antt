@@ -6,9 +6,9 @@ use Rattle.events.specs.declared.memory.Memory.{Memory}
 use Rattle.events.specs.HistoryFaults.{ends_waiting}
 use Rattle.art_core.specs.declared.process.Process.{Process}
 use Rattle.art_core.specs.Core.{begun, idle}
-use Rattle.art_shared.specs.declared.view.Setup.{Setup}
-use Rattle.art_shared.specs.declared.view.View.{View}
-use Rattle.art_shared.specs.Views.{Numbered, merge}
+use Rattle.running.specs.declared.view.Setup.{Setup}
+use Rattle.running.specs.declared.view.View.{View}
+use Rattle.running.specs.Views.{Numbered, merge}
 use Rattle.running.specs.declared.arena.Arena.{Arena}
 use Rattle.running.specs.declared.group.Pass.{Pass}
 use Rattle.running.specs.declared.fault.ArenaClose.{ArenaClose}

@@ -1,6 +1,6 @@
 // A group for each process, and one for all again.
 ghost use Rattle.std.specs.Prelude.{◌≡◌, ◌<◌, ◌≤◌, All, IfOk, Some, vec_len};
-ghost use Rattle.art_shared.specs.Views.{all_idle};
+ghost use Rattle.running.specs.Views.{all_idle};
 ghost use Rattle.running.specs.Groups.{shows, opened_for, IsGroupOf};
 ghost use Rattle.drives.specs.Groups.{IsReady, joined};
 

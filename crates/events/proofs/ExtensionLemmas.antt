@@ -1,13 +1,7 @@
 -- The calls of the first events of a list, and the same calls in the whole list.
-use Rattle.std.proofs.Common.{◌≡◌, ℕ, zero, suc, ◌+◌, ◌<◌, ◌≤◌, Bool, true, false, cond, ◌==◌, List, [], ◌∷◌, ◌++◌, length, Option, Some}
-use Rattle.std.proofs.Common.{None, refl, subst, arith}
-use Rattle.std.specs.Prelude.{slice_get, ⊤}
-use Rattle.std.proofs.lemmas.Option.{none-some, same_Some}
-use Rattle.events.specs.declared.event.Event.{Event}
-use Rattle.events.specs.declared.event.Event.TheVariants.{Invoke, Answer}
-use Rattle.events.specs.declared.operation.Operation.{Operation}
-use Rattle.events.specs.declared.operation.Response.{Response}
-use Rattle.events.specs.Operations.{response_from, operation_of, operations_from}
+use Rattle.events.proofs.Common.{◌≡◌, ℕ, zero, suc, ◌+◌, ◌<◌, ◌≤◌, Bool, true, false, cond, ◌==◌, List, [], ◌∷◌, ◌++◌, length, Option, Some, None}
+use Rattle.events.proofs.Common.{refl, subst, arith, slice_get, ⊤, none-some, same_Some, Event, Invoke, Answer, Operation, Response, response_from}
+use Rattle.events.proofs.Common.{operation_of, operations_from}
 
 -- a response before a place is the same in the whole; where there is none, the whole may have any
 abbrev pub IsExtendedResponse : ℕ → Option Response → Option Response → Type 0
@@ -33,7 +27,7 @@ response_from-extended p i place (Answer q reply ∷ events) more within =
     first_or true x part whole before rest = (refl, before)
     first_or false x part whole before rest = rest
 
--- the calls of the whole that stand where those of its first events stand
+-- the calls of the whole at the places at which its first events have calls
 pub extended_at : (i place : ℕ) (events more : List Event) (n : ℕ) (a : Operation) → i + length events ≤ place
     → slice_get (operations_from i events) n ≡ Some a
     → (b : Operation) × (slice_get (operations_from i (events ++ more)) n ≡ Some b) × IsExtended place a b

@@ -1,14 +1,9 @@
 -- Pairs and events have one first fault at most, and with one they are no history.
 use Rattle.events.specs.declared.fault.HistoryFault.TheVariants as faults
-use Rattle.std.proofs.Common.{◌≡◌, ℕ, List, [], ◌∷◌, ◌++◌, Option, Some, None, sym, ap, ◌∙◌, refl, subst, inl, inr, ⊎_elim}
-use Rattle.std.specs.Prelude.{◌⊎◌}
-use Rattle.std.proofs.lemmas.Option.{same_Some}
-use Rattle.events.specs.declared.event.Event.{Event}
-use Rattle.events.specs.declared.fault.HistoryFault.{HistoryFault}
+use Rattle.events.proofs.Common.{◌≡◌, ℕ, List, [], ◌∷◌, ◌++◌, Option, Some, None, sym, ap, ◌∙◌, refl, subst, inl, inr, ⊎_elim, ◌⊎◌, same_Some, Event}
+use Rattle.events.proofs.Common.{HistoryFault, IsStart, AreHistoryEvents, pair_fault_after, fault_after, IsFirstFaultOf, IsFirstPairFault}
+use Rattle.events.proofs.Common.{IsFirstEventFault, IsFirstFault, IsRefusedFor, IsRefusedAfter, IsPairRefusedAfter}
 use Rattle.events.specs.HistoryView.{HistoryView}
-use Rattle.events.specs.Starts.{IsStart}
-use Rattle.events.specs.Histories.{AreHistoryEvents}
-use Rattle.events.specs.HistoryFaults.{pair_fault_after, fault_after, IsFirstFaultOf, IsFirstPairFault, IsFirstEventFault, IsFirstFault, IsRefusedFor, IsRefusedAfter, IsPairRefusedAfter}
 use Rattle.events.specs.Laws.{HasOneFirstFault, FaultyIsNoHistory}
 use Rattle.events.proofs.HistoryLemmas.{AreHistoryEvents-next}
 use Rattle.events.proofs.StartLemmas.{IsStart-next}
@@ -22,7 +17,7 @@ record GoesOnWith {X : Type 0} (items before : List X) (x : X) : Type 0 where
 abbrev SplitsAlike : {X : Type 0} → List X → List X → X → X → Type 0
 SplitsAlike before ahead next after = ((before ≡ ahead) × (next ≡ after)) ⊎ (GoesOnWith before ahead after ⊎ GoesOnWith ahead before next)
 
--- the same, with one item more in front
+-- two splits of a list are also two of the list with one item more at its front
 splits_on : {X : Type 0} (x : X) (before ahead : List X) (next after : X) → SplitsAlike before ahead next after
     → SplitsAlike (x ∷ before) (x ∷ ahead) next after
 splits_on {X = X} x before ahead next after (inl h) = inl (ap (λ (xs : List X). x ∷ xs) h.0, h.1)
@@ -41,7 +36,7 @@ two_splits {X = X} (b ∷ before) (a ∷ ahead) next after rest more h =
     subst (λ (x : X). SplitsAlike (x ∷ before) (a ∷ ahead) next after) (sym same)
     (splits_on a before ahead next after (two_splits before ahead next after rest more (cc)))
 
--- where no item of a sound list shows a fault after those before it
+-- no item of a sound list shows a fault after the items before it
 module _ {X : Type 0} (IsSound : List X → Type 0) (fault_of_next : List X → X → Option HistoryFault)
     (none_next : (before rest : List X) (x : X) → IsSound (before ++ x ∷ rest) → fault_of_next before x ≡ None) where
   none_within : (items before : List X) (x : X) (fault : HistoryFault) → IsSound items → GoesOnWith items before x

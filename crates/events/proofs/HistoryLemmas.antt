@@ -1,22 +1,11 @@
 -- A history grows by one event at a time.
 use Rattle.events.specs.declared.fault.HistoryFault.TheVariants as faults
-use Rattle.std.proofs.Common.{◌≡◌, ℕ, ◌+◌, ◌<◌, ◌≤◌, Bool, true, false, not, ◌&&◌, ◌||◌, ◌==◌, cond, List, [], ◌∷◌, ◌++◌, length, Some}
-use Rattle.std.proofs.Common.{None, IsTrue, refl, sym}
-use Rattle.std.proofs.Common.{◌∙◌, arith, subst, eqb-true, eq-eqb, leb-false}
+use Rattle.events.proofs.Common.{◌≡◌, ℕ, ◌+◌, ◌<◌, ◌≤◌, Bool, true, false, not, ◌&&◌, ◌||◌, ◌==◌, cond, List, [], ◌∷◌, ◌++◌, length, Some, None}
+use Rattle.events.proofs.Common.{IsTrue, refl, sym, ◌∙◌, arith, subst, eqb-true, eq-eqb, leb-false, append-nil, filter-append, list_all-append}
+use Rattle.events.proofs.Common.{sum_by-append, nat_tests, and_parts, Event, Invoke, Answer, HistoryFault, call_limit, process_of, is_invocation}
+use Rattle.events.proofs.Common.{events_of, takes_turns, IsWellFormed, is_shaped, is_small, call_count, AreHistoryEvents, ends_waiting, has_open_call}
+use Rattle.events.proofs.Common.{is_out_of_turn, is_call_too_many, event_fault, fault_after}
 use Rattle.std.specs.List.{list_all}
-use Rattle.std.proofs.lemmas.List.{append-nil}
-use Rattle.std.proofs.lemmas.List.Elements.{filter-append}
-use Rattle.std.proofs.lemmas.List.Folds.{list_all-append}
-use Rattle.std.proofs.lemmas.List.Sums.{sum_by-append}
-use Rattle.std.proofs.lemmas.Bool.Decides.{nat_tests}
-use Rattle.std.proofs.lemmas.Bool.{and_parts}
-use Rattle.events.specs.declared.event.Event.{Event}
-use Rattle.events.specs.declared.event.Event.TheVariants.{Invoke, Answer}
-use Rattle.events.specs.declared.fault.HistoryFault.{HistoryFault}
-use Rattle.events.specs.Limits.{call_limit}
-use Rattle.events.specs.Events.{process_of, is_invocation, events_of, takes_turns, IsWellFormed}
-use Rattle.events.specs.Histories.{is_shaped, is_small, call_count, AreHistoryEvents}
-use Rattle.events.specs.HistoryFaults.{ends_waiting, has_open_call, is_out_of_turn, is_call_too_many, event_fault, fault_after}
 
 -- a process's events, with one event more
 events_of-push : (p : ℕ) (before : List Event) (e : Event)

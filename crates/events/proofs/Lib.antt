@@ -1,3 +1,4 @@
+mod Common
 pub mod HistoryLemmas
 pub mod OperationLemmas
 pub mod ExtensionLemmas

@@ -1,17 +1,8 @@
 -- What is kept of the events so far, when one more is taken.
-use Rattle.std.proofs.Common.{◌≡◌, ℕ, ◌+◌, ◌<◌, ◌≢◌, Bool, false, cond, nat_lt, List, [], ◌∷◌, ◌++◌, length, get_or, set, refl, sym, ◌∙◌}
-use Rattle.std.proofs.Common.{arith}
-use Rattle.std.proofs.Common.{get_or-set_other, get_or-set_same, inl, inr}
-use Rattle.std.proofs.lemmas.Bool.{cases_lt, le-ltb}
-use Rattle.std.proofs.lemmas.Bool.Decides.{eqb_tells}
-use Rattle.events.specs.declared.event.Event.{Event}
-use Rattle.events.specs.declared.event.Event.TheVariants.{Invoke, Answer}
+use Rattle.events.proofs.Common.{◌≡◌, ℕ, ◌+◌, ◌<◌, ◌≢◌, Bool, false, cond, nat_lt, List, [], ◌∷◌, ◌++◌, length, get_or, set, refl, sym, ◌∙◌, arith}
+use Rattle.events.proofs.Common.{get_or-set_other, get_or-set_same, inl, inr, cases_lt, le-ltb, eqb_tells, Event, Invoke, Answer, process_limit}
+use Rattle.events.proofs.Common.{process_of, is_invocation, call_count, has_open_call, event_fault, fault_after, AreOpenAfter}
 use Rattle.events.specs.declared.open_calls.OpenCalls.{OpenCalls}
-use Rattle.events.specs.Limits.{process_limit}
-use Rattle.events.specs.Events.{process_of, is_invocation}
-use Rattle.events.specs.Histories.{call_count}
-use Rattle.events.specs.HistoryFaults.{has_open_call, event_fault, fault_after}
-use Rattle.events.specs.OpenCalls.{AreOpenAfter}
 use Rattle.events.proofs.HistoryLemmas.{has_open_call-push, call_count-push}
 
 flags_at : (flags : List Bool) (before : List Event) (e : Event) (p : ℕ) → process_of e < length flags

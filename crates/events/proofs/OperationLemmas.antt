@@ -1,14 +1,8 @@
 -- The calls that a list of events makes: how many there are, and what each event adds.
-use Rattle.std.proofs.Common.{◌≡◌, ℕ, suc, ◌+◌, ◌<◌, ◌≤◌, cond, List, [], ◌∷◌, ◌++◌, length, get_or, drop, None, refl, ap, ◌∙◌, arith, add-one, drop-cons}
-use Rattle.std.proofs.lemmas.List.Sums.{sum_by-cons}
+use Rattle.events.proofs.Common.{◌≡◌, ℕ, suc, ◌+◌, ◌<◌, ◌≤◌, cond, List, [], ◌∷◌, ◌++◌, length, get_or, drop, None, refl, ap, ◌∙◌, arith, add-one}
+use Rattle.events.proofs.Common.{drop-cons, sum_by-cons, Event, Invoke, Answer, call_limit, is_invocation, call_count, AreHistoryEvents, Operation}
+use Rattle.events.proofs.Common.{response_from, operation_of, operations_from, operations}
 use Rattle.events.specs.declared.event.Call.{Call}
-use Rattle.events.specs.declared.event.Event.{Event}
-use Rattle.events.specs.declared.event.Event.TheVariants.{Invoke, Answer}
-use Rattle.events.specs.Limits.{call_limit}
-use Rattle.events.specs.Events.{is_invocation}
-use Rattle.events.specs.Histories.{call_count, AreHistoryEvents}
-use Rattle.events.specs.declared.operation.Operation.{Operation}
-use Rattle.events.specs.Operations.{response_from, operation_of, operations_from, operations}
 
 pub length-operations_from : (i : ℕ) (events : List Event) → length (operations_from i events) ≡ call_count events
 length-operations_from i [] = refl

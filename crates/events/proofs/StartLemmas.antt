@@ -1,20 +1,9 @@
 -- The pairs that a history starts with, taken one after another.
-use Rattle.std.proofs.Common.{◌≡◌, ℕ, ◌-◌, ◌<◌, true, false, nat_lt, nat_le, List, [], ◌∷◌, ◌++◌, length, get_or, Some, None, refl, sym, ap}
-use Rattle.std.proofs.Common.{◌∙◌, arith}
-use Rattle.std.proofs.Common.{inl, inr, ltb-true}
-use Rattle.std.specs.Prelude.{All, slice_get}
-use Rattle.std.proofs.lemmas.Bool.{cases_lt, lt-ltb, le-ltb}
-use Rattle.std.proofs.lemmas.Bool.Decides.{nat_tests}
-use Rattle.std.proofs.lemmas.Option.{get_or_from_slice_get, slice_get_within}
-use Rattle.std.proofs.lemmas.List.Sums.{AllPass-from_list_all}
-use Rattle.std.proofs.lemmas.List.{length-append}
-use Rattle.std.proofs.lemmas.List.Elements.{All-head, All-tail, All-weaker}
-use Rattle.std.proofs.lemmas.List.Folds.{list_all_at}
+use Rattle.events.proofs.Common.{◌≡◌, ℕ, ◌-◌, ◌<◌, true, false, nat_lt, nat_le, List, [], ◌∷◌, ◌++◌, length, get_or, Some, None, refl, sym, ap, ◌∙◌}
+use Rattle.events.proofs.Common.{arith, inl, inr, ltb-true, All, slice_get, cases_lt, lt-ltb, le-ltb, nat_tests, get_or_from_slice_get}
+use Rattle.events.proofs.Common.{slice_get_within, AllPass-from_list_all, length-append, All-head, All-tail, All-weaker, list_all_at, AllPairs-across}
+use Rattle.events.proofs.Common.{start_limit, KeysRise, IsStart, is_above, pair_fault_after}
 use Rattle.std.proofs.lemmas.List.Quantifiers.{all_pairs_push}
-use Rattle.list_laws.proofs.Lists.{AllPairs-across}
-use Rattle.events.specs.Limits.{start_limit}
-use Rattle.events.specs.Starts.{KeysRise, IsStart}
-use Rattle.events.specs.HistoryFaults.{is_above, pair_fault_after}
 
 -- a key above all others is above them
 pub is_above-true : (before : List (ℕ × ℕ)) (key : ℕ) → All (λ pair. pair.0 < key) before → is_above before key ≡ true
@@ -28,13 +17,13 @@ is_above-true (pair ∷ before) key h =
           (All-tail (λ (p : ℕ × ℕ). p.0 < key) pair before h),
     )
 
--- and back
+-- a key that is above some keys is greater than each of them
 pub is_above-All : (before : List (ℕ × ℕ)) (key : ℕ) → is_above before key ≡ true → All (λ pair. pair.0 < key) before
 is_above-All before key h =
     All-weaker (λ (p : ℕ × ℕ). nat_lt p.0 key ≡ true) (λ (p : ℕ × ℕ). p.0 < key) (λ p is. ltb-true p.0 key is) before
     (AllPass-from_list_all (λ (p : ℕ × ℕ). nat_lt p.0 key) before h)
 
--- where keys rise, a key is above all where it is above the last
+-- if keys rise, a key is above all where it is above the last
 pub is_above_last : (before : List (ℕ × ℕ)) (last : ℕ × ℕ) (key : ℕ) → KeysRise before → slice_get before (length before - 1) ≡ Some last
     → is_above before key ≡ nat_lt last.0 key
 is_above_last before last key rising here = elim (cases_lt last.0 key) [

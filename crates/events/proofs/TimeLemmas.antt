@@ -1,19 +1,11 @@
 -- When the calls of a history are invoked and answered.
-use Rattle.std.proofs.Common.{◌≡◌, ℕ, suc, ◌<◌, ◌≤◌, Bool, true, false, cond, ◌==◌, List, [], ◌∷◌, Option, Some, None, refl, ⊎_elim, arith}
-use Rattle.std.specs.Prelude.{slice_get, IfSome, All, AllPairs}
-use Rattle.std.proofs.lemmas.Bool.{le-ltb, cases_order}
-use Rattle.std.proofs.lemmas.Option.{IfSome_then}
-use Rattle.std.proofs.lemmas.List.Elements.{All-nil, All-cons, All-weaker}
+use Rattle.events.proofs.Common.{◌≡◌, ℕ, suc, ◌<◌, ◌≤◌, Bool, true, false, cond, ◌==◌, List, [], ◌∷◌, Option, Some, None, refl, ⊎_elim, arith}
+use Rattle.events.proofs.Common.{slice_get, IfSome, All, AllPairs, le-ltb, cases_order, IfSome_then, All-nil, All-cons, All-weaker, Event, Invoke}
+use Rattle.events.proofs.Common.{Answer, Operation, Response, response_from, operation_of, operations_from, operations, AllPairs-nil, AllPairs-at}
 use Rattle.std.proofs.lemmas.List.Kept.{AllPairs-cons}
-use Rattle.events.specs.declared.event.Event.{Event}
-use Rattle.events.specs.declared.event.Event.TheVariants.{Invoke, Answer}
-use Rattle.events.specs.declared.operation.Operation.{Operation}
-use Rattle.events.specs.declared.operation.Response.{Response}
-use Rattle.events.specs.Operations.{response_from, operation_of, operations_from, operations}
 use Rattle.events.specs.Precedence.{is_before, precedes, NonePrecedesItself}
-use Rattle.list_laws.proofs.Lists.{AllPairs-nil, AllPairs-at}
 
--- a response that is looked for from a place on stands there or later
+-- a response that is looked for from a place on is there or later
 response_from-at_least : (p i : ℕ) (events : List Event) → IfSome (response_from p i events) (λ r. i ≤ r.res)
 response_from-at_least p i [] = tt
 response_from-at_least p i (Invoke q call ∷ events) =
@@ -67,7 +59,7 @@ same_number calls m n a b rise m_here n_here same = ⊎_elim (λ equal. equal) (
     (λ after. let less = AllPairs-at (λ a b. a.inv < b.inv) calls n m b a rise after n_here m_here in absurd (omega arith))
     differ) (cases_order m n)
 
--- each response stands after the invocation that it answers
+-- each response comes after the invocation that it answers
 pub response_later : (events : List Event) → All (λ a. IfSome a.response (λ r. a.inv < r.res)) (operations events)
 response_later events = response_later_from 0 events
 

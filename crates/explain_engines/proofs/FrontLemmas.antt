@@ -1,12 +1,6 @@
 -- The line of a front has no float.
-use Rattle.std.proofs.Common.{◌≡◌, ℕ, false, List, refl}
-use Rattle.serde_json.specs.Written.{has_float}
-use Rattle.events.specs.declared.operation.Operation.{Operation}
-use Rattle.map_object.specs.MapObject.{Contents, reply_to}
-use Rattle.history_text.specs.Texts.{pair_data}
-use Rattle.history_text.proofs.WrittenLemmas.{has_float-reply, items_have_float-map}
-use Rattle.orders.specs.Orders.{calls_at, after_calls}
-use Rattle.explain_engines.specs.Fronts.{event_data, stuck_data, taken_data, next_of, front_data}
+use Rattle.explain_engines.proofs.Common.{◌≡◌, ℕ, false, List, refl, has_float, Operation, Contents, reply_to, pair_data, has_float-reply}
+use Rattle.explain_engines.proofs.Common.{items_have_float-map, calls_at, after_calls, event_data, stuck_data, taken_data, next_of, front_data}
 use Rattle.explain_engines.proofs.RowLemmas.{has_float-answer}
 
 has_float-stuck : (m : Contents) (a : Operation) → has_float (stuck_data m a) ≡ false

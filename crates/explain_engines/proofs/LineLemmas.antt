@@ -1,12 +1,8 @@
 -- A few calls in a line each, with the lines of the values that come from outside of them and those of a history with them.
-use Rattle.std.proofs.Common.{◌≡◌, ℕ, List, ◌++◌, ap, ◌∙◌, append_assoc, subst}
-use Rattle.events.specs.HistoryView.{HistoryView}
-use Rattle.events.specs.declared.operation.Operation.{Operation}
-use Rattle.map_object.specs.MapObject.{Contents}
+use Rattle.explain_engines.proofs.Common.{◌≡◌, ℕ, List, ◌++◌, ap, ◌∙◌, append_assoc, subst, HistoryView, Operation, Contents, rows, AreHistoryLines}
+use Rattle.explain_engines.proofs.Common.{AreOriginLines, AreFew, AreFewLines}
 use Rattle.explaining.specs.declared.explanation.Explanation.{Explanation}
 use Rattle.explaining.specs.Explained.{IsExplanation}
-use Rattle.explain_engines.specs.Reports.{rows}
-use Rattle.explain_engines.specs.Answers.{AreHistoryLines, AreOriginLines, AreFew, AreFewLines}
 
 -- calls in a line each, with the lines of the values that come from outside, and that of a history with these
 pub few_from : (budget : ℕ) (history : HistoryView) (start : Contents) (few : Explanation) (first outside small more bytes : List ℕ)

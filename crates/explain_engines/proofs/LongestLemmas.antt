@@ -1,13 +1,8 @@
 -- No front is longer than the longest that a search of all configurations meets.
-use Rattle.std.proofs.Common.{ℕ, ◌≤◌, List, [], ◌∷◌, ◌++◌, length, ◌∙◌, subst, ⊎_elim, arith}
-use Rattle.std.specs.Prelude.{◌≢◌, Contains}
-use Rattle.std.proofs.lemmas.List.{length-append, get_or_default}
-use Rattle.std.proofs.lemmas.List.Elements.{All-contains, All-weaker, Contains-push_cases}
+use Rattle.explain_engines.proofs.Common.{ℕ, ◌≤◌, List, [], ◌∷◌, ◌++◌, length, ◌∙◌, subst, ⊎_elim, arith, ◌≢◌, Contains, length-append}
+use Rattle.explain_engines.proofs.Common.{get_or_default, All-contains, All-weaker, Contains-push_cases, Operation, NonePrecedesItself}
+use Rattle.explain_engines.proofs.Common.{All-from_contains, Contents, as_long_as, NoFrontIsLonger}
 use Rattle.std.proofs.lemmas.List.Quantifiers.{all_pairs_push}
-use Rattle.events.specs.declared.operation.Operation.{Operation}
-use Rattle.events.specs.Precedence.{NonePrecedesItself}
-use Rattle.list_laws.proofs.Lists.{All-from_contains}
-use Rattle.map_object.specs.MapObject.{Contents}
 use Rattle.configurations.specs.Configurations.{Configuration, IsReachable}
 use Rattle.configurations.specs.Counts.{ReachesMoreThan}
 use Rattle.configurations.proofs.ConfigurationLemmas.{LeadsTo-exists}
@@ -16,9 +11,7 @@ use Rattle.search.specs.LongestFront.{HasMetEnough}
 use Rattle.search.proofs.CountLemmas.{IsReachable-from_counted, counted_within}
 use Rattle.search.proofs.EarliestLemmas.{length-taken}
 use Rattle.search.proofs.ExistsLemmas.{has_count}
-use Rattle.search.proofs.LongestLemmas.{as_long_as}
 use Rattle.search.proofs.MemoLemmas.{visited_or_not}
-use Rattle.explain_engines.specs.Laws.{NoFrontIsLonger}
 
 module _ (start : Contents) (calls : List Operation) (budget : ℕ) (apart : NonePrecedesItself calls)
     (within : ReachesMoreThan start calls budget → ⊥) where

@@ -1,9 +1,6 @@
 -- An explanation is an outcome of the text, and an answer to the text that was read is one to the whole.
-use Rattle.std.proofs.Common.{ℕ, ◌+◌, List, take}
-use Rattle.history_text.specs.Limits.{text_limit}
+use Rattle.explain_engines.proofs.Common.{ℕ, ◌+◌, List, take, text_limit, IsTextOf-whole, IsExplainAnswer}
 use Rattle.outcomes.specs.declared.outcome.Answer.{Answer}
-use Rattle.history_engines.proofs.WholeHistories.{IsTextOf-whole}
-use Rattle.explain_engines.specs.Answers.{IsExplainAnswer}
 
 pub IsExplainAnswer-whole : (budget : ℕ) (text : List ℕ) (answer : Answer) (bytes : List ℕ)
     → IsExplainAnswer budget (take (text_limit + 1) text) answer bytes

@@ -1,33 +1,17 @@
--- Behind the longest front of few calls none can come next.
-use Rattle.std.proofs.Common.{◌≡◌, ℕ, ◌<◌, Bool, true, false, not, List, [], ◌∷◌, length, Option, Some, None, refl, sym, ap, ap₂, ◌∙◌}
-use Rattle.std.proofs.Common.{⊎_elim, subst, arith}
-use Rattle.std.specs.Prelude.{◌==◌, ◌||◌, is_some, slice_get, All, Contains}
-use Rattle.std.specs.List.{list_any}
-use Rattle.std.proofs.lemmas.Bool.{both_ways, not-true, cases_Bool, cases_order, eq-eqb, eqb-true, or_cases, or_left, or_right, false≢true}
-use Rattle.std.proofs.lemmas.List.Elements.{All-head, All-tail, All-weaker}
-use Rattle.std.proofs.lemmas.Option.{none-some, same_Some, slice_get_within}
+-- After the longest front of few calls none can come next.
+use Rattle.explain_engines.proofs.Common.{◌≡◌, ℕ, ◌<◌, Bool, true, false, not, List, [], ◌∷◌, length, Option, Some, None, refl, sym, ap, ap₂, ◌∙◌}
+use Rattle.explain_engines.proofs.Common.{⊎_elim, subst, arith, ◌==◌, ◌||◌, is_some, slice_get, All, Contains, list_any, both_ways, not-true}
+use Rattle.explain_engines.proofs.Common.{cases_Bool, cases_order, eq-eqb, eqb-true, or_cases, or_left, or_right, false≢true, All-head, All-tail}
+use Rattle.explain_engines.proofs.Common.{All-weaker, none-some, same_Some, slice_get_within, Operation, Response, may_change, operations, belongs}
+use Rattle.explain_engines.proofs.Common.{precedes, Contains-filter_map, Contains-from_filter_map, AllPairs-at, All-from_contains, Contains-at}
+use Rattle.explain_engines.proofs.Common.{Contains-cases, Contains-filter, Contains-from_filter, Contains-first, Contains-later, Contains-nil}
+use Rattle.explain_engines.proofs.Common.{place_of-Contains, Contents, after_reply, IsLegalReply, after_call, after_calls, calls_at, IsLegalCall}
+use Rattle.explain_engines.proofs.Common.{at_places, All-at_places, IsSegmentView, BelongsAt-below, IsSegmentView-segment_of, reply_in, AreAlike}
+use Rattle.explain_engines.proofs.Common.{RangesSuffice, as_long_as, is_taken, is_preceded, left_by, next_of, NoNextCallIsLegal}
 use Rattle.events.specs.declared.event.Call.{Call}
 use Rattle.events.specs.declared.event.Reply.{Reply}
-use Rattle.events.specs.declared.operation.Operation.{Operation}
-use Rattle.events.specs.declared.operation.Response.{Response}
-use Rattle.events.specs.Keys.{may_change}
-use Rattle.events.specs.Operations.{operations}
-use Rattle.events.specs.Precedence.{belongs, precedes}
-use Rattle.list_laws.proofs.FilterLemmas.{Contains-filter_map, Contains-from_filter_map}
-use Rattle.list_laws.proofs.Lists.{AllPairs-at, All-from_contains, Contains-at, Contains-cases, Contains-filter, Contains-from_filter}
-use Rattle.list_laws.proofs.Lists.{Contains-first, Contains-later, Contains-nil, place_of-Contains}
 use Rattle.list_laws.proofs.NumberLemmas.{slice_get-below}
-use Rattle.map_object.specs.MapObject.{Contents, after_reply, IsLegalReply}
-use Rattle.orders.specs.Orders.{after_call, after_calls, calls_at, IsLegalCall}
-use Rattle.orders.proofs.PlaceLemmas.{at_places, All-at_places}
-use Rattle.segments.specs.SegmentView.{IsSegmentView}
-use Rattle.segments.proofs.BelongingLemmas.{BelongsAt-below}
-use Rattle.segments.proofs.SegmentViewLemmas.{IsSegmentView-segment_of}
-use Rattle.quiet_cuts.specs.Groups.{reply_in, AreAlike, RangesSuffice}
 use Rattle.quiet_cuts.specs.TimeCuts.{InvocationsRise}
-use Rattle.search.proofs.LongestLemmas.{as_long_as}
-use Rattle.explain_engines.specs.Fronts.{is_taken, is_preceded, left_by, next_of}
-use Rattle.explain_engines.specs.Laws.{NoNextCallIsLegal}
 use Rattle.explain_engines.proofs.LongestLemmas.{no_front_is_longer}
 use Rattle.explain_engines.proofs.WholeLemmas.{whole_has_no_order, whole_front_goes_on}
 

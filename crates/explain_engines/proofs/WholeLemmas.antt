@@ -1,30 +1,17 @@
 -- The segment of all calls of a history that belong to one: its orders and its fronts, by numbers.
-use Rattle.std.proofs.Common.{◌≡◌, ℕ, ◌+◌, ◌<◌, true, List, [], ◌∷◌, ◌++◌, length, Option, Some, None, refl, sym, ap, ap₂, ◌∙◌, subst}
-use Rattle.std.proofs.Common.{arith}
-use Rattle.std.specs.Prelude.{IsTrue, IsSomeAnd, slice_get, slice_index, All, Contains}
-use Rattle.std.proofs.lemmas.Bool.{or_left}
-use Rattle.std.proofs.lemmas.List.{length-append}
-use Rattle.std.proofs.lemmas.List.Elements.{All-head, All-tail, All-contains, Contains-get_or}
-use Rattle.std.proofs.lemmas.Option.{same_Some, slice_get_within}
-use Rattle.events.specs.declared.operation.Operation.{Operation}
-use Rattle.events.specs.Keys.{may_change}
-use Rattle.events.specs.Precedence.{is_completed, belongs, precedes}
-use Rattle.list_laws.proofs.FilterLemmas.{Contains-map}
-use Rattle.list_laws.proofs.Lists.{All-from_contains, Contains-at}
-use Rattle.map_object.specs.MapObject.{Contents, within}
-use Rattle.orders.specs.Orders.{after_call, after_calls, calls_at, IsLegalCall, IsLegalOrder, IsCompletedAt, IsOrder, IsLinearizable}
-use Rattle.orders.proofs.PlaceLemmas.{at_places, place_of, slice_get-at_place, calls_at-at_places, IsLegalOrder-numbers}
-use Rattle.orders.proofs.PlaceLemmas.{IsCompletedAt-place, Contains-place}
+use Rattle.explain_engines.proofs.Common.{◌≡◌, ℕ, ◌+◌, ◌<◌, true, List, [], ◌∷◌, ◌++◌, length, Option, Some, None, refl, sym, ap, ap₂, ◌∙◌, subst}
+use Rattle.explain_engines.proofs.Common.{arith, IsTrue, IsSomeAnd, slice_get, slice_index, All, Contains, or_left, length-append, All-head, All-tail}
+use Rattle.explain_engines.proofs.Common.{All-contains, Contains-get_or, same_Some, slice_get_within, Operation, may_change, is_completed, belongs}
+use Rattle.explain_engines.proofs.Common.{precedes, Contains-map, All-from_contains, Contains-at, Contents, within, after_call, after_calls, calls_at}
+use Rattle.explain_engines.proofs.Common.{IsLegalCall, IsLegalOrder, IsCompletedAt, IsOrder, IsLinearizable, at_places, place_of, slice_get-at_place}
+use Rattle.explain_engines.proofs.Common.{calls_at-at_places, IsLegalOrder-numbers, IsCompletedAt-place, Contains-place, SegmentView, NamesKeysWithin}
+use Rattle.explain_engines.proofs.Common.{IsSegmentView, BelongsAt-below, All-calls_at, RangesSuffice}
 use Rattle.configurations.specs.Fronts.{PrecedesAt, IsFront}
 use Rattle.configurations.proofs.FrontLemmas.{IsFront-push}
 use Rattle.segments.specs.Cuts.{BelongsAt}
 use Rattle.segments.specs.SegmentOrders.{HasNoOrder}
-use Rattle.segments.specs.SegmentView.{SegmentView, NamesKeysWithin, IsSegmentView}
 use Rattle.segments.specs.WholeSegments.{IsWholeSegment}
-use Rattle.segments.proofs.BelongingLemmas.{BelongsAt-below}
 use Rattle.segments.proofs.RangeLemmas.{IsInside, within-after_call, IsLegalCall-within}
-use Rattle.segments.proofs.SegmentViewLemmas.{All-calls_at}
-use Rattle.quiet_cuts.specs.Groups.{RangesSuffice}
 
 -- a completed call belongs to a segment
 pub completed_belongs : (o : Option Operation) → IsSomeAnd o (λ a. IsTrue (is_completed a)) → IsSomeAnd o (λ a. IsTrue (belongs a))
@@ -57,7 +44,7 @@ module _ (start : Contents) (calls : List Operation) (s : SegmentView) (whole : 
       ∙ ap₂ (λ lo hi. within lo hi start) (ap (λ (v : SegmentView). v.lo) (sym whole.view))
       (ap (λ (v : SegmentView). v.hi) (sym whole.view))
 
-  -- where all calls have no order, it has none
+  -- if all calls have no order, it has none
   pub whole_has_no_order : RangesSuffice → (IsLinearizable start calls → ⊥) → HasNoOrder s
   whole_has_no_order suffice refuted (places, h) =
       let order : IsOrder start s.calls places =
@@ -75,7 +62,8 @@ module _ (start : Contents) (calls : List Operation) (s : SegmentView) (whole : 
         },
       )
 
-  -- a front of it goes on with a call that belongs, is not taken, and that no call left precedes, where it is legal behind the front
+  -- a front of it goes on with a call that belongs, is not taken, and that no call left precedes,
+  -- where it is legal after the front
   pub whole_front_goes_on : (places : List ℕ) → IsFront s.start s.calls places → (n : ℕ) (a : Operation) → slice_get calls n ≡ Some a
       → belongs a ≡ true → (Contains (at_places s.numbers places) n → ⊥)
       → ((k : ℕ) → BelongsAt calls k → PrecedesAt calls k n → Contains (at_places s.numbers places) k)

@@ -200,8 +200,8 @@ fn evidence_lines(
     }
 }
 
-/// Returns the lines of a few calls of a part that goes wrong on its own: first the values of their
-/// keys from which they begin, then the lines of the calls.
+/// Returns the lines of a few calls of a part that goes wrong on its own. The first lines give the
+/// values of their keys from which they begin, and the others the calls.
 fn part_lines(
     alloc: Global,
     history: &History,

@@ -1,37 +1,32 @@
--- Two maps that agree but for values that some calls do not tell: what each call makes of them.
+-- Two maps that agree except for values that some calls do not report: what each call makes of
+-- them.
 use Rattle.events.specs.declared.event.Reply.TheVariants as replies
-use Rattle.std.proofs.Common.{◌≡◌, ℕ, ◌≤◌, Bool, true, false, nat_le, cond, ◌&&◌, ◌++◌, Option, Some, None, refl, sym, ap, ◌∙◌, subst, inl, inr}
-use Rattle.std.proofs.Common.{⊎_elim, arith}
-use Rattle.std.specs.Prelude.{◌⊎◌, ◌≢◌, ◌==◌, ◌||◌, not, is_some, if◌then◌else◌}
-use Rattle.std.proofs.lemmas.Bool.{both_ways, and_from, and_parts, le-leb, eq-eqb, false≢true, not-false, not-true}
+use Rattle.explaining.proofs.Common.{◌≡◌, ℕ, ◌≤◌, Bool, true, false, nat_le, cond, ◌&&◌, ◌++◌, Option, Some, None, refl, sym, ap, ◌∙◌, subst, inl}
+use Rattle.explaining.proofs.Common.{inr, ⊎_elim, arith, ◌⊎◌, ◌≢◌, ◌==◌, ◌||◌, not, is_some, if◌then◌else◌, both_ways, and_from, and_parts, le-leb}
+use Rattle.explaining.proofs.Common.{eq-eqb, false≢true, not-false, not-true, Operation, Response, low_key, high_key, may_change, Contents, IsRising}
+use Rattle.explaining.proofs.Common.{value_at, below, above, put, is_just, value_reply, reply_to, after, after_reply, is_value, is_none_or_other}
+use Rattle.explaining.proofs.Common.{misses, TellsOf, IsLegalReply, after_call, IsLegalCall, IsOut, in_or_out, same_within, value_left, names_key}
+use Rattle.explaining.proofs.Common.{is_same, waits_for, depends_on, tells, put_by, put_of, is_sure}
 use Rattle.events.specs.declared.event.Call.{Call}
 use Rattle.events.specs.declared.event.Call.TheVariants.{Get, Insert, Remove, Scan, Replace}
 use Rattle.events.specs.declared.event.Reply.{Reply}
-use Rattle.events.specs.declared.operation.Operation.{Operation}
-use Rattle.events.specs.declared.operation.Response.{Response}
-use Rattle.events.specs.Keys.{low_key, high_key, may_change}
 use Rattle.events.specs.PlainHistories.{is_replace}
 use Rattle.events.specs.Told.{is_told}
-use Rattle.map_object.specs.MapObject.{Contents, IsRising, value_at, below, above, put, is_just, value_reply, reply_to, after, after_reply, is_value}
-use Rattle.map_object.specs.MapObject.{is_none_or_other, misses, TellsOf, IsLegalReply}
 use Rattle.map_object.proofs.MapLemmas.{AreBelow-below, AreAbove-above, value_at_found, value_at_gap}
-use Rattle.orders.specs.Orders.{after_call, IsLegalCall}
 use Rattle.map_object.proofs.TellLemmas.{after_reply-answer, tells_answers, whole_from_tells}
 use Rattle.segments.proofs.RangeLemmas.{value_at-within}
-use Rattle.quiet_cuts.proofs.ValueLemmas.{IsOut, in_or_out, same_within, value_left}
 use Rattle.quiet_cuts.specs.Replies.{says_unchanged}
 use Rattle.quiet_cuts.proofs.ReplyLemmas.{unchanged}
-use Rattle.explaining.specs.Tells.{names_key, is_same, waits_for, depends_on, tells, put_by, put_of, is_sure}
 
 -- two maps have the same value at each key, or one that is hidden
 abbrev pub Agree : (ℕ → Option ℕ → Type 0) → Contents → Contents → Type 0
 Agree Hidden m n = (key : ℕ) → (value_at m key ≡ value_at n key) ⊎ Hidden key (value_at m key)
 
--- a call tells no value that is hidden, nor waits for one
+-- a call reports no value that is hidden, and waits for none
 abbrev pub IsBlind : (ℕ → Option ℕ → Type 0) → Operation → Type 0
 IsBlind Hidden b = (key : ℕ) (value : Option ℕ) → Hidden key value → tells b key value ≡ false
 
--- they have the same values at the keys of a call
+-- two maps have the same values at the keys of a call
 abbrev AgreeOn : Call → Contents → Contents → Type 0
 AgreeOn call m n = (key : ℕ) → low_key call ≤ key → key ≤ high_key call → value_at m key ≡ value_at n key
 
@@ -88,7 +83,7 @@ agree_both Hidden m n call agree same = agree_set Hidden m n call agree (same_he
 
 -- ---- a call that is no replace
 
--- it makes the same of whatever it finds
+-- a call that is no replace makes the same of whatever it finds
 whole_agree : (Hidden : ℕ → Option ℕ → Type 0) (m n : Contents) (call : Call) → is_replace call ≡ false → Agree Hidden m n
     → Agree Hidden (after m call) (after n call)
 whole_agree Hidden m n (Get at) plain agree = agree
@@ -102,7 +97,7 @@ whole_agree Hidden m n (Remove at) plain agree =
     (removed_value m at ∙ sym (removed_value n at)))
 whole_agree Hidden m n (Replace at expected value) plain agree = absurd (false≢true (sym plain))
 
--- where it may change the map, it leaves the same value at its key
+-- if it may change the map, it leaves the same value at its key
 whole_same : (m n : Contents) (call : Call) → is_replace call ≡ false → may_change call ≡ true
     → value_at (after m call) (low_key call) ≡ value_at (after n call) (low_key call)
 whole_same m n (Get at) plain changes = absurd (false≢true changes)
@@ -121,7 +116,7 @@ told_reply : (call : Call) (value : Option ℕ) (key : ℕ) → depends_on call 
 told_reply call None key = refl
 told_reply call (Some value) key = eq-eqb value value refl
 
--- what a map answers tells its values
+-- what a map answers reports its values
 whole_value : (m : Contents) (call : Call) (key : ℕ) → low_key call ≤ key → key ≤ high_key call
     → depends_on call (reply_to m call) key (value_at m key) ≡ true
 whole_value m (Get at) key low high =
@@ -142,7 +137,7 @@ whole_value m (Replace at expected value) key low high =
     subst (λ k. depends_on (Replace at expected value) (value_reply (value_at m at)) key (value_at m k) ≡ true) here
     (told_reply (Replace at expected value) (value_at m at) key)
 
--- that a call found a value tells it of each value
+-- the answer that a call found a value depends on whether there is one
 found_some : (o : Option ℕ) → is_value (value_reply o) ≡ true → is_some o ≡ true
 found_some None found = found
 found_some (Some value) found = refl
@@ -161,7 +156,7 @@ found_value m (Remove at) key low high found =
 found_value m (Scan lo hi) key low high found = absurd (false≢true found)
 found_value m (Replace at expected value) key low high found = refl
 
--- and that a replace found another value tells it of each but the one that it expects
+-- the answer that a replace found another value depends on each value but the one that it expects
 other_not : (expected : ℕ) (o : Option ℕ) → is_none_or_other expected (value_reply o) ≡ true → not (is_just o expected) ≡ true
 other_not expected None other = refl
 other_not expected (Some value) other = other
@@ -176,7 +171,7 @@ other_value m (Replace at expected value) key low high other =
     let here : at ≡ key = omega arith in
     subst (λ k. not (is_just (value_at m k) expected) ≡ true) here (other_not expected (value_at m at) other)
 
--- whether only is told that a call was done which makes the same of whatever it finds
+-- whether the answer says only that a call was done, which makes the same of whatever it finds
 abbrev pub is_blank : Call → Reply → Bool
 is_blank call replies.None = false
 is_blank call (replies.Some value) = false
@@ -195,7 +190,7 @@ blank_done call replies.Done blank = (refl, not-true (is_replace call) blank)
 blank_done call replies.Found blank = absurd (false≢true blank)
 blank_done call replies.Other blank = absurd (false≢true blank)
 
--- each other answer depends on the values that it tells of
+-- each other answer depends on the values that it reports
 pub told_value : (m : Contents) (call : Call) (reply : Reply) (key : ℕ) → low_key call ≤ key → key ≤ high_key call
     → is_blank call reply ≡ false → TellsOf call (reply_to m call) reply → depends_on call reply key (value_at m key) ≡ true
 told_value m call replies.None key low high sees tells =
@@ -214,7 +209,7 @@ named : (call : Call) (key : ℕ) → low_key call ≤ key → key ≤ high_key 
 named call key low high = and_from (nat_le (low_key call) key) (nat_le key (high_key call)) (le-leb (low_key call) key low)
     (le-leb key (high_key call) high)
 
--- maps agree on the keys of a call that tells the values of the one
+-- maps agree on the keys of a call that reports the values of one of them
 agree_on : (Hidden : ℕ → Option ℕ → Type 0) (m n : Contents) (call : Call) (inv res : ℕ) (reply : Reply)
     → IsBlind Hidden (record { call = call; inv = inv; response = Some (record { res = res; reply = reply }) })
     → is_blank call reply ≡ false → TellsOf call (reply_to m call) reply → Agree Hidden m n → AgreeOn call m n
@@ -225,7 +220,7 @@ agree_on Hidden m n call inv res reply blind sees is agree key low high = ⊎_el
     (told_value m call reply key low high sees is))))
     (agree key)
 
--- and gives the same reply there
+-- maps that agree on the keys of a call give it the same reply
 same_reply : (m n : Contents) (call : Call) → IsRising m → IsRising n → AgreeOn call m n → reply_to m call ≡ reply_to n call
 same_reply m n (Get key) m_rises n_rises same = ap value_reply (same key (omega arith) (omega arith))
 same_reply m n (Insert key value) m_rises n_rises same = ap value_reply (same key (omega arith) (omega arith))
@@ -275,18 +270,18 @@ refused_says (Insert key value) = refl
 refused_says (Remove key) = refl
 refused_says (Replace key expected value) = refl
 
--- and was not refused
+-- a call that puts something was not refused
 put_answered : (call : Call) (reply : Reply) (res : ℕ) → is_some (put_of call (Some (record { res = res; reply = reply }))) ≡ true
     → reply ≢ replies.Refused
 put_answered call reply res puts refused =
     false≢true (sym (put_says call reply res puts) ∙ (ap (says_unchanged call) refused ∙ refused_says call))
 
--- and one that surely did so was answered
+-- a call that surely put something was answered
 pub sure_answered : (call : Call) (response : Option Response) → is_sure call response ≡ true → is_some response ≡ true
 sure_answered call None sure = sure
 sure_answered call (Some response) sure = refl
 
--- maps that agree on its keys have the same value at its key
+-- maps that agree on the keys of a call have the same value at its key
 at_key : (m n : Contents) (call : Call) → may_change call ≡ true → AgreeOn call m n → value_at m (low_key call) ≡ value_at n (low_key call)
 at_key m n (Get key) h same = absurd (false≢true h)
 at_key m n (Insert key value) h same = same key (omega arith) (omega arith)
@@ -371,7 +366,7 @@ after_either m call (Some response) = by_reply response.reply
     by_reply replies.Found = inr refl
     by_reply replies.Other = inr refl
 
--- it is done at the other map too, or left out there
+-- a pending call is done at the other map too, or left out there
 open_done : (Hidden : ℕ → Option ℕ → Type 0) (m n : Contents) (call : Call) (inv : ℕ)
     → IsBlind Hidden (record { call = call; inv = inv; response = None })
     → Agree Hidden m n → Agree Hidden (after m call) (after n call) ⊎ Agree Hidden (after m call) n

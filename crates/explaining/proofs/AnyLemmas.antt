@@ -1,11 +1,8 @@
 -- Tests that pass for none of a list, or for some.
-use Rattle.std.proofs.Common.{◌≡◌, Bool, true, false, List, [], ◌∷◌, refl, ap, ◌∙◌, subst, ⊎_elim}
-use Rattle.std.specs.Prelude.{◌||◌, Contains}
-use Rattle.std.specs.List.{list_any}
-use Rattle.std.proofs.lemmas.Bool.{false≢true, or_parts, or_left, or_right}
-use Rattle.list_laws.proofs.Lists.{Contains-nil, Contains-cases, Contains-first, Contains-later}
+use Rattle.explaining.proofs.Common.{◌≡◌, Bool, true, false, List, [], ◌∷◌, refl, ap, ◌∙◌, subst, ⊎_elim, ◌||◌, Contains, list_any, false≢true}
+use Rattle.explaining.proofs.Common.{or_parts, or_left, or_right, Contains-nil, Contains-cases, Contains-first, Contains-later}
 
--- where a test passes for none, it fails for each
+-- if a test passes for none, it fails for each
 pub none_of : {X : Type 0} (test : X → Bool) (xs : List X) (x : X) → list_any test xs ≡ false → Contains xs x → test x ≡ false
 none_of test [] x h is = absurd (Contains-nil x is)
 none_of test (y ∷ xs) x h is =

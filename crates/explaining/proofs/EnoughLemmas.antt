@@ -1,20 +1,10 @@
 -- Calls that are enough.
-use Rattle.std.proofs.Common.{◌≡◌, ℕ, ◌<◌, ◌≤◌, Bool, true, false, cond, List, [], ◌∷◌, length, refl, sym, ap, ◌∙◌, subst}
-use Rattle.std.proofs.Common.{⊎_elim, arith}
-use Rattle.std.specs.Prelude.{◌==◌, not, filter, Contains}
-use Rattle.std.proofs.lemmas.Bool.{false≢true, eq-eqb}
-use Rattle.std.proofs.lemmas.List.{length-map}
-use Rattle.list_laws.proofs.Lists.{Contains-nil, Contains-cases}
-use Rattle.events.specs.declared.operation.Operation.{Operation}
-use Rattle.events.specs.Precedence.{NonePrecedesItself}
-use Rattle.map_object.specs.MapObject.{Contents}
-use Rattle.orders.specs.Orders.{IsLinearizable}
-use Rattle.quiet_cuts.specs.TimeCuts.{InvocationsRise}
-use Rattle.explaining.specs.Rest.{rest_of, are_held}
-use Rattle.explaining.specs.Explained.{IsRest, others_than}
+use Rattle.explaining.proofs.Common.{◌≡◌, ℕ, ◌<◌, ◌≤◌, Bool, true, false, cond, List, [], ◌∷◌, length, refl, sym, ap, ◌∙◌, subst, ⊎_elim, arith, ◌==◌}
+use Rattle.explaining.proofs.Common.{not, filter, Contains, false≢true, eq-eqb, length-map, Contains-nil, Contains-cases, Operation}
+use Rattle.explaining.proofs.Common.{NonePrecedesItself, Contents, IsLinearizable, InvocationsRise, rest_of, are_held, IsRest, others_than}
 use Rattle.explaining.proofs.RestLemmas.{rest_rises, rest_apart, rest_relaxed, rest_few}
 
--- those that are left without order are
+-- calls that are left and have no order are enough
 pub rest_enough : (start : Contents) (calls : List Operation) (places : List ℕ) (rest : List Operation) → InvocationsRise calls
     → NonePrecedesItself calls → are_held places calls ≡ false → rest ≡ rest_of places calls → (IsLinearizable start rest → ⊥)
     → IsRest start calls places rest
@@ -29,7 +19,7 @@ rest_enough start calls places rest rise apart free is none =
       fewer = rest_few places calls rise;
     })
 
--- ---- the places but for one are fewer
+-- ---- the places without one are fewer
 
 no_longer : {X : Type 0} (p : X → Bool) (xs : List X) → length (filter p xs) ≤ length xs
 no_longer p [] = omega arith

@@ -1,36 +1,24 @@
 -- An order of all calls is one of those that are left, where the others are taken out of it.
-use Rattle.std.proofs.Common.{◌≡◌, ℕ, ◌<◌, Bool, true, false, List, [], ◌∷◌, Option, Some, None, refl, sym, ap, ◌∙◌, subst, inl, inr}
-use Rattle.std.proofs.Common.{⊎_elim, arith}
-use Rattle.std.specs.Prelude.{◌≢◌, ◌⊎◌, ◌==◌, ◌&&◌, nat_lt, is_some, ⊤, All, AllPairs, Contains}
-use Rattle.std.specs.List.{list_any}
-use Rattle.std.proofs.lemmas.Bool.{false≢true, and_parts, and_from, eqb-true, eq-eqb, ltb-true}
-use Rattle.std.proofs.lemmas.List.Elements.{All-head, All-tail, All-contains}
+use Rattle.explaining.proofs.Common.{◌≡◌, ℕ, ◌<◌, Bool, true, false, List, [], ◌∷◌, Option, Some, None, refl, sym, ap, ◌∙◌, subst, inl, inr, ⊎_elim}
+use Rattle.explaining.proofs.Common.{arith, ◌≢◌, ◌⊎◌, ◌==◌, nat_lt, is_some, ⊤, All, AllPairs, Contains, list_any, false≢true, and_parts, and_from}
+use Rattle.explaining.proofs.Common.{eqb-true, eq-eqb, ltb-true, All-head, All-tail, All-contains, Operation, Response, is_before, is_completed}
+use Rattle.explaining.proofs.Common.{precedes, low_key, Contents, IsRising, value_at, after, after_call, after_calls, IsLegalCall, IsLegal}
+use Rattle.explaining.proofs.Common.{KeepsPrecedence, IsLinearizable, AllPairs-nil, AllPairs-head, AllPairs-tail, All-from_contains, Contains-first}
+use Rattle.explaining.proofs.Common.{Contains-later, Contains-cases, Contains-nil, InvocationsRise, same_call, set_from_linearizable}
+use Rattle.explaining.proofs.Common.{linearizable_from_set, rising_kept, opened, says_put, put_of, is_sure, tells, tells_put_at, IsCallOf, IsLeftOut}
+use Rattle.explaining.proofs.Common.{IsRelaxed}
+use Rattle.std.specs.Prelude.{◌&&◌}
 use Rattle.std.proofs.lemmas.List.Kept.{AllPairs-cons}
-use Rattle.events.specs.declared.operation.Operation.{Operation}
-use Rattle.events.specs.declared.operation.Response.{Response}
-use Rattle.events.specs.Precedence.{is_before, is_completed, precedes}
-use Rattle.events.specs.Keys.{low_key}
-use Rattle.map_object.specs.MapObject.{Contents, IsRising, value_at, after}
-use Rattle.orders.specs.Orders.{after_call, after_calls, IsLegalCall, IsLegal, KeepsPrecedence, IsLinearizable}
-use Rattle.list_laws.proofs.Lists.{AllPairs-nil, AllPairs-head, AllPairs-tail, All-from_contains, Contains-first, Contains-later}
-use Rattle.list_laws.proofs.Lists.{Contains-cases, Contains-nil}
-use Rattle.quiet_cuts.specs.TimeCuts.{InvocationsRise}
-use Rattle.quiet_cuts.proofs.SetLemmas.{same_call, set_from_linearizable, linearizable_from_set}
-use Rattle.quiet_cuts.proofs.ValueLemmas.{rising_kept}
-use Rattle.explaining.specs.Rest.{opened}
-use Rattle.explaining.specs.Overwriting.{says_put}
-use Rattle.explaining.specs.Tells.{put_of, is_sure, tells, tells_put_at}
-use Rattle.explaining.specs.Relaxed.{IsCallOf, IsLeftOut, IsRelaxed}
 use Rattle.explaining.proofs.AnyLemmas.{any_of, found_any}
 use Rattle.explaining.proofs.AgreeLemmas.{Agree, IsBlind, IsAfter, IsStep, sure_answered, stays_step, open_step, gone_step}
 
 -- ---- a call and what is left of it
 
--- it was invoked at the same place
+-- what is left of a call was invoked at the same place
 pub same_place : (a b : Operation) → IsCallOf a b → b.inv ≡ a.inv
 same_place a b is = ⊎_elim (λ same. ap (λ (o : Operation). o.inv) same) (λ bare. ap (λ (o : Operation). o.inv) bare) is
 
--- and precedes no more calls
+-- its copy precedes no more calls
 pub fewer_precede : (a b c d : Operation) → IsCallOf a c → IsCallOf b d → precedes b a ≡ false → precedes d c ≡ false
 fewer_precede a b c d first second none = ⊎_elim
     (λ same. subst (λ (o : Operation). precedes o c ≡ false) (sym same)
@@ -43,20 +31,20 @@ with_answer : (a b : Operation) → IsCallOf a b → is_completed b ≡ true →
 with_answer a b is completed = ⊎_elim (λ same. same)
     (λ bare. absurd (false≢true (subst (λ (o : Operation). is_completed o ≡ true) bare completed))) is
 
--- ---- values that are overwritten before a call that is left tells them
+-- ---- values that are overwritten before a call that is left reports them
 
 -- whether a call is left, and says that it put something at a key
 abbrev is_over : List Operation → Operation → ℕ → Bool
 is_over others x key = list_any (λ (b : Operation). b.inv == x.inv) others && (says_put x && (low_key x.call == key))
 
--- of the calls of an order none that is left tells a value at a key, until one is over there
+-- no call of an order that is left reports a value at a key, until one overwrites it there
 abbrev IsHidden : List Operation → List Operation → ℕ → Option ℕ → Type 0
 IsHidden others [] key value = ⊤
 IsHidden others (x ∷ order) key value =
     ((b : Operation) → Contains others b → IsCallOf x b → tells b key value ≡ false)
     × ((is_over others x key ≡ true) ⊎ IsHidden others order key value)
 
--- maps that agree until a call, and have the same values where it is over, agree behind it
+-- maps that agree until a call, and have the same values where it is over, agree after it
 passed : (others : List Operation) (x : Operation) (order : List Operation) (m n : Contents) → Agree (IsHidden others (x ∷ order)) m n
     → ((key : ℕ) → is_over others x key ≡ true → value_at m key ≡ value_at n key) → Agree (IsHidden others order) m n
 passed others x order m n agree same key = ⊎_elim
@@ -64,12 +52,12 @@ passed others x order m n agree same key = ⊎_elim
     (λ hidden. ⊎_elim (λ over. inl (same key over)) (λ later. inr later) hidden.1)
     (agree key)
 
--- the first call of an order tells no value that is hidden
+-- the first call of an order reports no value that is hidden
 blind : (others : List Operation) (x : Operation) (order : List Operation) (b : Operation) → Contains others b → IsCallOf x b
     → IsBlind (IsHidden others (x ∷ order)) b
 blind others x order b here is key value hidden = hidden.0 b here is
 
--- a call that tells a value, and one between that is over at the key
+-- a call that reports a value, and one between that overwrites it at the key
 record IsCovered (others rest : List Operation) (key : ℕ) (x : Operation) : Type 0 where
   by : Operation
   among : Contains rest by
@@ -164,7 +152,7 @@ module _ (calls others : List Operation) (others_rise : InvocationsRise others) 
           (Contains-cases a order d d_is);
     }
 
-    -- or it is not: no completed one is left of it
+    -- no completed call is left of the next call, so it is passed
     skipped : (n : Contents) (new : List Operation) → ((c : Operation) → Contains others c → is_completed c ≡ true → c.inv ≡ a.inv → ⊥)
         → IsThinned n order new → IsThinned n (a ∷ order) new
     skipped n new none rest = record {
@@ -178,7 +166,7 @@ module _ (calls others : List Operation) (others_rise : InvocationsRise others) 
           (Contains-cases a order d d_is);
     }
 
-  -- where what is left of a call has no answer, no other is left of it
+  -- if what is left of a call has no answer, no other is left of it
   open_alone : (a b : Operation) → Contains others b → b ≡ opened a → (c : Operation) → Contains others c → is_completed c ≡ true
       → c.inv ≡ a.inv → ⊥
   open_alone a b here bare c c_is completed same =
@@ -204,7 +192,7 @@ module _ (calls others : List Operation) (others_rise : InvocationsRise others) 
     next_rises : IsRising next
     next_rises = rising_kept m a m_rises
 
-    -- the maps after the call agree behind it
+    -- the maps after the call agree after it
     follows : (other : Contents) → IsAfter (IsHidden others (a ∷ order)) a.call a.response next other
         → Agree (IsHidden others order) next other
     follows other step = passed others a order next other step.agree (λ key over.
@@ -257,7 +245,7 @@ module _ (calls others : List Operation) (others_rise : InvocationsRise others) 
         (and_parts (list_any (λ (b : Operation). b.inv == a.inv) others) (says_put a && (low_key a.call == key)) over).0 in
         gone.absent found.0 found.1 (eqb-true found.0.inv a.inv found.2)
 
-    -- and what it puts is hidden behind it
+    -- what a call that is left out puts is hidden after it
     gone_covered : IsLeftOut calls others a → (value : Option ℕ) → put_of a.call a.response ≡ Some value
         → AreCovered others order (low_key a.call) value
     gone_covered gone value put x b x_is here is told = ⊎_elim

@@ -1,27 +1,16 @@
 -- What is left of calls where some go.
-use Rattle.std.proofs.Common.{◌≡◌, ℕ, ◌<◌, ◌≤◌, Bool, true, false, List, length, map, Option, Some, None, refl, sym, ap, ◌∙◌}
-use Rattle.std.proofs.Common.{subst, inl, inr, ⊎_elim, arith}
-use Rattle.std.specs.Prelude.{◌≢◌, ◌⊎◌, ◌&&◌, not, is_some, if◌then◌else◌, All, AllPairs, Contains}
-use Rattle.std.specs.List.{list_any}
-use Rattle.std.proofs.lemmas.Bool.{false≢true, or_parts, and_parts, and_from, not_from_false}
+use Rattle.explaining.proofs.Common.{◌≡◌, ℕ, ◌<◌, ◌≤◌, Bool, true, false, List, length, map, Option, Some, None, refl, sym, ap, ◌∙◌, subst, inl, inr}
+use Rattle.explaining.proofs.Common.{⊎_elim, arith, ◌≢◌, ◌⊎◌, not, is_some, if◌then◌else◌, All, AllPairs, Contains, list_any, false≢true, or_parts}
+use Rattle.explaining.proofs.Common.{and_parts, and_from, not_from_false, length-map, All-contains, Operation, low_key, may_change, is_completed}
+use Rattle.explaining.proofs.Common.{belongs, precedes, NonePrecedesItself, has_number, All-from_contains, length-distinct, Contains-filter}
+use Rattle.explaining.proofs.Common.{Contains-from_filter, InvocationsRise, same_call, put_of, is_sure, tells_put, tells_put_at, says_put, is_between}
+use Rattle.explaining.proofs.Common.{opened, gone_of, puts_of, is_overwritten, may_tell, is_touched, is_held, if_belongs, left_of, rest_of, are_held}
+use Rattle.explaining.proofs.Common.{IsCallOf, IsOverwritten, IsLeftOut, IsRelaxed}
+use Rattle.std.specs.Prelude.{◌&&◌}
 use Rattle.std.proofs.lemmas.Option.{none-some, same_Some}
-use Rattle.std.proofs.lemmas.List.{length-map}
-use Rattle.std.proofs.lemmas.List.Elements.{All-contains}
-use Rattle.events.specs.declared.operation.Operation.{Operation}
-use Rattle.events.specs.Keys.{low_key, may_change}
-use Rattle.events.specs.Precedence.{is_completed, belongs, precedes, NonePrecedesItself}
-use Rattle.list_laws.specs.Lists.{has_number}
-use Rattle.list_laws.proofs.Lists.{All-from_contains, length-distinct, Contains-filter, Contains-from_filter}
 use Rattle.list_laws.proofs.NumberLemmas.{has_number-Contains}
 use Rattle.list_laws.proofs.FilterLemmas.{AreRelatedAs, AllPairs-filter_map, AllPairs-weaker, AllPairs-map, Contains-filter_map}
 use Rattle.list_laws.proofs.FilterLemmas.{Contains-from_filter_map, Contains-from_map}
-use Rattle.quiet_cuts.specs.TimeCuts.{InvocationsRise}
-use Rattle.quiet_cuts.proofs.SetLemmas.{same_call}
-use Rattle.explaining.specs.Tells.{put_of, is_sure, tells_put, tells_put_at}
-use Rattle.explaining.specs.Overwriting.{says_put, is_between}
-use Rattle.explaining.specs.Rest.{opened, gone_of, puts_of, is_overwritten, may_tell, is_touched, is_held, if_belongs, left_of, rest_of}
-use Rattle.explaining.specs.Rest.{are_held}
-use Rattle.explaining.specs.Relaxed.{IsCallOf, IsOverwritten, IsLeftOut, IsRelaxed}
 use Rattle.explaining.proofs.AnyLemmas.{none_of, any_of, found_any}
 use Rattle.explaining.proofs.AgreeLemmas.{put_none, put_changes}
 use Rattle.explaining.proofs.RelaxedLemmas.{same_place, fewer_precede}
@@ -55,7 +44,7 @@ module _ (places : List ℕ) (puts gone : List Operation) (a : Operation) where
       by_place true is = by_touch (is_touched puts gone a) is
       by_place false is = absurd (none-some b is)
 
-  -- without its answer, where it tells what one of those that go put, and only then
+  -- a call loses its answer if it reports what a call that is left out put, and only then
   left_touched : (b : Operation) → left_of places puts gone a ≡ Some b
       → ((is_touched puts gone a ≡ true) × (b ≡ opened a)) ⊎ ((is_touched puts gone a ≡ false) × (b ≡ a))
   left_touched b is = by_place (has_number places a.inv) is
@@ -70,7 +59,7 @@ module _ (places : List ℕ) (puts gone : List Operation) (a : Operation) where
       by_place true is = by_touch (is_touched puts gone a) refl is
       by_place false is = absurd (none-some b is)
 
-  -- where something is left of it, it stays
+  -- if something is left of it, it stays
   left_stays : (b : Operation) → left_of places puts gone a ≡ Some b → has_number places a.inv ≡ true
   left_stays b is = by_place (has_number places a.inv) refl is
     where
@@ -79,7 +68,7 @@ module _ (places : List ℕ) (puts gone : List Operation) (a : Operation) where
       by_place true e is = e
       by_place false e is = absurd (none-some b is)
 
-  -- where nothing is left of it, it goes, or changes nothing
+  -- if nothing is left of it, it goes, or changes nothing
   left_none : left_of places puts gone a ≡ None → (has_number places a.inv ≡ false) ⊎ (may_change a.call ≡ false)
   left_none is = by_place (has_number places a.inv) refl is
     where
@@ -123,7 +112,7 @@ module _ (places : List ℕ) (calls : List Operation) where
       let found = rest_from b is in
       fewer_precede found.0 found.0 b b found.3 found.3 (All-contains (λ a. precedes a a ≡ false) calls found.0 none found.1))
 
-  -- they are no more than the places
+  -- the calls that stay are no more than the places
   pub rest_few : InvocationsRise calls → length (rest_of places calls) ≤ length places
   rest_few rise =
       let rest = rest_of places calls in
@@ -171,7 +160,8 @@ module _ (places : List ℕ) (calls : List Operation) where
             (and_parts (is_some (put_of c.call c.response)) (is_sure c.call c.response) says).0))
             (left_none places puts gone c e))
 
-    -- where what is left of one tells what another put that goes, it precedes it, or that is overwritten before
+    -- If what is left of a call reports what a call that is left out put, it precedes that one, or
+    -- the put is overwritten before.
     untold : (a : Operation) → Contains calls a → has_number places a.inv ≡ false → (b left : Operation) → Contains calls b
         → Contains (rest_of places calls) left → IsCallOf b left → tells_put left a ≡ true
         → (precedes b a ≡ true) ⊎ IsOverwritten calls (rest_of places calls) a b
@@ -182,13 +172,13 @@ module _ (places : List ℕ) (calls : List Operation) where
         a_gone = Contains-filter (λ (o : Operation). not (has_number places o.inv)) calls a a_is
             (not_from_false (has_number places a.inv) goes)
 
-        -- it may tell it
+        -- a call that reports the put of another may report it
         may : precedes b a ≡ false → is_overwritten puts a b ≡ false → (o : Operation) → tells_put o a ≡ true → may_tell puts a b o ≡ true
         may before over o tells = and_from (not (precedes b a)) (tells_put o a && not (is_overwritten puts a b))
             (not_from_false (precedes b a) before)
             (and_from (tells_put o a) (not (is_overwritten puts a b)) tells (not_from_false (is_overwritten puts a b) over))
 
-        -- so it is touched, and held
+        -- otherwise the call would be held, and so not left
         never : precedes b a ≡ false → is_overwritten puts a b ≡ false → ⊥
         never before over = ⊎_elim
             (λ touched.

@@ -14,7 +14,8 @@ RelaxedCallsHaveOrders =
     → IsRelaxed calls others
     → IsLinearizable start calls → IsLinearizable start others
 
--- the calls that stay are left so, if none of them waits for what a call left out may put
+-- what is kept of the calls that stay is such a rest, if none of them waits for what a call left
+-- out may put
 abbrev pub RestsAreRelaxed : Type 0
 RestsAreRelaxed =
     (places : List ℕ) (calls : List Operation) → InvocationsRise calls → are_held places calls ≡ false

@@ -9,8 +9,8 @@ pub fn relaxed_calls_have_orders()
     ensures { RelaxedCallsHaveOrders }
 {}
 
-/// The calls that stay are left so, if none of them without an answer waits for what a call left
-/// out may put.
+/// What is kept of the calls that stay is such a rest, if no call without an answer among them
+/// waits for what a call left out may put.
 pub fn rests_are_relaxed()
     ensures { RestsAreRelaxed }
 {}

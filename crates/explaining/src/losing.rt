@@ -188,8 +188,8 @@ fn rest_where_shown(
 }
 
 /// Returns the places of the call that the last event answers, and of the calls that put something
-/// else at one of its keys before it began, the last ones first. Calls that put what it reports are
-/// not listed: without their answers they might come right before it.
+/// else at one of its keys before it began. The last ones come first. Calls that put what it
+/// reports are not listed: without their answers they might come right before it.
 fn missed_places(alloc: Global, calls: &[Operation], events: usize) -> Result<Vec<usize>, Memory> {
     let mut places = Vec::new(alloc);
     if let Some(wrong) = answered_by(calls, events) {

@@ -11,7 +11,7 @@ use crate::telling::{is_sure, puts, tells_put};
 use events::{Memory, Operation};
 use std::alloc::Global;
 
-/// Returns the rest of calls if those stay that were invoked at these places: copies of them,
+/// Returns what is left of calls if only those invoked at these places stay. They are copies,
 /// without the answers that depend on what one of the others may have put.
 pub(crate) fn rest_of(
     alloc: Global,

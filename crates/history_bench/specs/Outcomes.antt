@@ -15,7 +15,7 @@ IsHistoryLineOutcome (Check order) source outcome = IsCheckOutcome order.items s
 IsHistoryLineOutcome (Judge budget workers) source outcome = IsJudgeOutcome budget source outcome
 IsHistoryLineOutcome other source outcome = ⊥
 
--- a line that asks for neither `check` nor `judge`
+-- a line that asks for something other than `check` and `judge`
 abbrev pub IsElsewhere : Line → Type 0
 IsElsewhere (Check order) = ⊥
 IsElsewhere (Judge budget workers) = ⊥

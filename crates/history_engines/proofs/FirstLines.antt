@@ -19,7 +19,7 @@ first-all (byte ∷ bytes) none =
     longer byte bytes bytes (All-head (λ b. b ≢ line_feed) byte bytes none)
     (first-all bytes (All-tail (λ b. b ≢ line_feed) byte bytes none))
 
--- those before the first that does
+-- the first line is the bytes before the first line feed
 pub first-fed : (count : ℕ) (bytes : List ℕ) → count < length bytes → get_or bytes count 0 ≡ line_feed → HasNoLineFeed (take count bytes)
     → first_line bytes ≡ take count bytes
 first-fed count [] within here before = absurd (omega arith)

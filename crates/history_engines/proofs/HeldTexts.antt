@@ -15,7 +15,7 @@ module _ (Holds : HistoryView → Type 0) where
   pub held-whole : (text : List ℕ) → HoldsForText Holds (take (text_limit + 1) text) → HoldsForText Holds text
   held-whole text h = subst (HoldsForText Holds) (same_text text_limit text h.spelled.json.fits) h
 
-  -- of the text of a history, where an answer came of an Ok
+  -- What holds of a history holds of its text, if an answer came of an Ok.
   pub held-text : {T E : Type 0} (text : List ℕ) (history : HistoryView) (found : Result T E) (outcome : RunOutcome) → Spells text history
       → IsHistory history → OnOk found (Holds history) → OnAnswered outcome (IsOk found)
       → OnAnswered outcome (HoldsForText Holds text)

@@ -1,4 +1,5 @@
--- The text of a history that was read up to one byte more than a text may have tells all that is to be told of the whole.
+-- The first bytes of the text of a history, one more than a text may have, decide all that is to be
+-- known of the whole.
 use Rattle.std.proofs.Common.{◌≡◌, ℕ, ◌+◌, ◌<◌, ◌≤◌, List, length, take, Option, refl, ap, subst, arith, length-take}
 use Rattle.serde_json.specs.Data.{Data}
 use Rattle.events.specs.HistoryView.{HistoryView}
@@ -43,7 +44,7 @@ IsTextFault-whole text (faults.NotWellFormed place) h = whole text (faults.NotWe
 IsTextFault-whole text (faults.Start pair) h = whole text (faults.Start pair) h.1.fits h
 IsTextFault-whole text faults.Memory h = tt
 
--- what stands at the place of a fault of the text read stands there in the whole
+-- what is at the place of a fault of the text read is there in the whole
 found-whole : (text : List ℕ) (fault : HistoryFault) → IsTextFault (take (text_limit + 1) text) fault
     → found_in (take (text_limit + 1) text) fault ≡ found_in text fault
 found-whole text faults.TooLong h = refl

@@ -1,17 +1,10 @@
 -- What a JSON value is, from what was found in it.
 use Rattle.events.specs.declared.event.Reply.TheVariants as replies
-use Rattle.std.proofs.Common.{◌≡◌, ℕ, zero, suc, ◌<◌, ◌≤◌, List, [], ◌∷◌, length, Option, Some, None, option_and_then}
-use Rattle.std.proofs.Common.{map, codes, get_or, is_some, IfNone, refl, sym, ap, ◌∙◌, arith}
-use Rattle.std.proofs.lemmas.List.{length-map}
-use Rattle.serde_json.specs.Data.{unsigned, negative, float, Data, null, boolean, number, string, array, object, Items, Members}
+use Rattle.history_text.proofs.Common.{◌≡◌, ℕ, zero, suc, ◌<◌, ◌≤◌, List, [], ◌∷◌, length, Option, Some, None, option_and_then, map, codes, get_or}
+use Rattle.history_text.proofs.Common.{is_some, IfNone, refl, sym, ap, ◌∙◌, arith, length-map, unsigned, negative, float, Data, null, boolean, number}
+use Rattle.history_text.proofs.Common.{string, array, object, Items, Members, view, items_of, items_view, Value, Call, Get, Insert, Remove, Scan}
+use Rattle.history_text.proofs.Common.{Replace, Reply, number_data, list_data, pair_data, call_data, reply_data, object_of_two}
 use Rattle.serde_json.specs.Find.{as_number, as_array, as_object, as_u64}
-use Rattle.serde_json.specs.View.{view, items_of, items_view}
-use Rattle.serde_json.specs.declared.value.Value.{Value}
-use Rattle.events.specs.declared.event.Call.{Call}
-use Rattle.events.specs.declared.event.Call.TheVariants.{Get, Insert, Remove, Scan, Replace}
-use Rattle.events.specs.declared.event.Reply.{Reply}
-use Rattle.history_text.specs.Texts.{number_data, list_data, pair_data, call_data, reply_data}
-use Rattle.history_text.specs.ValueFaults.{object_of_two}
 
 -- a value whose members were found is an object with these
 pub object_found : (d : Data) (ms : Members) → Some ms ≡ as_object d → d ≡ object ms
@@ -51,7 +44,7 @@ array_found (string s) ds h = cc
 array_found (array es) ds h = cc
 array_found (object ms) ds h = cc
 
--- the same, by the list of the items
+-- a value whose items were found, as a list, is an array of these
 pub list_found : (d : Data) (vs : List Value) → Some (items_view vs) ≡ as_array d → d ≡ list_data (map view vs)
 list_found d vs h = array_found d (items_view vs) h
 
@@ -109,7 +102,7 @@ four_items (a ∷ b ∷ e ∷ f ∷ g ∷ vs) x y z u len first second third fou
 -- ---- lists of values that are spelled one by one
 
 module _ {A B C : Type 0} (f : A → C) (g : B → C) where
-  -- where two lists have equal images, each element has the image of one of the other
+  -- if two lists have equal images, each element has the image of one of the other
   pub mapped_at : (xs : List A) (ys : List B) (i : ℕ) (d : A) → map f xs ≡ map g ys → i < length xs → (y : B) × (f (get_or xs i d) ≡ g y)
   mapped_at [] ys i d h within = absurd (omega arith)
   mapped_at (x ∷ xs) [] i d h within = cc

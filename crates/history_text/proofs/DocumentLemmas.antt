@@ -1,14 +1,7 @@
 -- A document has one start and one list of events, and a text spells one history only.
-use Rattle.history_text.specs.declared.version.TextVersion.TheVariants.{One, Two, Three}
-use Rattle.std.proofs.Common.{◌≡◌, ℕ, List, [], ◌∷◌, map, Option, Some, None, refl, sym, subst, ap, ap₂, ◌∙◌, arith}
-use Rattle.std.proofs.lemmas.Option.{same_Some}
-use Rattle.serde_json.specs.Data.{Data}
-use Rattle.events.specs.declared.event.Event.{Event}
-use Rattle.events.specs.HistoryView.{HistoryView}
-use Rattle.history_text.specs.declared.version.TextVersion.{TextVersion}
-use Rattle.history_text.specs.Versions.{version_number}
-use Rattle.history_text.specs.Texts.{pair_data, IsEventData, AreSpelled, SpellEvents, document, IsDocument, start_data, start_pairs, IsJson}
-use Rattle.history_text.specs.TextLaws.{SpellsOneHistory}
+use Rattle.history_text.proofs.Common.{One, Two, Three, ◌≡◌, ℕ, List, [], ◌∷◌, map, Option, Some, None, refl, sym, subst, ap, ap₂, ◌∙◌, arith}
+use Rattle.history_text.proofs.Common.{same_Some, Data, Event, HistoryView, TextVersion, version_number, pair_data, IsEventData, AreSpelled}
+use Rattle.history_text.proofs.Common.{SpellEvents, document, IsDocument, start_data, start_pairs, IsJson, SpellsOneHistory}
 use Rattle.history_text.proofs.DataLemmas.{list_data_injective}
 use Rattle.history_text.proofs.SplitLemmas.{one_list}
 use Rattle.history_text.proofs.TextLemmas.{pair_data_injective, pairs_injective, one_event}

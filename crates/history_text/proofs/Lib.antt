@@ -1,3 +1,4 @@
+mod Common
 pub mod DataLemmas
 pub mod DocumentLemmas
 pub mod EventLemmas

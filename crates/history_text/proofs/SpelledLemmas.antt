@@ -1,25 +1,15 @@
 -- Which history a text spells, by its value.
-use Rattle.history_text.specs.declared.version.TextVersion.TheVariants.{One, Two, Three}
-use Rattle.std.proofs.Common.{◌≡◌, ℕ, Bool, true, false, not, ◌&&◌, cond, List, [], ◌∷◌, map, Option, Some, None, Result, Ok, Err, IfOk}
-use Rattle.std.proofs.Common.{inl, refl, sym, ap, ◌∙◌}
-use Rattle.std.specs.Prelude.{IsTrue}
-use Rattle.std.specs.List.{list_all}
-use Rattle.std.proofs.lemmas.Bool.{and_parts}
-use Rattle.serde_json.specs.Data.{Data}
-use Rattle.events.specs.declared.event.Event.{Event}
-use Rattle.events.specs.declared.fault.HistoryFault.{HistoryFault}
-use Rattle.events.specs.HistoryView.{HistoryView}
-use Rattle.events.specs.declared.event.Event.TheVariants.{Invoke, Answer}
-use Rattle.events.specs.PlainHistories.{is_replace, is_plain_event, has_no_pairs, is_plain}
-use Rattle.events.specs.Told.{is_told, are_told}
-use Rattle.history_text.specs.declared.version.TextVersion.{TextVersion}
-use Rattle.history_text.specs.Versions.{has_start}
-use Rattle.history_text.specs.Texts.{event_data, SpellEvents, document, IsDocument, start_data, start_pairs, may_stand, least_version}
-use Rattle.history_text.specs.Texts.{written_start, history_data, IsJson, SpellsAs, Spells}
+use Rattle.history_text.proofs.Common.{One, Two, Three, ◌≡◌, ℕ, Bool, true, false, not, ◌&&◌, cond, List, [], ◌∷◌, map, Option, Some, None, Result}
+use Rattle.history_text.proofs.Common.{Ok, Err, inl, refl, sym, ap, ◌∙◌, IsTrue, list_all, and_parts, Data, Event, HistoryFault, HistoryView, Invoke}
+use Rattle.history_text.proofs.Common.{Answer, is_replace, is_plain_event, has_no_pairs, is_plain, is_told, are_told, TextVersion, has_start}
+use Rattle.history_text.proofs.Common.{event_data, SpellEvents, document, IsDocument, start_data, start_pairs, may_stand, least_version}
+use Rattle.history_text.proofs.Common.{written_start, history_data, IsJson, SpellsAs, Spells}
+use Rattle.std.proofs.Common.{IfOk}
 
 -- ---- the events of what is written
 
--- any event may stand in a text of version 3, one that tells all in one of version 2, and a plain one in one of version 1
+-- any event may be in a text of version 3, one with a complete answer in one of version 2, and a
+-- plain one in one of version 1
 any_stand : (events : List Event) → list_all (may_stand Three) events ≡ true
 any_stand [] = refl
 any_stand (Invoke p call ∷ events) = any_stand events
@@ -50,7 +40,8 @@ no_pairs (pair ∷ pairs) h = cc
 abbrev written_as : TextVersion → HistoryView → Data
 written_as version history = document version (written_start version history.start) (map event_data history.events)
 
--- it spells the history, where the history has a start in a version that has one, and its events may stand there
+-- the text spells the history, if the history has a start only in a version that has one, and its
+-- events may be there
 abbrev MayBe : TextVersion → HistoryView → Type 0
 MayBe version history = (has_start version ≡ false → history.start ≡ []) × IsTrue (list_all (may_stand version) history.events)
 

@@ -1,8 +1,5 @@
 -- Where a list of values that spell items one by one is split twice.
-use Rattle.std.proofs.Common.{◌≡◌, List, [], ◌∷◌, ◌++◌, length, inl, inr, subst, refl, sym, ap}
-use Rattle.std.specs.Prelude.{◌⊎◌}
-use Rattle.serde_json.specs.Data.{Data}
-use Rattle.history_text.specs.Texts.{AreSpelled}
+use Rattle.history_text.proofs.Common.{◌≡◌, List, [], ◌∷◌, ◌++◌, length, inl, inr, subst, refl, sym, ap, ◌⊎◌, Data, AreSpelled}
 
 -- the list goes on with an item that this value spells, and more
 pub record GoesOnWith {A : Type 0} (IsSpelled : Data → A → Type 0) (items before : List A) (d : Data) : Type 0 where
@@ -17,7 +14,7 @@ SplitsAlike IsSpelled before ahead next after = ((before ≡ ahead) × (next ≡
     ⊎ (GoesOnWith IsSpelled before ahead after ⊎ GoesOnWith IsSpelled ahead before next)
 
 module _ {A : Type 0} (IsSpelled : Data → A → Type 0) where
-  -- as many values as items
+  -- there are as many values as items
   pub same_length : (ds : List Data) (xs : List A) → AreSpelled IsSpelled ds xs → length ds ≡ length xs
   same_length [] [] h = refl
   same_length [] (x ∷ xs) h = absurd h
@@ -32,11 +29,11 @@ module _ {A : Type 0} (IsSpelled : Data → A → Type 0) where
   spelled_more (e ∷ ds) [] d x h last = absurd h
   spelled_more (e ∷ ds) (y ∷ xs) d x h last = (h.0, spelled_more ds xs d x h.1 last)
 
-  -- the same, with one item more in front
+  -- the values go on so with one item more at their front
   goes_on : (x : A) (items before : List A) (d : Data) → GoesOnWith IsSpelled items before d → GoesOnWith IsSpelled (x ∷ items) (x ∷ before) d
   goes_on x items before d h = record { item = h.item; more = h.more; parts = ap (λ (xs : List A). x ∷ xs) h.parts; spelled = h.spelled }
 
-  -- the same, with one item more in front
+  -- two splits are also two with one item more at the front
   splits_on : (x : A) (before ahead : List A) (next after : Data) → SplitsAlike IsSpelled before ahead next after
       → SplitsAlike IsSpelled (x ∷ before) (x ∷ ahead) next after
   splits_on x before ahead next after (inl h) = inl (ap (λ (xs : List A). x ∷ xs) h.0, h.1)

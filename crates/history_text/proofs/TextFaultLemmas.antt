@@ -1,30 +1,14 @@
 -- A text has one fault only, and with one it spells no history.
 use Rattle.events.specs.declared.fault.HistoryFault.TheVariants as faults
-use Rattle.std.proofs.Common.{◌≡◌, ◌≢◌, ℕ, ◌<◌, ◌≤◌, Bool, true, false, not, nat_le, cond, List, ◌∷◌, ◌++◌, length}
-use Rattle.std.proofs.Common.{map, Option, Some, None, IsUtf8, inl, inr}
-use Rattle.std.proofs.Common.{subst, refl, sym, ap, ◌∙◌, arith, ⊎_elim, leb-false, true≢false, Result, Ok, Err, IfErr}
-use Rattle.std.specs.Prelude.{◌⊎◌, IsTrue}
-use Rattle.std.specs.List.{list_all}
-use Rattle.std.proofs.lemmas.Bool.{and_parts}
-use Rattle.std.proofs.lemmas.List.Folds.{list_all-append}
-use Rattle.std.proofs.lemmas.Option.{same_Some, none-some}
-use Rattle.serde_json.specs.Data.{Data}
-use Rattle.serde_json.specs.Read.{read}
-use Rattle.events.specs.declared.event.Event.{Event}
-use Rattle.events.specs.declared.fault.HistoryFault.{HistoryFault}
-use Rattle.events.specs.HistoryView.{HistoryView}
-use Rattle.events.specs.Limits.{start_limit}
-use Rattle.events.specs.Starts.{IsStart}
-use Rattle.events.specs.Histories.{is_shaped, AreHistoryEvents, IsHistory}
-use Rattle.events.specs.HistoryFaults.{is_above, fault_after}
+use Rattle.history_text.proofs.Common.{◌≡◌, ◌≢◌, ℕ, ◌<◌, ◌≤◌, Bool, true, false, not, nat_le, cond, List, ◌∷◌, ◌++◌, length, map, Option, Some, None}
+use Rattle.history_text.proofs.Common.{IsUtf8, inl, inr, subst, refl, sym, ap, ◌∙◌, arith, ⊎_elim, leb-false, true≢false, Result, Ok, Err, IfErr, ◌⊎◌}
+use Rattle.history_text.proofs.Common.{IsTrue, list_all, and_parts, list_all-append, same_Some, none-some, Data, read, Event, HistoryFault}
+use Rattle.history_text.proofs.Common.{HistoryView, start_limit, IsStart, is_shaped, AreHistoryEvents, IsHistory, is_above, fault_after, TextVersion}
+use Rattle.history_text.proofs.Common.{pair_data, IsEventData, AreSpelled, SpellEvents, document, IsDocument, start_data, start_pairs, may_stand}
+use Rattle.history_text.proofs.Common.{IsJson, SpellsAs, Spells, IsPairFaultAfter, ShowsPairFault, SpellsNoEvent, IsFaultAfter, AreEventsOfText}
+use Rattle.history_text.proofs.Common.{ShowsEventFault, IsDocumentFault, IsTextFault, ShowsFaultAmong, IsFaultAmong, HasOneFault}
+use Rattle.history_text.proofs.Common.{FaultySpellsNoHistory}
 use Rattle.history_text.specs.Limits.{text_limit}
-use Rattle.history_text.specs.declared.version.TextVersion.{TextVersion}
-use Rattle.history_text.specs.Texts.{pair_data, IsEventData, AreSpelled, SpellEvents, document, IsDocument, start_data, start_pairs}
-use Rattle.history_text.specs.Texts.{may_stand, IsJson, SpellsAs, Spells}
-use Rattle.history_text.specs.TextFaults.{IsPairFaultAfter, ShowsPairFault, SpellsNoEvent, IsFaultAfter, AreEventsOfText, ShowsEventFault}
-use Rattle.history_text.specs.TextFaults.{IsDocumentFault, IsTextFault}
-use Rattle.history_text.specs.ValueFaults.{ShowsFaultAmong, IsFaultAmong}
-use Rattle.history_text.specs.TextLaws.{HasOneFault, FaultySpellsNoHistory}
 use Rattle.events.proofs.HistoryLemmas.{AreHistoryEvents-next}
 use Rattle.events.proofs.StartLemmas.{IsStart-next}
 use Rattle.history_text.proofs.TextLemmas.{one_event}
@@ -97,7 +81,7 @@ module _ (version : TextVersion) where
       let same : a.0 ≡ b.0 = one_event version d a.0 b.0 a.1 b.1 in
       same_Some f g (sym a.3 ∙ (ap (fault_after before) same ∙ b.3))
 
-  -- each event may stand where all may
+  -- each event may be there if all may
   stands_at : (before more : List Event) (e : Event) → list_all (may_stand version) (before ++ e ∷ more) ≡ true
       → may_stand version e ≡ true
   stands_at before more e h =
@@ -193,7 +177,7 @@ data IsFaulty (text : List ℕ) : HistoryFault → Type 0 where
   not_json : length text ≤ text_limit → ((d : Data) → IsUtf8 text → read text ≡ Some d → ⊥) → IsFaulty text faults.NotJson
   faulty : (fault : HistoryFault) (d : Data) → IsJson text d → IsFaultyDocument d fault → IsFaulty text fault
 
--- each fault but want of memory says one of these
+-- each fault but `Memory` says one of these
 IsFaulty-from_fault : (text : List ℕ) (fault : HistoryFault) → IsTextFault text fault → fault ≢ faults.Memory → IsFaulty text fault
 IsFaulty-from_fault text faults.TooLong h other = too_long h
 IsFaulty-from_fault text faults.NotJson h other = not_json h.0 h.1
@@ -248,7 +232,7 @@ not_spelled text history (faulty f d is a) spelled sound =
 pub no_history : FaultySpellsNoHistory
 no_history text f history h other spelled sound = not_spelled text history (IsFaulty-from_fault text f h other) spelled sound
 
--- where a text spells a history, only want of memory refuses it
+-- if a text spells a history, it is refused only if memory runs out
 pub memory_alone : (text : List ℕ) (history : HistoryView) (fault : HistoryFault) → Spells text history → IsHistory history
     → IsTextFault text fault
     → fault ≡ faults.Memory

@@ -1,15 +1,8 @@
 -- A value spells one event at most, with a note or without.
 use Rattle.events.specs.declared.event.Reply.TheVariants as replies
-use Rattle.std.proofs.Common.{◌≡◌, ℕ, List, [], ◌∷◌, map, codes, get_or, inl, inr, refl, sym, ap, ◌∙◌, arith}
-use Rattle.serde_json.specs.Data.{Data, string}
-use Rattle.events.specs.declared.event.Call.{Call}
-use Rattle.events.specs.declared.event.Call.TheVariants.{Get, Insert, Remove, Scan, Replace}
-use Rattle.events.specs.declared.event.Reply.{Reply}
-use Rattle.events.specs.declared.event.Event.{Event}
-use Rattle.events.specs.declared.event.Event.TheVariants.{Invoke, Answer}
-use Rattle.history_text.specs.declared.version.TextVersion.{TextVersion}
-use Rattle.history_text.specs.Texts.{number_data, pair_data, call_data, reply_data, event_data, noted_data, IsEventData}
-use Rattle.history_text.specs.ValueFaults.{invocation_data, response_data, IsTurnData}
+use Rattle.history_text.proofs.Common.{◌≡◌, ℕ, List, [], ◌∷◌, map, codes, get_or, inl, inr, refl, sym, ap, ◌∙◌, arith, Data, string, Call, Get}
+use Rattle.history_text.proofs.Common.{Insert, Remove, Scan, Replace, Reply, Event, Invoke, Answer, TextVersion, number_data, pair_data, call_data}
+use Rattle.history_text.proofs.Common.{reply_data, event_data, noted_data, IsEventData, invocation_data, response_data, IsTurnData}
 use Rattle.history_text.proofs.DataLemmas.{list_data_injective, first_names}
 
 -- a value spells one call only

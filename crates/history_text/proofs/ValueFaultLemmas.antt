@@ -1,30 +1,13 @@
 -- The first faulty value of a list: it spells no pair or event, or one that may not follow those before it.
 use Rattle.events.specs.declared.fault.HistoryFault.TheVariants as faults
-use Rattle.std.proofs.Common.{◌≡◌, ℕ, ◌+◌, ◌<◌, Bool, true, false, not, ◌||◌, nat_le, cond, List, [], ◌∷◌, ◌++◌, length, map, take, drop}
-use Rattle.std.proofs.Common.{get_or, Some, None}
-use Rattle.std.proofs.Common.{subst, refl, sym, ap, ◌∙◌, arith, inl, inr, leb-false}
-use Rattle.std.specs.Prelude.{IsTrue}
-use Rattle.std.proofs.lemmas.Bool.{leb-true}
-use Rattle.std.proofs.lemmas.List.{map-append, map_more, length-map, length-take-le}
-use Rattle.std.proofs.lemmas.List.Folds.{list_all-append}
-use Rattle.std.proofs.lemmas.Option.{same_Some}
-use Rattle.serde_json.specs.Data.{Data}
-use Rattle.serde_json.specs.View.{view}
-use Rattle.serde_json.specs.declared.value.Value.{Value}
-use Rattle.events.specs.declared.event.Event.{Event}
-use Rattle.events.specs.declared.fault.HistoryFault.{HistoryFault}
-use Rattle.events.specs.Limits.{start_limit}
-use Rattle.events.specs.Starts.{IsStart}
+use Rattle.history_text.proofs.Common.{◌≡◌, ℕ, ◌+◌, ◌<◌, Bool, true, false, not, ◌||◌, nat_le, cond, List, [], ◌∷◌, ◌++◌, length, map, take, drop}
+use Rattle.history_text.proofs.Common.{get_or, Some, None, subst, refl, sym, ap, ◌∙◌, arith, inl, inr, leb-false, IsTrue, leb-true, map-append}
+use Rattle.history_text.proofs.Common.{map_more, length-map, length-take-le, list_all-append, same_Some, Data, view, Value, Event, HistoryFault}
+use Rattle.history_text.proofs.Common.{start_limit, IsStart, is_shaped, is_small, call_count, AreHistoryEvents, is_out_of_turn, is_call_too_many}
+use Rattle.history_text.proofs.Common.{has_open_call, fault_after, IsRefusedAfter, is_above, pair_fault_after, IsPairRefusedAfter, TextVersion}
+use Rattle.history_text.proofs.Common.{pair_data, IsEventData, SpellEvents, may_stand, IsPairFaultAfter, AreEventsOfText, IsValueFault}
+use Rattle.history_text.proofs.Common.{IsPairValueFault, ShowsPairFaultAmong, IsPairFaultAmong, ShowsFaultAmong, IsFaultAmong}
 use Rattle.events.specs.Events.{process_of}
-use Rattle.events.specs.Histories.{is_shaped, is_small, call_count, AreHistoryEvents}
-use Rattle.events.specs.HistoryFaults.{is_out_of_turn, is_call_too_many, has_open_call, fault_after, IsRefusedAfter, is_above}
-use Rattle.events.specs.HistoryFaults.{pair_fault_after}
-use Rattle.events.specs.HistoryFaults.{IsPairRefusedAfter}
-use Rattle.history_text.specs.declared.version.TextVersion.{TextVersion}
-use Rattle.history_text.specs.Texts.{pair_data, IsEventData, SpellEvents, may_stand}
-use Rattle.history_text.specs.TextFaults.{IsPairFaultAfter, AreEventsOfText}
-use Rattle.history_text.specs.ValueFaults.{IsValueFault, IsPairValueFault, ShowsPairFaultAmong, IsPairFaultAmong, ShowsFaultAmong}
-use Rattle.history_text.specs.ValueFaults.{IsFaultAmong}
 use Rattle.list_laws.proofs.Places.{parts_at}
 use Rattle.history_text.proofs.SplitLemmas.{same_length, spelled_more}
 use Rattle.history_text.proofs.TextLemmas.{pair_data_injective}
@@ -34,13 +17,13 @@ pub split_at : (vs : List Value) (i : ℕ) (v : Value) → i < length vs → v �
     → map view vs ≡ map view (take i vs) ++ view v ∷ map view (drop (i + 1) vs)
 split_at vs i v within here = ap (map view) (parts_at vs i v within here) ∙ map-append view (take i vs) (v ∷ drop (i + 1) vs)
 
--- so many values stand before a place
+-- as many values come before a place as it says
 length_before : (vs : List Value) (i : ℕ) → i < length vs → length (map view (take i vs)) ≡ i
 length_before vs i within = length-map (take i vs) view ∙ length-take-le i vs (omega arith)
 
 -- ---- pairs
 
--- where the values before a place spell pairs, there are as many pairs
+-- if the values before a place spell pairs, there are as many pairs
 pub pairs_before : (vs : List Value) (before : List (ℕ × ℕ)) (i : ℕ) → i < length vs → map view (take i vs) ≡ map pair_data before
     → length before ≡ i
 pairs_before vs before i within spelled = sym (length-map before pair_data) ∙ (ap length (sym spelled) ∙ length_before vs i within)
@@ -52,7 +35,7 @@ pub pairs_and_value : (vs : List Value) (before : List (ℕ × ℕ)) (i : ℕ) (
 pairs_and_value vs before i v within here spelled =
     split_at vs i v within here ∙ ap (λ xs. xs ++ view v ∷ map view (drop (i + 1) vs)) spelled
 
--- a value that is refused by itself is faulty wherever it stands
+-- a value that is refused on its own is faulty wherever it is
 pub pair_fault_alone : (before : List (ℕ × ℕ)) (d : Data) (fault : HistoryFault) → IsPairValueFault (length before) d fault
     → (rest items : List Data)
     → items ≡ map pair_data before ++ d ∷ rest → IsStart before → IsPairFaultAmong items fault
@@ -119,7 +102,7 @@ pair_fault_on_taking before pair d fault rest items h is parts start = by_fault 
 
 -- ---- events
 
--- where the values before a place spell events, there are as many events
+-- if the values before a place spell events, there are as many events
 pub events_before : (version : TextVersion) (vs : List Value) (before : List Event) (i : ℕ) → i < length vs
     → SpellEvents version (map view (take i vs)) before → length before ≡ i
 events_before version vs before i within spelled =
@@ -134,7 +117,7 @@ events_more version vs before i v e within here spelled is =
     (sym (map_more view vs i v within ∙ ap (λ x. map view (take i vs) ++ view x ∷ []) (sym here)))
     (spelled_more (IsEventData version) (map view (take i vs)) before (view v) e spelled is)
 
--- events of a text with one more that may stand there
+-- events of a text with one more that may be there
 pub stands_more : (version : TextVersion) (before : List Event) (e : Event) → AreEventsOfText version before
     → AreHistoryEvents (before ++ e ∷ []) → IsTrue (may_stand version e) → AreEventsOfText version (before ++ e ∷ [])
 stands_more version before e events history standing = record {
@@ -142,7 +125,7 @@ stands_more version before e events history standing = record {
   standing = list_all-append (may_stand version) before (e ∷ []) ∙ rw (events.standing, standing) refl;
 }
 
--- a value that is refused by itself is faulty wherever it stands
+-- a value that is refused on its own is faulty wherever it is
 pub fault_alone : (version : TextVersion) (first : List Data) (before : List Event) (d : Data) (fault : HistoryFault)
     → IsValueFault version (length before) d fault
     → (rest items : List Data) → items ≡ first ++ d ∷ rest → SpellEvents version first before → AreEventsOfText version before
@@ -181,7 +164,7 @@ IsFaultBy place shaped faults.TooMany = shaped ≡ true
 IsFaultBy place shaped (faults.NotWellFormed at) = (at ≡ place) × (shaped ≡ true)
 IsFaultBy place shaped fault = ⊥
 
--- the first test that fails tells the fault
+-- the first test that fails decides the fault
 three_faults : (s m c t : Bool) (place : ℕ) (fault : HistoryFault)
     → cond (not s) (Some (faults.Shape place))
     (cond (not m || c) (Some faults.TooMany) (cond t (Some (faults.NotWellFormed place)) None)) ≡ Some fault

@@ -1,18 +1,9 @@
 -- The value of a history has no float, and nests five deep at most.
 use Rattle.events.specs.declared.event.Reply.TheVariants as replies
-use Rattle.history_text.specs.declared.version.TextVersion.TheVariants.{One, Two, Three}
-use Rattle.std.proofs.Common.{◌≡◌, ℕ, ◌≤◌, List, [], ◌∷◌, map, false, refl, arith}
-use Rattle.serde_json.specs.Data.{Data, depth, items_depth}
-use Rattle.serde_json.specs.View.{items_of}
-use Rattle.serde_json.specs.Written.{has_float, items_have_float}
-use Rattle.events.specs.declared.event.Call.{Call}
-use Rattle.events.specs.declared.event.Call.TheVariants.{Get, Insert, Remove, Scan, Replace}
-use Rattle.events.specs.declared.event.Reply.{Reply}
-use Rattle.events.specs.declared.event.Event.{Event}
-use Rattle.events.specs.declared.event.Event.TheVariants.{Invoke, Answer}
-use Rattle.history_text.specs.declared.version.TextVersion.{TextVersion}
-use Rattle.history_text.specs.Texts.{pair_data, call_data, reply_data, event_data, document, least_version, written_start, history_data}
-use Rattle.events.specs.HistoryView.{HistoryView}
+use Rattle.history_text.proofs.Common.{One, Two, Three, ◌≡◌, ℕ, ◌≤◌, List, [], ◌∷◌, map, false, refl, arith, Data, depth, items_depth, items_of}
+use Rattle.history_text.proofs.Common.{has_float, items_have_float, Call, Get, Insert, Remove, Scan, Replace, Reply, Event, Invoke, Answer}
+use Rattle.history_text.proofs.Common.{TextVersion, pair_data, call_data, reply_data, event_data, document, least_version, written_start}
+use Rattle.history_text.proofs.Common.{history_data, HistoryView}
 
 module _ {A : Type 0} (f : A → Data) where
   -- a list has no float where no item has one

@@ -19,8 +19,8 @@ use serde_json::Value;
 use std::alloc::Global;
 
 /// Returns the event at a place of a history's text, which is of a version. Otherwise it returns
-/// why the event is refused: `Shape`, also for what this version may not have, `TooMany` for a
-/// process number that is too large for a `u8`, or `Memory`.
+/// why the event is refused. That is `Shape`, also for what this version may not have; `TooMany`
+/// for a process number that is too large for a `u8`; or `Memory`.
 pub fn event_of(
     alloc: Global,
     place: usize,

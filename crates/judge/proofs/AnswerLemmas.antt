@@ -1,15 +1,7 @@
 -- What the answers on all segments say of them.
-use Rattle.std.proofs.Common.{◌≡◌, ℕ, zero, suc, List, [], ◌∷◌, ◌++◌, Some, ap, subst, inl, inr, refl, arith}
-use Rattle.std.specs.Prelude.{◌≢◌, All, slice_get}
-use Rattle.std.specs.List.{AllZip}
-use Rattle.std.proofs.lemmas.List.Elements.{All-nil, All-cons, All-head, All-tail}
-use Rattle.std.proofs.lemmas.Option.{none-some, same_Some}
-use Rattle.segments.specs.SegmentView.{SegmentView}
-use Rattle.search.specs.declared.found.Found.{Found}
-use Rattle.search.specs.declared.found.Found.TheVariants.{Order, NoOrder, Spent}
-use Rattle.search.specs.Exact.{IsExactAnswer}
-use Rattle.judge.specs.Answers.{IsFirstAt, orders_in}
-use Rattle.judge.specs.Exact.{IsOrderedBy, IsOrdered, IsOrderedOrSpent}
+use Rattle.judge.proofs.Common.{◌≡◌, ℕ, zero, suc, List, [], ◌∷◌, ◌++◌, Some, ap, subst, inl, inr, refl, arith, ◌≢◌, All, slice_get, AllZip, All-nil}
+use Rattle.judge.proofs.Common.{All-cons, All-head, All-tail, none-some, same_Some, SegmentView, Found, Order, NoOrder, Spent, IsExactAnswer}
+use Rattle.judge.proofs.Common.{IsFirstAt, orders_in, IsOrderedBy, IsOrdered, IsOrderedOrSpent}
 
 -- a weaker relation holds too
 pub AllZip-weaker : {A B : Type 0} (R Q : A → B → Type 0) → ((x : A) (y : B) → R x y → Q x y) → (xs : List A) (ys : List B)
@@ -19,7 +11,7 @@ AllZip-weaker R Q weaker [] (y ∷ ys) h = absurd h
 AllZip-weaker R Q weaker (x ∷ xs) [] h = absurd h
 AllZip-weaker R Q weaker (x ∷ xs) (y ∷ ys) h = (weaker x y h.0, AllZip-weaker R Q weaker xs ys h.1)
 
--- beside the relation, what holds of each second one
+-- in addition to the relation, what holds of each second one
 AllZip-with : {A B : Type 0} (R : A → B → Type 0) (P : B → Type 0) (xs : List A) (ys : List B) → AllZip R xs ys → All P ys
     → AllZip (λ x y. R x y × P y) xs ys
 AllZip-with R P [] [] h all = tt

@@ -1,3 +1,4 @@
+mod Common
 mod ReportLemmas
 mod AnswerLemmas
 mod VerdictLemmas

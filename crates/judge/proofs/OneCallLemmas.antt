@@ -1,18 +1,11 @@
 -- A history of one call is decided at each budget of two or more.
-use Rattle.std.proofs.Common.{◌≡◌, ℕ, ◌<◌, ◌≤◌, List, ◌∷◌, ◌++◌, length, ap, arith}
-use Rattle.std.specs.Prelude.{◌≢◌}
-use Rattle.std.proofs.lemmas.List.Elements.{All-contains, Contains-append_right}
+use Rattle.judge.proofs.Common.{◌≡◌, ℕ, ◌<◌, ◌≤◌, List, ◌∷◌, ◌++◌, length, ap, arith, ◌≢◌, All-contains, Contains-append_right, Operation, Contents}
+use Rattle.judge.proofs.Common.{SegmentView, IsSegment, length-distinct_below, Contains-first, ShowsUndecided}
 use Rattle.std.proofs.lemmas.List.Kept.{AllPairs-from_increasing}
-use Rattle.events.specs.declared.operation.Operation.{Operation}
-use Rattle.map_object.specs.MapObject.{Contents}
-use Rattle.segments.specs.SegmentView.{SegmentView}
-use Rattle.segments.specs.Segments.{IsSegment}
 use Rattle.list_laws.proofs.FilterLemmas.{AllPairs-weaker}
-use Rattle.list_laws.proofs.Lists.{length-distinct_below, Contains-first}
 use Rattle.judge.proofs.ReachedLemmas.{reached_by_one_call}
 use Rattle.orders.proofs.CallsAtLemmas.{length-calls_at}
 use Rattle.segments.proofs.SegmentLemmas.{known-IsSegment, calls-IsSegment}
-use Rattle.judge.specs.Shows.{ShowsUndecided}
 
 -- a segment has no more calls than the history
 length-segment_le : (start : Contents) (calls : List Operation) (segment : SegmentView) → IsSegment start calls segment
@@ -29,7 +22,7 @@ length-segment_le start calls segment h =
       length-distinct_below segment.numbers (length calls) distinct known,
     )
 
--- it is not undecided
+-- a history of one call is not undecided
 pub one_call-decided : (start : Contents) (budget : ℕ) (calls : List Operation) (segment : SegmentView) → length calls ≡ 1 → 2 ≤ budget
     → ShowsUndecided start budget calls segment → ⊥
 one_call-decided start budget calls segment one two h =

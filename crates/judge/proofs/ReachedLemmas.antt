@@ -1,14 +1,10 @@
 -- A history of one call has few configurations, so that each budget of two or more decides it.
-use Rattle.std.proofs.Common.{◌≡◌, ℕ, ◌<◌, ◌≤◌, List, [], ◌∷◌, length, refl, ap, subst, inl, inr, ⊎_elim, arith}
-use Rattle.std.specs.Prelude.{◌⊎◌, All, Contains}
-use Rattle.std.proofs.lemmas.List.Elements.{All-weaker, All-head}
-use Rattle.events.specs.declared.operation.Operation.{Operation}
-use Rattle.map_object.specs.MapObject.{Contents}
-use Rattle.orders.specs.Orders.{calls_at, after_calls}
+use Rattle.judge.proofs.Common.{◌≡◌, ℕ, ◌<◌, ◌≤◌, List, [], ◌∷◌, length, refl, ap, subst, inl, inr, ⊎_elim, arith, ◌⊎◌, All, Contains, All-weaker}
+use Rattle.judge.proofs.Common.{All-head, Operation, Contents, calls_at, after_calls, Contains-first, Contains-later, length-distinct}
+use Rattle.judge.proofs.Common.{length-distinct_below}
 use Rattle.configurations.specs.Fronts.{IsFront}
 use Rattle.configurations.specs.Configurations.{Configuration, LeadsTo, IsReachable}
 use Rattle.configurations.specs.Counts.{ReachesMoreThan}
-use Rattle.list_laws.proofs.Lists.{Contains-first, Contains-later, length-distinct, length-distinct_below}
 use Rattle.configurations.proofs.ConfigurationLemmas.{configuration_of, configuration_unique, LeadsTo-nil}
 
 -- at most one number below one

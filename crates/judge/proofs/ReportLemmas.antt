@@ -1,11 +1,6 @@
 -- A report has no float, so that its text is the compact one.
-use Rattle.std.proofs.Common.{◌≡◌, ℕ, List, [], ◌∷◌, map, false, refl}
-use Rattle.serde_json.specs.View.{items_of}
-use Rattle.serde_json.specs.Written.{has_float, items_have_float}
-use Rattle.history_text.specs.Texts.{number_data}
-use Rattle.judge.specs.declared.verdict.Verdict.{Verdict}
-use Rattle.judge.specs.declared.verdict.Verdict.TheVariants.{Yes, No, Undecided}
-use Rattle.judge.specs.Reports.{verdict_data}
+use Rattle.judge.proofs.Common.{◌≡◌, ℕ, List, [], ◌∷◌, map, false, refl, items_of, has_float, items_have_float, number_data, Verdict, Yes, No}
+use Rattle.judge.proofs.Common.{Undecided, verdict_data}
 
 -- numbers have no float
 items_have_float-numbers : (numbers : List ℕ) → items_have_float (items_of (map number_data numbers)) ≡ false

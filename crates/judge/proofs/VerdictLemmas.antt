@@ -1,46 +1,32 @@
 -- An exact verdict shows what its word says, and there is one only.
-use Rattle.std.proofs.Common.{◌≡◌, ℕ, List, [], ◌∷◌, ◌++◌, ap, sym, subst, inl, inr, refl, ⊎_elim, ◌∙◌}
-use Rattle.std.specs.Prelude.{All}
-use Rattle.std.specs.List.{AllZip}
-use Rattle.std.proofs.lemmas.List.Elements.{All-append, All-cons, All-contains, All-head, All-tail, All-weaker, Contains-append_right}
+use Rattle.judge.proofs.Common.{◌≡◌, ℕ, List, [], ◌∷◌, ◌++◌, ap, sym, subst, inl, inr, refl, ⊎_elim, ◌∙◌, All, AllZip, All-append, All-cons}
+use Rattle.judge.proofs.Common.{All-contains, All-head, All-tail, All-weaker, Contains-append_right, Operation, operations, Contains-first, Contents}
+use Rattle.judge.proofs.Common.{IsOrder, IsLinearizable, SegmentView, IsOrderOf, numbers_at, Verdict, Yes, No, Undecided, HasOrder, IsBeyond}
+use Rattle.judge.proofs.Common.{IsUnrefuted, ShowsYes, ShowsNo, ShowsUndecided, IsOrderedBy, IsOrdered, IsRefuted, IsSpent, IsOrderedOrSpent}
+use Rattle.judge.proofs.Common.{IsExactYes, IsExactNo, IsExactUndecided, IsExactVerdict, AreSameVerdict, verdict_data, compact_text}
 use Rattle.events.specs.HistoryView.{HistoryView}
-use Rattle.events.specs.declared.operation.Operation.{Operation}
 use Rattle.events.specs.Histories.{IsHistory}
-use Rattle.events.specs.Operations.{operations}
-use Rattle.list_laws.proofs.Lists.{Contains-first}
-use Rattle.map_object.specs.MapObject.{Contents}
-use Rattle.orders.specs.Orders.{IsOrder, IsLinearizable}
-use Rattle.segments.specs.SegmentView.{SegmentView}
-use Rattle.segments.specs.SegmentOrders.{IsOrderOf, numbers_at}
 use Rattle.search.proofs.CountLemmas.{CountIsAbove-not_within, ReachesMoreThan-from_count}
 use Rattle.search.proofs.LeastOrderLemmas.{IsLeastOrder-unique}
 use Rattle.cutter.specs.Laws.{HasOneListOfSegments}
 use Rattle.merge_orders.specs.Laws.{HasOneMergedOrder}
 use Rattle.merge_orders.specs.Merge.{IsMergedOrder}
-use Rattle.judge.specs.declared.verdict.Verdict.{Verdict}
-use Rattle.judge.specs.declared.verdict.Verdict.TheVariants.{Yes, No, Undecided}
-use Rattle.judge.specs.Shows.{HasOrder, IsBeyond, IsUnrefuted, ShowsYes, ShowsNo, ShowsUndecided}
-use Rattle.judge.specs.Exact.{IsOrderedBy, IsOrdered, IsRefuted, IsSpent, IsOrderedOrSpent, IsExactYes, IsExactNo, IsExactUndecided}
-use Rattle.judge.specs.Exact.{IsExactVerdict}
-use Rattle.judge.specs.Exact.{AreSameVerdict}
 use Rattle.judge.specs.Laws.{OneExactVerdict, OneReport}
-use Rattle.judge.specs.Reports.{verdict_data}
 use Rattle.judge.proofs.AnswerLemmas.{AllZip-weaker, IsOrdered-all}
 use Rattle.history_text.specs.TextLaws.{SpellsOneHistory}
-use Rattle.serde_json.specs.Written.{compact_text}
 
 -- what holds of all holds of the one in the middle
 pub All-here : (P : SegmentView → Type 0) (below : List SegmentView) (s : SegmentView) (above : List SegmentView)
     → All P (below ++ s ∷ above) → P s
 All-here P below s above h = All-contains P (below ++ s ∷ above) s h (Contains-append_right below (s ∷ above) s (Contains-first s above))
 
--- and of each above it
+-- what holds of all holds of each above the one in the middle
 pub All-above : (P : SegmentView → Type 0) (below : List SegmentView) (s : SegmentView) (above : List SegmentView)
     → All P (below ++ s ∷ above) → All P above
 All-above P [] s above h = All-tail P s above h
 All-above P (x ∷ below) s above h = All-above P below s above (All-tail P x (below ++ s ∷ above) h)
 
--- the first of which P holds is one, where what stands below has Q, and P and Q exclude each other
+-- the first of which P holds is only one, if all below it have Q, and P and Q exclude each other
 first_unique : (P Q : SegmentView → Type 0) → ((s : SegmentView) → P s → Q s → ⊥) → (below : List SegmentView) (s : SegmentView)
     (above others : List SegmentView) (t : SegmentView) (beyond : List SegmentView) → below ++ s ∷ above ≡ others ++ t ∷ beyond → P s
     → P t → All Q below

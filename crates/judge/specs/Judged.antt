@@ -25,7 +25,8 @@ pub record IsJudged (budget : ℕ) (text : List ℕ) (verdict : Verdict) (report
   pub exact : IsExactVerdict history.start budget (operations history.events) verdict
   pub reported : report ≡ compact_text (verdict_data verdict)
 
--- the judge's fault for a reader's fault; out-of-memory is one fault, whoever met it
+-- the judge's fault for a reader's fault; if memory runs out, in the reader or in the judge, it is
+-- one fault
 abbrev pub fault_of : HistoryFault → JudgeFault
 fault_of histories.Memory = Memory
 fault_of fault = History fault

@@ -11,7 +11,7 @@ pub fn finished_verdicts_agree()
     ensures { FinishedVerdictsAgree }
 {}
 
-/// A history of one call has at most two configurations, so it is decided at every budget of two or
+/// A history of one call has at most two configurations. So it is decided at every budget of two or
 /// more.
 pub fn one_call_is_decided()
     ensures { OneCallIsDecided }

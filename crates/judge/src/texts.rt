@@ -48,8 +48,7 @@ pub fn judge_text<R: Threads + Sync, G: Gate + Sync>(
     judge_text_by(alloc, text, &by_workers)
 }
 
-/// Reads a history's text and lets a judge judge it. The answer is that of `judge_text`, whoever
-/// judges.
+/// Reads a history's text and lets a judge judge it. Every judge gives the answer of `judge_text`.
 pub fn judge_text_by<J: Judge>(
     alloc: Global,
     text: &[u8],

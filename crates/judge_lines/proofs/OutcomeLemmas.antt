@@ -6,7 +6,7 @@ use Rattle.command_line.specs.declared.line.Line.TheVariants.{Check, Judge, Loca
 use Rattle.outcomes.specs.declared.outcome.RunOutcome.{RunOutcome}
 use Rattle.outcomes.specs.Ends.{Change}
 use Rattle.history_engines.specs.Answers.{IsCheckAnswer, IsHistoryRefusal, IsHintedJudgeAnswer}
-use Rattle.location_engines.specs.Answers.{IsLocateAnswer}
+use Rattle.location_engines.specs.Answers.{IsLocateAnswerWith}
 use Rattle.explain_engines.specs.Answers.{IsExplainAnswer}
 use Rattle.picture_engines.specs.Drawings.{IsViewAnswer}
 use Rattle.page_engines.specs.Answers.{IsPageAnswer}
@@ -23,8 +23,8 @@ judged-words L (Check order) words source outcome here ask comes =
     read-words L (IsCheckAnswer order.items) IsHistoryRefusal words source outcome ask comes
 judged-words L (Judge budget workers) words source outcome here ask comes =
     hinted-words L (IsHintedJudgeAnswer budget) IsHistoryRefusal words source outcome ask comes
-judged-words L (Locate budget) words source outcome here ask comes =
-    read-words L (IsLocateAnswer budget) IsHistoryRefusal words source outcome ask comes
+judged-words L (Locate budget order) words source outcome here ask comes =
+    read-words L (IsLocateAnswerWith order budget) IsHistoryRefusal words source outcome ask comes
 judged-words L (Explain budget) words source outcome here ask comes =
     read-words L (IsExplainAnswer budget) IsHistoryRefusal words source outcome ask comes
 judged-words L (Draw budget workers around calls) words source outcome here ask comes =

@@ -17,7 +17,7 @@ use Rattle.line_outcomes.specs.Outcomes.{IsElsewhereOutcome}
 abbrev pub AsksForTrees : Line → Type 0
 AsksForTrees (Check order) = ⊥
 AsksForTrees (Judge budget workers) = ⊥
-AsksForTrees (Locate budget) = ⊥
+AsksForTrees (Locate budget order) = ⊥
 AsksForTrees (Explain budget) = ⊥
 AsksForTrees (Draw budget workers around calls) = ⊥
 AsksForTrees (Page budget workers) = ⊥
@@ -33,7 +33,7 @@ no_trees_line = line (codes "error: this program has no plans and no trees")
 abbrev pub IsJudgeLineOutcome : Line → Change → RunOutcome → Type 0
 IsJudgeLineOutcome (Check order) source outcome = IsCheckOutcome order.items source outcome
 IsJudgeLineOutcome (Judge budget workers) source outcome = IsJudgeOutcome budget source outcome
-IsJudgeLineOutcome (Locate budget) source outcome = IsLocateOutcome budget source outcome
+IsJudgeLineOutcome (Locate budget order) source outcome = IsLocateOutcome budget order source outcome
 IsJudgeLineOutcome (Explain budget) source outcome = IsExplainOutcome budget source outcome
 IsJudgeLineOutcome (Draw budget workers around calls) source outcome =
     IsDrawOutcome budget (record { around = around; calls = calls }) source outcome

@@ -65,7 +65,9 @@ pub fn run_line<R: Threads + Sync, S: Source, O: Sink, F: Sink, H: Sink, P: Prog
             };
             run_judge(alloc, source, output, faults, hints, &judge)
         }
-        Line::Locate { budget } => run_locate(alloc, source, output, faults, hints, budget),
+        Line::Locate { budget, order } => run_locate(
+            alloc, source, output, faults, hints, budget, order,
+        ),
         Line::Explain { budget } => run_explain(alloc, source, output, faults, hints, budget),
         Line::Draw {
             budget,

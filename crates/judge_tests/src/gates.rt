@@ -83,7 +83,7 @@ impl Rounds {
         self.met.load(Ordering::SeqCst)
     }
 
-    /// Waits until the round is full in which a worker came with this number, counted from 0.
+    /// Waits until the round of the worker that came with this number, counted from 0, is full.
     /// Returns whether it became full.
     fn fills(&self, number: u64) -> bool {
         for turn in 0..TURNS {

@@ -1,18 +1,9 @@
--- Lists of calls that are fronts but for their answers.
-use Rattle.std.proofs.Common.{◌≡◌, ℕ, ◌<◌, List, Some, [], ◌∷◌, ◌++◌, ◌+◌, length, take, drop, get_or, refl, sym, ap, ◌∙◌, subst, arith}
-use Rattle.std.specs.Prelude.{◌≢◌, slice_get, All, Contains}
-use Rattle.std.proofs.lemmas.List.{take_at, take_more, append_assoc, get_or_default}
-use Rattle.std.proofs.lemmas.Option.{same_Some}
-use Rattle.std.proofs.lemmas.List.Elements.{All-head, All-contains}
-use Rattle.events.specs.declared.operation.Operation.{Operation}
-use Rattle.map_object.specs.MapObject.{Contents}
-use Rattle.orders.specs.Orders.{IsLegalCall, after_calls, calls_at}
-use Rattle.configurations.specs.Fronts.{IsFront}
-use Rattle.configurations.proofs.FrontLemmas.{IsNext, IsNext-from_front}
-use Rattle.search.specs.Standing.{pairs_after}
+-- Lists of calls that are fronts except for their answers.
+use Rattle.kept_fronts.proofs.Common.{◌≡◌, ℕ, ◌<◌, List, Some, [], ◌∷◌, ◌++◌, ◌+◌, length, take, drop, get_or, refl, sym, ap, ◌∙◌, subst, arith, ◌≢◌}
+use Rattle.kept_fronts.proofs.Common.{slice_get, All, Contains, take_at, take_more, append_assoc, get_or_default, same_Some, All-head, All-contains}
+use Rattle.kept_fronts.proofs.Common.{Operation, Contents, IsLegalCall, after_calls, calls_at, IsFront, IsNext, IsNext-from_front, pairs_after}
+use Rattle.kept_fronts.proofs.Common.{All-back, AllPairs-across, slice_get-middle, IsClosed}
 use Rattle.list_laws.proofs.Places.{parts_at}
-use Rattle.list_laws.proofs.Lists.{All-back, AllPairs-across, slice_get-middle}
-use Rattle.kept_fronts.specs.Closed.{IsClosed}
 
 -- a front is closed
 pub IsClosed-from_front : (start : Contents) (calls : List Operation) (path : List ℕ) → IsFront start calls path → IsClosed calls path
@@ -52,14 +43,14 @@ module _ (start : Contents) (calls : List Operation) (path more now : List ℕ) 
       below-closed calls (path ++ take i more) (get_or more i 0) (drop (i + 1) more) (subst (IsClosed calls) (split_at path more i lt) h)
 
   module _ (a : Operation) (here : slice_get calls (get_or more i 0) ≡ Some a) (m : Contents) (m_is : m ≡ pairs_after start calls now) where
-    -- it may come next where it is legal
+    -- the call at a place of a closed list may come next if it is legal
     pub next_at : IsClosed calls (path ++ more) → IsLegalCall m a.call a.response → IsNext start calls now (get_or more i 0)
     next_at h legal = subst (λ p. IsNext start calls p (get_or more i 0)) (sym now_is)
         (IsNext-from_closed start calls (path ++ take i more) (get_or more i 0) (drop (i + 1) more) a
         (subst (IsClosed calls) (split_at path more i lt) h) here
         (subst (λ x. IsLegalCall x a.call a.response) (m_is ∙ ap (pairs_after start calls) now_is) legal))
 
-    -- and it is legal where all are a front
+    -- the call is legal there if all calls are a front
     pub legal_at : IsFront start calls (path ++ more) → IsLegalCall m a.call a.response
     legal_at h =
         let next = IsNext-from_front start calls (path ++ take i more) (get_or more i 0) (drop (i + 1) more)

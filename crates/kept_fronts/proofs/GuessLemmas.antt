@@ -1,14 +1,9 @@
 -- Which calls may precede a call.
-use Rattle.std.proofs.Common.{◌≡◌, ℕ, ◌<◌, ◌≤◌, true, false, List, None, Some, Option, sym, ap, ◌∙◌, ⊎_elim, arith, nat_lt}
-use Rattle.std.specs.Prelude.{slice_get, AllPairs}
-use Rattle.std.proofs.lemmas.Bool.{both_ways, cases_order}
+use Rattle.kept_fronts.proofs.Common.{◌≡◌, ℕ, ◌<◌, ◌≤◌, true, false, List, None, Some, Option, refl, sym, ap, subst, ◌∙◌, ⊎_elim, arith, nat_lt}
+use Rattle.kept_fronts.proofs.Common.{slice_get, is_some, AllPairs, IsSomeAnd, IsTrue, both_ways, cases_order, same_Some, Operation, is_before}
+use Rattle.kept_fronts.proofs.Common.{is_completed, precedes, NonePrecedesItself, IsCompletedAt, PrecedesAt, AllPairs-at, All-at}
 use Rattle.std.proofs.lemmas.Bool.Decides.{nat_tests}
-use Rattle.std.proofs.lemmas.Option.{same_Some}
-use Rattle.events.specs.declared.operation.Operation.{Operation}
 use Rattle.events.specs.declared.operation.Response.{Response}
-use Rattle.events.specs.Precedence.{is_before, precedes, NonePrecedesItself}
-use Rattle.configurations.specs.Fronts.{PrecedesAt}
-use Rattle.list_laws.proofs.Lists.{AllPairs-at, All-at}
 
 -- a response before a place is before each later place
 still_before : (response : Option Response) (i j : ℕ) → i < j → is_before response i ≡ true → is_before response j ≡ true
@@ -35,3 +30,12 @@ none_later calls m n rising apart le (a, b, a_here, b_here, e) =
     both_ways (precedes a a) own (still_before a.response b.inv a.inv up e))
     apart_from)
     (cases_order m n)
+
+-- a call that precedes another one is completed
+ends : (response : Option Response) (i : ℕ) → is_before response i ≡ true → is_some response ≡ true
+ends None i h = absurd (both_ways false refl h)
+ends (Some response) i h = refl
+
+pub completed_before : (calls : List Operation) (m n : ℕ) → PrecedesAt calls m n → IsCompletedAt calls m
+completed_before calls m n (a, b, a_here, b_here, e) =
+    subst (λ o. IsSomeAnd o (λ (x : Operation). IsTrue (is_completed x))) (sym a_here) (ends a.response b.inv e)

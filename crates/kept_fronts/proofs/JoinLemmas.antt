@@ -1,26 +1,16 @@
 -- A front, and an order of the calls that are left after it, are an order of all calls.
-use Rattle.std.proofs.Common.{◌≡◌, ℕ, ◌<◌, Bool, true, false, List, [], ◌∷◌, ◌++◌, length, take, get_or, refl, sym, ap, ◌∙◌, subst}
-use Rattle.std.proofs.Common.{⊎_elim, arith}
-use Rattle.std.specs.Prelude.{◌≢◌, slice_get, slice_index, map, IsTrue, IsSomeAnd, All, AllPairs, Contains}
+use Rattle.kept_fronts.proofs.Common.{◌≡◌, ℕ, ◌<◌, Bool, true, false, List, [], ◌∷◌, ◌++◌, length, take, get_or, refl, sym, ap, ◌∙◌, subst, ⊎_elim}
+use Rattle.kept_fronts.proofs.Common.{arith, ◌≢◌, slice_get, slice_index, map, IsTrue, IsSomeAnd, All, AllPairs, Contains, false_from_ne_true}
+use Rattle.kept_fronts.proofs.Common.{both_ways, cases_order, All-append, All-head, All-tail, All-contains, Contains-append_left}
+use Rattle.kept_fronts.proofs.Common.{Contains-append_right, slice_get-get_or, get_or_from_slice_get, Operation, is_completed, precedes}
+use Rattle.kept_fronts.proofs.Common.{NonePrecedesItself, Contents, calls_at, IsLegal, KeepsPrecedence, IsCompletedAt, IsOrder, after_calls}
+use Rattle.kept_fronts.proofs.Common.{IsLegal-append, calls_at-append, IsCompletedAt-below, IsFront, IsLegalOrder-from_front, pairs_after}
+use Rattle.kept_fronts.proofs.Common.{AllPairs-append, AllPairs-at, AllPairs-from_at, All-at, All-from_contains, Contains-at, place_of-Contains}
+use Rattle.kept_fronts.proofs.Common.{place_before-Contains, has_number-Contains, has_number-from_Contains, AreLeft}
 use Rattle.std.specs.List.{cons_option}
-use Rattle.std.proofs.lemmas.Bool.{false_from_ne_true, both_ways, cases_order}
-use Rattle.std.proofs.lemmas.List.Elements.{All-append, All-head, All-tail, All-contains, Contains-append_left, Contains-append_right}
-use Rattle.std.proofs.lemmas.Option.{slice_get-get_or, get_or_from_slice_get}
-use Rattle.events.specs.declared.operation.Operation.{Operation}
-use Rattle.events.specs.Precedence.{is_completed, precedes, NonePrecedesItself}
-use Rattle.map_object.specs.MapObject.{Contents}
-use Rattle.orders.specs.Orders.{calls_at, IsLegal, KeepsPrecedence, IsCompletedAt, IsOrder, after_calls}
-use Rattle.orders.proofs.OrderLemmas.{IsLegal-append, calls_at-append, IsCompletedAt-below}
 use Rattle.orders.proofs.CallsAtLemmas.{slice_get-calls_at, length-calls_at, number_at}
-use Rattle.configurations.specs.Fronts.{IsFront}
-use Rattle.configurations.proofs.FrontLemmas.{IsLegalOrder-from_front}
-use Rattle.search.specs.Standing.{pairs_after}
 use Rattle.list_laws.specs.Lists.{has_number}
-use Rattle.list_laws.proofs.Lists.{AllPairs-append, AllPairs-at, AllPairs-from_at, All-at, All-from_contains, Contains-at, place_of-Contains}
-use Rattle.list_laws.proofs.Lists.{place_before-Contains}
-use Rattle.list_laws.proofs.NumberLemmas.{has_number-Contains, has_number-from_Contains}
 use Rattle.list_laws.proofs.FilterLemmas.{AllPairs-weaker, AllPairs-map, Contains-map, Contains-from_map}
-use Rattle.kept_fronts.specs.Closed.{AreLeft}
 
 -- what is in the beginning of a list is in the list
 Contains-from_take : (xs : List ℕ) (i n : ℕ) → Contains (take i xs) n → Contains xs n

@@ -1,12 +1,7 @@
 -- The calls that are not in a front, so far.
-use Rattle.std.proofs.Common.{◌≡◌, ℕ, ◌+◌, ◌<◌, List, [], ◌∷◌, ◌++◌, length, sym, subst, ⊎_elim, arith}
-use Rattle.std.specs.Prelude.{◌↔◌, AllPairs, Contains}
-use Rattle.std.proofs.lemmas.Bool.{cases_lt}
-use Rattle.std.proofs.lemmas.List.Elements.{Contains-push, Contains-push_cases, Contains-append_left}
-use Rattle.std.proofs.lemmas.List.Quantifiers.{all_pairs_push}
-use Rattle.events.specs.declared.operation.Operation.{Operation}
-use Rattle.list_laws.proofs.Lists.{AllPairs-nil, All-from_contains, Contains-nil}
-use Rattle.kept_fronts.specs.Closed.{AreLeft}
+use Rattle.kept_fronts.proofs.Common.{◌≡◌, ℕ, ◌+◌, ◌<◌, List, [], ◌∷◌, ◌++◌, length, sym, subst, ⊎_elim, arith, ◌↔◌, AllPairs, Contains, cases_lt}
+use Rattle.kept_fronts.proofs.Common.{Contains-push, Contains-push_cases, Contains-append_left, all_pairs_push, Operation, AllPairs-nil}
+use Rattle.kept_fronts.proofs.Common.{All-from_contains, Contains-nil, AreLeft}
 
 -- the places below one that are not in a front, by rising place
 pub record AreLeftBelow (path left : List ℕ) (place : ℕ) : Type 0 where

@@ -1,3 +1,4 @@
+mod Common
 pub mod StandingLemmas
 pub mod ClosedLemmas
 pub mod JoinLemmas

@@ -1,26 +1,14 @@
 -- A call comes before the last calls of a closed list.
-use Rattle.std.proofs.Common.{◌≡◌, ℕ, ◌+◌, ◌-◌, ◌<◌, ◌≤◌, List, Some, [], ◌∷◌, ◌++◌, length, take, reverse, get_or, refl, sym, ap, ◌∙◌}
-use Rattle.std.proofs.Common.{subst, ⊎_elim, arith}
-use Rattle.std.specs.Prelude.{◌≢◌, ◌↔◌, slice_get, option_map, All, Contains}
+use Rattle.kept_fronts.proofs.Common.{◌≡◌, ℕ, ◌+◌, ◌-◌, ◌<◌, ◌≤◌, List, Some, [], ◌∷◌, ◌++◌, length, take, reverse, get_or, refl, sym, ap, ◌∙◌, subst}
+use Rattle.kept_fronts.proofs.Common.{⊎_elim, arith, ◌≢◌, ◌↔◌, slice_get, option_map, All, Contains, append-nil, append_assoc, get_or_default}
+use Rattle.kept_fronts.proofs.Common.{get_or-reverse, length-append, length-map, length-reverse, reverse-append, take-append-le, take_at}
+use Rattle.kept_fronts.proofs.Common.{All-contains, All-push, Contains-push, Contains-push_cases, Contains-append_left, Contains-append_right}
+use Rattle.kept_fronts.proofs.Common.{Contains-append_cases, all_pairs_push, same_Some, slice_get_within, slice_get-map, Operation, Contents}
+use Rattle.kept_fronts.proofs.Common.{IsLegalCall, IsOrder, PrecedesAt, IsFront, IsNext, IsOrder-from_front, pairs_after, All-front, AllPairs-front}
+use Rattle.kept_fronts.proofs.Common.{AllPairs-across, Contains-first, Contains-later, place-push, slice_get-append_left, slice_get-middle, IsClosed}
+use Rattle.kept_fronts.proofs.Common.{places, Stands, Front, Level}
 use Rattle.std.proofs.Math.Seq.{take-append_seam}
-use Rattle.std.proofs.lemmas.List.{append-nil, append_assoc, get_or_default, get_or-reverse, length-append, length-map, length-reverse, reverse-append, take-append-le, take_at}
-use Rattle.std.proofs.lemmas.List.Elements.{All-contains, All-push, Contains-push, Contains-push_cases, Contains-append_left}
-use Rattle.std.proofs.lemmas.List.Elements.{Contains-append_right, Contains-append_cases}
-use Rattle.std.proofs.lemmas.List.Quantifiers.{all_pairs_push}
-use Rattle.std.proofs.lemmas.Option.{same_Some, slice_get_within, slice_get-map}
-use Rattle.events.specs.declared.operation.Operation.{Operation}
-use Rattle.map_object.specs.MapObject.{Contents}
-use Rattle.orders.specs.Orders.{IsLegalCall, IsOrder}
-use Rattle.configurations.specs.Fronts.{PrecedesAt, IsFront}
-use Rattle.configurations.proofs.FrontLemmas.{IsNext, IsOrder-from_front}
-use Rattle.search.specs.Standing.{pairs_after}
-use Rattle.list_laws.proofs.Lists.{All-front, AllPairs-front, AllPairs-across, Contains-first, Contains-later}
-use Rattle.list_laws.proofs.Lists.{place-push, slice_get-append_left, slice_get-middle}
-use Rattle.kept_fronts.specs.Closed.{IsClosed}
 use Rattle.kept_fronts.specs.Mending.{HasCompleted, GoesOn}
-use Rattle.kept_fronts.specs.Standing.{places, Stands}
-use Rattle.kept_fronts.specs.declared.front.Front.{Front}
-use Rattle.kept_fronts.specs.declared.front.Level.{Level}
 use Rattle.kept_fronts.proofs.ClosedLemmas.{below-closed, known_at, next_at, more_at}
 
 -- ---- closed lists, call by call
@@ -138,7 +126,7 @@ closed-swap calls path last place rest apart h =
 
 -- ---- calls that were taken back
 
--- calls are pushed from the last one of a list on, and so many are left
+-- calls are pushed from the last one of a list on, and this many are left
 module _ (start : Contents) (calls : List Operation) (path back now : List ℕ) (depth : ℕ) (left : 0 < depth) (within : depth ≤ length back)
     (now_is : now ≡ path ++ take (length back - depth) (reverse back)) where
   below : length back - depth < length (reverse back)
@@ -155,7 +143,7 @@ module _ (start : Contents) (calls : List Operation) (path back now : List ℕ) 
   known-reversed h =
       subst (λ n. n < length calls) read (known_at start calls path (reverse back) now (length back - depth) below now_is h)
 
-  -- it may come next where it is legal
+  -- the next call may come next if it is legal
   pub next-reversed : (a : Operation) → slice_get calls (get_or back (depth - 1) 0) ≡ Some a → (m : Contents) → m ≡ pairs_after start calls now
       → IsClosed calls (path ++ reverse back) → IsLegalCall m a.call a.response → IsNext start calls now (get_or back (depth - 1) 0)
   next-reversed a here m m_is h legal =

@@ -1,22 +1,11 @@
--- How a front stands after a call is pushed or taken back.
-use Rattle.std.proofs.Common.{◌≡◌, ℕ, ◌<◌, ◌≤◌, Bool, true, false, List, Some, [], ◌∷◌, ◌++◌, length, take, set, get_or}
-use Rattle.std.proofs.Common.{sym, ap, ◌∙◌, subst, ⊎_elim, arith}
-use Rattle.std.specs.Prelude.{◌⊎◌, slice_get}
-use Rattle.std.proofs.lemmas.List.{map-append, take-append-le, take_all, length-map}
-use Rattle.std.proofs.lemmas.Option.{slice_get_within}
-use Rattle.events.specs.declared.operation.Operation.{Operation}
-use Rattle.map_object.specs.MapObject.{Contents}
-use Rattle.orders.specs.Orders.{after_call}
-use Rattle.orders.proofs.OrderLemmas.{after_calls-push}
-use Rattle.configurations.specs.Fronts.{IsFront}
-use Rattle.configurations.proofs.FrontLemmas.{IsNext, IsNext-from_front, IsFront-next, IsFront-front}
-use Rattle.list_laws.proofs.Lists.{place-push, slice_get-append_left, slice_get-middle}
+-- The state of a front after a call is pushed or taken back.
+use Rattle.kept_fronts.proofs.Common.{◌≡◌, ℕ, ◌<◌, ◌≤◌, Bool, true, false, List, Some, [], ◌∷◌, ◌++◌, length, take, set, get_or, sym, ap, ◌∙◌, subst}
+use Rattle.kept_fronts.proofs.Common.{⊎_elim, arith, ◌⊎◌, slice_get, map-append, take-append-le, take_all, length-map, slice_get_within, Operation}
+use Rattle.kept_fronts.proofs.Common.{Contents, after_call, after_calls-push, IsFront, IsNext, IsNext-from_front, IsFront-next, IsFront-front}
+use Rattle.kept_fronts.proofs.Common.{place-push, slice_get-append_left, slice_get-middle, pairs_after, places, IsUndone, StandsWith, Level}
 use Rattle.search.specs.Undo.{undone}
-use Rattle.search.specs.Standing.{pairs_after}
 use Rattle.call_choices.specs.Standing.{AreMarked}
 use Rattle.call_choices.proofs.MarkLemmas.{marked-push, marked-pop}
-use Rattle.kept_fronts.specs.Standing.{places, IsUndone, StandsWith}
-use Rattle.kept_fronts.specs.declared.front.Level.{Level}
 
 pub places-push : (levels : List Level) (level : Level) → places (levels ++ level ∷ []) ≡ places levels ++ level.place ∷ []
 places-push levels level = map-append (λ (l : Level). l.place) levels (level ∷ [])
@@ -24,7 +13,7 @@ places-push levels level = map-append (λ (l : Level). l.place) levels (level �
 length-places : (levels : List Level) → length (places levels) ≡ length levels
 length-places levels = length-map levels (λ (l : Level). l.place)
 
--- a front whose parts are these stands so
+-- a front whose parts are equal to these is in the same state
 pub stands-same : (start : Contents) (calls : List Operation) (levels l : List Level) (pairs m : Contents) (taken t : List Bool) (low : ℕ)
     → l ≡ levels → m ≡ pairs → t ≡ taken → StandsWith start calls levels pairs taken low → StandsWith start calls l m t low
 stands-same start calls levels l pairs m taken t low l_is m_is t_is s =
@@ -32,7 +21,7 @@ stands-same start calls levels l pairs m taken t low l_is m_is t_is s =
     (subst (λ x. StandsWith start calls levels x t low) (sym m_is)
     (subst (λ x. StandsWith start calls levels pairs x low) (sym t_is) s))
 
--- and so from the same pairs, and above the same place
+-- a front is in the same state from equal pairs, and above an equal place
 pub stands-as : (calls : List Operation) (start s : Contents) (levels l : List Level) (pairs m : Contents) (taken t : List Bool) (low k : ℕ)
     → s ≡ start → l ≡ levels → m ≡ pairs → t ≡ taken → k ≡ low → StandsWith start calls levels pairs taken low → StandsWith s calls l m t k
 stands-as calls start s levels l pairs m taken t low k s_is l_is m_is t_is k_is h =

@@ -1,12 +1,7 @@
 -- Calls that are taken back, the last one first.
-use Rattle.std.proofs.Common.{◌≡◌, ℕ, List, [], ◌∷◌, ◌++◌, refl, sym, ap, ◌∙◌, subst, ⊎_elim}
-use Rattle.std.specs.Prelude.{reverse, Contains}
-use Rattle.std.proofs.lemmas.List.{append-nil, append_assoc, reverse-append}
-use Rattle.std.proofs.lemmas.List.Elements.{Contains-push_cases}
-use Rattle.events.specs.declared.operation.Operation.{Operation}
-use Rattle.map_object.specs.MapObject.{Contents}
-use Rattle.kept_fronts.specs.Standing.{places, Stands, IsFromOn}
-use Rattle.kept_fronts.specs.declared.front.Front.{Front}
+use Rattle.kept_fronts.proofs.Common.{◌≡◌, ℕ, List, [], ◌∷◌, ◌++◌, refl, sym, ap, ◌∙◌, subst, ⊎_elim, Contains, append-nil, append_assoc}
+use Rattle.kept_fronts.proofs.Common.{reverse-append, Contains-push_cases, Operation, Contents, places, Stands, IsFromOn, Front}
+use Rattle.std.specs.Prelude.{reverse}
 
 -- a front from which these calls were taken back, so far
 pub record IsBackTo (start : Contents) (calls : List Operation) (path : List ℕ) (place : ℕ) (front : Front) (again : List ℕ) : Type 0 where

@@ -1,4 +1,4 @@
--- Lists of calls that are fronts but for their answers, and calls that are left.
+-- Lists of calls that are fronts except for their answers, and calls that are left.
 use Rattle.std.specs.Prelude.{◌≡◌, ◌≢◌, ◌↔◌, ℕ, ◌<◌, List, length, Some, slice_get, take, All, AllPairs, Contains}
 use Rattle.events.specs.declared.operation.Operation.{Operation}
 use Rattle.configurations.specs.Fronts.{PrecedesAt}

@@ -1,9 +1,9 @@
--- Where a front stands: what its stack, its map and its marks say of the calls that are in it.
-use Rattle.std.specs.Prelude.{◌≡◌, ℕ, ◌+◌, ◌<◌, ◌^◌, Bool, List, [], ◌∷◌, ◌++◌, length, map, take, Option, Some, None, slice_get, AllPairs, ⊤}
+-- The state of a front: what its stack, its map and its marks say of the calls that are in it.
+use Rattle.std.specs.Prelude.{◌≡◌, ℕ, ◌+◌, ◌<◌, ◌^◌, Bool, List, [], ◌∷◌, ◌++◌, length, map, take, Option, Some, None, slice_get, AllPairs, Contains, ⊤}
 use Rattle.events.specs.declared.operation.Operation.{Operation}
 use Rattle.events.specs.Precedence.{NonePrecedesItself}
 use Rattle.map_object.specs.MapObject.{Contents}
-use Rattle.orders.specs.Orders.{IsOrder}
+use Rattle.orders.specs.Orders.{IsCompletedAt, IsOrder}
 use Rattle.configurations.specs.Fronts.{IsFront}
 use Rattle.search.specs.Standing.{pairs_after}
 use Rattle.search.specs.Undo.{undone}
@@ -20,7 +20,7 @@ abbrev pub IsUndone : Contents → List Operation → List ℕ → Level → Typ
 IsUndone start calls path level =
     undone (pairs_after start calls (path ++ level.place ∷ [])) level.undo ≡ pairs_after start calls path
 
--- a front stands here
+-- this is the state of a front
 pub record StandsWith (start : Contents) (calls : List Operation) (levels : List Level) (pairs : Contents) (taken : List Bool)
     (low : ℕ) : Type 0 where
   pub is_front : IsFront start calls (places levels)
@@ -30,6 +30,10 @@ pub record StandsWith (start : Contents) (calls : List Operation) (levels : List
 
 abbrev pub Stands : List Operation → Front → Type 0
 Stands calls front = StandsWith front.start calls front.levels.items front.map front.taken.items front.low
+
+-- the completed calls below a place are in a list
+abbrev pub HasBelow : List Operation → List ℕ → ℕ → Type 0
+HasBelow calls path from = (n : ℕ) → n < from → IsCompletedAt calls n → Contains path n
 
 -- the front is an order of the calls
 abbrev pub IsWhole : List Operation → Front → Type 0

@@ -4,7 +4,7 @@ ghost use Rattle.events.specs.Precedence.{NonePrecedesItself};
 ghost use Rattle.kept_fronts.specs.Standing.{Stands};
 
 use crate::front::Front;
-use crate::guessing::try_next;
+use crate::guessing::{first_left, try_after};
 use events::{Call, Memory, Operation, Reply};
 use map_object::SortedMap;
 use orders::may_come_next;
@@ -16,9 +16,9 @@ const MOST: usize = 64;
 
 /// A value that a key is to have, or none.
 #[derive(Clone, Copy)]
-struct Need {
-    key: u64,
-    value: Option<u64>,
+pub(crate) struct Need {
+    pub(crate) key: u64,
+    pub(crate) value: Option<u64>,
 }
 
 /// Pushes calls that are guessed one after another, until none is guessed: a read that may come
@@ -33,12 +33,13 @@ pub fn follow_chains(alloc: Global, calls: &[Operation], front: &mut Front) -> R
     ensures stands { OnOk result (Stands calls.now front.new) }
     ensures start { OnOk result (front.new.start ≡ front.old.start) }
 {
+    let from = first_left(calls, front);
     for _ in 0..calls.len() {
-        let Some(place) = next_place(calls, front) else {
+        let Some(place) = next_place(calls, front, from) else {
             return Ok(());
         };
         let len = front.levels.len();
-        try_next(alloc, calls, front, place)?;
+        try_after(alloc, calls, front, place, from)?;
         if front.levels.len() == len {
             return Ok(());
         }
@@ -46,22 +47,23 @@ pub fn follow_chains(alloc: Global, calls: &[Operation], front: &mut Front) -> R
     Ok(())
 }
 
-/// The place of the call that is guessed to come next.
-fn next_place(calls: &[Operation], front: &Front) -> Option<u32>
+/// The place of the call that is guessed to come next, where all completed calls before a place
+/// are in the front.
+fn next_place(calls: &[Operation], front: &Front, from: usize) -> Option<u32>
     requires { Stands calls.now front.now }
 {
-    match next_of_chain(calls, front) {
+    match next_of_chain(calls, front, from) {
         Some(place) => u32::try_from(place).ok(),
         None => None,
     }
 }
 
-/// The call that is guessed to come next.
-fn next_of_chain(calls: &[Operation], front: &Front) -> Option<usize>
+/// The call that is guessed to come next, where all completed calls before a place are in the front.
+fn next_of_chain(calls: &[Operation], front: &Front, from: usize) -> Option<usize>
     requires { Stands calls.now front.now }
 {
-    let (target, answered) = first_answered(calls, front)?;
-    if let Some(read) = next_read(calls, front, answered) {
+    let (target, answered) = first_answered(calls, front, from)?;
+    if let Some(read) = next_read(calls, front, from, answered) {
         return Some(read);
     }
     let call = calls.get(target)?;
@@ -78,13 +80,13 @@ fn next_of_chain(calls: &[Operation], front: &Front) -> Option<usize>
     head(calls, front, answered, need, here)
 }
 
-/// Of the calls that are left the one that was answered first, and when.
-fn first_answered(calls: &[Operation], front: &Front) -> Option<(usize, usize)>
+/// The call that was answered first among those that are left, and when.
+fn first_answered(calls: &[Operation], front: &Front, from: usize) -> Option<(usize, usize)>
     requires { Stands calls.now front.now }
 {
     let mut first = None;
     let mut earliest = usize::MAX;
-    for place in front.low..calls.len() {
+    for place in from..calls.len() {
         if earliest < calls[place].inv {
             return first;
         }
@@ -106,10 +108,10 @@ fn answer_of(call: &Operation) -> usize {
 }
 
 /// A read that may come next.
-fn next_read(calls: &[Operation], front: &Front, answered: usize) -> Option<usize>
+fn next_read(calls: &[Operation], front: &Front, from: usize, answered: usize) -> Option<usize>
     requires { Stands calls.now front.now }
 {
-    for place in front.low..calls.len() {
+    for place in from..calls.len() {
         let call = &calls[place];
         if answered < call.inv {
             return None;
@@ -121,8 +123,8 @@ fn next_read(calls: &[Operation], front: &Front, answered: usize) -> Option<usiz
     None
 }
 
-/// What a call found at a key, where the map has something else.
-fn need_of(map: &SortedMap, call: &Operation) -> Option<Need> {
+/// What a call found at a key at which the map has something else.
+pub(crate) fn need_of(map: &SortedMap, call: &Operation) -> Option<Need> {
     let Some(response) = &call.response else {
         return None;
     };
@@ -212,8 +214,8 @@ fn found_by(call: &Operation) -> Option<Option<u64>> {
     }
 }
 
-/// The call with which a chain begins that leads from what a key has to what it is to have. If
-/// there is none, but the key has a value, then one that leads from there to none.
+/// The call with which a chain begins that leads from a key's value to the one that it is to have.
+/// If there is none, but the key has a value, it is one that leads from there to none.
 fn head(
     calls: &[Operation],
     front: &Front,
@@ -261,8 +263,8 @@ fn beginning(
     None
 }
 
-/// Of the calls that are left, and may put a value, or none, at a key, the one that was answered
-/// first, or else a pending one.
+/// A call that is left and may put a value, or none, at a key: the one that was answered first, or
+/// else a pending one.
 fn writer(calls: &[Operation], front: &Front, answered: usize, need: Need) -> Option<usize>
     requires { Stands calls.now front.now }
 {
@@ -285,7 +287,7 @@ fn writer(calls: &[Operation], front: &Front, answered: usize, need: Need) -> Op
 }
 
 /// Whether a call puts a value, or none, at a key.
-fn puts(call: &Call, need: Need) -> bool {
+pub(crate) fn puts(call: &Call, need: Need) -> bool {
     match call {
         Call::Insert(key, value) | Call::Replace(key, _, value) => *key == need.key
             && need.value == Some(*value),

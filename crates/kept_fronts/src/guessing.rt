@@ -4,7 +4,7 @@ ghost use Rattle.events.specs.Precedence.{NonePrecedesItself};
 ghost use Rattle.orders.specs.Orders.{IsCompletedAt};
 ghost use Rattle.configurations.specs.Fronts.{PrecedesAt};
 ghost use Rattle.configurations.proofs.FrontLemmas.{IsNext};
-ghost use Rattle.kept_fronts.specs.Standing.{places, Stands, IsWhole};
+ghost use Rattle.kept_fronts.specs.Standing.{places, Stands, HasBelow, IsWhole};
 
 use crate::front::Front;
 use crate::pushing::push;
@@ -45,17 +45,41 @@ pub fn try_next(
     ensures stands { OnOk result (Stands calls.now front.new) }
     ensures start { OnOk result (front.new.start ≡ front.old.start) }
 {
-    if !may_be_next(calls, front, place as usize) {
-        return Ok(());
-    }
-    push(alloc, calls, front, place)
+    let from = front.low;
+    try_after(alloc, calls, front, place, from)
 }
 
-/// Whether a call may come next. Any number is allowed.
-fn may_be_next(calls: &[Operation], front: &Front, place: usize) -> bool
+/// Pushes a call if it may come next, where the completed calls below a place are in the front. Any
+/// number is allowed.
+pub fn try_after(
+    alloc: Global,
+    calls: &[Operation],
+    front: &mut Front,
+    place: u32,
+    from: usize,
+) -> Result<(), Memory>
+    requires rising { AllPairs (λ a b. a.inv < b.inv) calls.now }
+    requires apart { NonePrecedesItself calls.now }
+    requires stands { Stands calls.now front.old }
+    requires below { HasBelow calls.now (places front.old.levels.items) from }
+    ensures stands { OnOk result (Stands calls.now front.new) }
+    ensures start { OnOk result (front.new.start ≡ front.old.start) }
+    ensures below { OnOk result (HasBelow calls.now (places front.new.levels.items) from) }
+{
+    if !may_be_next(calls, front, place as usize, from) {
+        return Ok(());
+    }
+    push(alloc, calls, front, place)?;
+    Ok(())
+}
+
+/// Whether a call may come next, where the completed calls below a place are in the front. Any
+/// number is allowed.
+fn may_be_next(calls: &[Operation], front: &Front, place: usize, from: usize) -> bool
     requires rising { AllPairs (λ a b. a.inv < b.inv) calls.now }
     requires apart { NonePrecedesItself calls.now }
     requires stands { Stands calls.now front.now }
+    requires below { HasBelow calls.now (places front.now.levels.items) from }
     ensures { result ≡ true → IsNext front.now.start calls.now (places front.now.levels.items)
         place }
 {
@@ -65,22 +89,24 @@ fn may_be_next(calls: &[Operation], front: &Front, place: usize) -> bool
     if front.has(place) {
         return false;
     }
-    if is_preceded(calls, front, place) {
+    if is_preceded(calls, front, place, from) {
         return false;
     }
     may_come_next(&front.map, &calls[place])
 }
 
-/// Whether a call that is not in the front precedes a call. Only one that was invoked before may.
-fn is_preceded(calls: &[Operation], front: &Front, place: usize) -> bool
+/// Whether a call that is not in the front precedes a call. Only one that was invoked before may,
+/// and was answered, so none below the place from which on completed calls may be left.
+fn is_preceded(calls: &[Operation], front: &Front, place: usize, from: usize) -> bool
     requires rising { AllPairs (λ a b. a.inv < b.inv) calls.now }
     requires apart { NonePrecedesItself calls.now }
     requires stands { Stands calls.now front.now }
     requires known { place < length calls.now }
+    requires below { HasBelow calls.now (places front.now.levels.items) from }
     ensures { result ≡ false → (m : ℕ) → PrecedesAt calls.now m place
         → Contains (places front.now.levels.items) m }
 {
-    for earlier in front.low..place {
+    for earlier in from..place {
         if is_left_before(calls, front, earlier, place) {
             return true;
         }
@@ -100,6 +126,19 @@ fn is_left_before(calls: &[Operation], front: &Front, earlier: usize, place: usi
         return false;
     }
     is_ended(&calls[earlier], calls[place].inv)
+}
+
+/// The place of the first completed call that is not in the front, or else how many calls there are.
+pub fn first_left(calls: &[Operation], front: &Front) -> usize
+    requires { Stands calls.now front.now }
+    ensures { HasBelow calls.now (places front.now.levels.items) result }
+{
+    for place in front.low..calls.len() {
+        if is_missing(calls, front, place) {
+            return place;
+        }
+    }
+    calls.len()
 }
 
 /// Whether the front is an order: no completed call is left.

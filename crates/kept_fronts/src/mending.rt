@@ -19,10 +19,11 @@ const WORK_OF_CALL: usize = 4;
 const LEAST_WORK: usize = 64;
 
 /// Puts a call that is not in the front at the last place of the order that allows it, and says
-/// whether one does: the map answers the call so there, and then the calls after it as they were. A
-/// place before a call that precedes it is not tried. Otherwise the front stays as it was. A try
-/// costs the call and those after it, up to the first that the map answers otherwise. No try begins
-/// after 64 calls were taken back and 4 for each call of the front.
+/// whether one does. A place allows it if the map answers the call so there, and then the calls
+/// after it as they were. A place before a call that precedes it is not tried. If no place allows
+/// it, the front stays as it was. A try costs the call and those after it, up to the first that the
+/// map answers otherwise. No try begins after 64 calls were taken back and 4 for each call of the
+/// front.
 pub fn mend(
     alloc: Global,
     calls: &[Operation],
@@ -83,8 +84,8 @@ fn put_back(
     Ok(false)
 }
 
-/// Pushes a call, and then those that were taken back, the last one of these first, and says
-/// whether all could be: each has to be answered as the map answers it there.
+/// Pushes a call, and then the calls of `back`, the last one first. Returns whether all could be
+/// pushed: each has to be answered as the map answers it there.
 fn try_here(
     alloc: Global,
     calls: &[Operation],

@@ -99,7 +99,7 @@ pub fn pop(alloc: Global, calls: &[Operation], front: &mut Front) -> Result<Opti
     Ok(Some(place))
 }
 
-/// Takes the last calls back until so many are left, or fewer if the front has fewer.
+/// Takes the last calls back until this many are left, or fewer if the front has fewer.
 pub fn go_back(
     alloc: Global,
     calls: &[Operation],
@@ -119,7 +119,7 @@ pub fn go_back(
 }
 
 /// Takes a call of the front back, with those after it, and says which these are. None is taken
-/// back where the call is not in the front.
+/// back if the call is not in the front.
 pub fn take_back(
     alloc: Global,
     calls: &[Operation],

@@ -1,31 +1,15 @@
 -- A pending call is answered after all else: which call precedes which stays, and so do fronts without it.
-use Rattle.std.proofs.Common.{◌≡◌, ℕ, ◌+◌, ◌<◌, ◌≤◌, Bool, true, false, List, Some, [], ◌∷◌, ◌++◌, length, take, drop, set, refl, sym, ap, ◌∙◌}
-use Rattle.std.proofs.Common.{subst, inl, inr, ⊎_elim, arith, nat_eq, nat_lt}
-use Rattle.std.specs.Prelude.{◌≢◌, ◌⊎◌, ◌^◌, slice_get, IsTrue, IsSomeAnd, All, Contains}
-use Rattle.std.specs.List.{cons_option}
-use Rattle.std.proofs.lemmas.Bool.{false_from_ne_true, both_ways, cases_order, cases_lt}
+use Rattle.kept_orders.proofs.Common.{◌≡◌, ℕ, ◌+◌, ◌<◌, ◌≤◌, Bool, true, false, List, Some, [], ◌∷◌, ◌++◌, length, take, drop, set, refl, sym, ap}
+use Rattle.kept_orders.proofs.Common.{◌∙◌, subst, inl, inr, ⊎_elim, arith, nat_eq, nat_lt, ◌≢◌, ◌⊎◌, ◌^◌, slice_get, IsTrue, IsSomeAnd, All, Contains}
+use Rattle.kept_orders.proofs.Common.{cons_option, false_from_ne_true, both_ways, cases_order, cases_lt, append-nil, drop_all, take_all, length-set}
+use Rattle.kept_orders.proofs.Common.{get_or-set_same, get_or-set_other, get_or_default, take-append-le, take_at, Contains-push, Contains-push_cases}
+use Rattle.kept_orders.proofs.Common.{Contains-append_left, Contains-append_right, All-push, all_pairs_push, same_Some, slice_get_within}
+use Rattle.kept_orders.proofs.Common.{slice_get-get_or, slice_get_past, Operation, Response, is_completed, is_before, precedes, Contents, calls_at}
+use Rattle.kept_orders.proofs.Common.{after_calls, IsLegal, IsCompletedAt, PrecedesAt, IsFront, IsCompletedAt-from_PrecedesAt, undone, AreMarked}
+use Rattle.kept_orders.proofs.Common.{AllPairs-at, AllPairs-from_at, All-at, All-from_contains, Contains-at, Contains-first, Contains-later}
+use Rattle.kept_orders.proofs.Common.{place_of-Contains, place_before-Contains, place-push, Contains-map, answered_call, answered, set_answer}
+use Rattle.kept_orders.proofs.Common.{MayBeAnswered, places, StandsWith, AreCalls, again_or, IsFromOn, IsClosed, HasCompleted, Level}
 use Rattle.std.proofs.lemmas.Bool.Decides.{nat_tests}
-use Rattle.std.proofs.lemmas.List.{append-nil, drop_all, take_all, length-set, get_or-set_same, get_or-set_other, get_or_default, take-append-le, take_at}
-use Rattle.std.proofs.lemmas.List.Elements.{Contains-push, Contains-push_cases, Contains-append_left, Contains-append_right, All-push}
-use Rattle.std.proofs.lemmas.List.Quantifiers.{all_pairs_push}
-use Rattle.std.proofs.lemmas.Option.{same_Some, slice_get_within, slice_get-get_or, slice_get_past}
-use Rattle.events.specs.declared.operation.Operation.{Operation}
-use Rattle.events.specs.declared.operation.Response.{Response}
-use Rattle.events.specs.Precedence.{is_completed, is_before, precedes}
-use Rattle.map_object.specs.MapObject.{Contents}
-use Rattle.orders.specs.Orders.{calls_at, after_calls, IsLegal, IsCompletedAt}
-use Rattle.configurations.specs.Fronts.{PrecedesAt, IsFront}
-use Rattle.configurations.proofs.FrontLemmas.{IsCompletedAt-from_PrecedesAt}
-use Rattle.search.specs.Undo.{undone}
-use Rattle.call_choices.specs.Standing.{AreMarked}
-use Rattle.list_laws.proofs.Lists.{AllPairs-at, AllPairs-from_at, All-at, All-from_contains, Contains-at, Contains-first, Contains-later}
-use Rattle.list_laws.proofs.Lists.{place_of-Contains, place_before-Contains, place-push}
-use Rattle.list_laws.proofs.FilterLemmas.{Contains-map}
-use Rattle.kept_orders.specs.Views.{answered_call, answered, set_answer, MayBeAnswered}
-use Rattle.kept_fronts.specs.Standing.{places, StandsWith, AreCalls, again_or, IsFromOn}
-use Rattle.kept_fronts.specs.Closed.{IsClosed}
-use Rattle.kept_fronts.specs.Mending.{HasCompleted}
-use Rattle.kept_fronts.specs.declared.front.Level.{Level}
 
 slice_get-set_same : (xs : List Operation) (n : ℕ) (a : Operation) → n < length xs → slice_get (set xs n a) n ≡ Some a
 slice_get-set_same xs n a lt =
@@ -90,7 +74,7 @@ module _ (calls : List Operation) (n : ℕ) (response : Response) (may : MayBeAn
       })
       (cases_order k n)
 
-  -- its response comes after each invocation
+  -- the response of the answered call comes after each invocation
   above : (k : ℕ) (b : Operation) → slice_get after k ≡ Some b → b.inv < response.res
   above k b is =
       let old = before k b is in
@@ -139,7 +123,7 @@ module _ (calls : List Operation) (n : ℕ) (response : Response) (may : MayBeAn
     legal = subst (IsLegal start) (sym (calls_at_same path out)) h.legal;
   }
 
-  -- a front without the call stands as before
+  -- a front without the call is in the same state as before
   pub stands_after : (start : Contents) (levels : List Level) (pairs : Contents) (taken : List Bool) (low : ℕ)
       → (Contains (places levels) n → ⊥) → StandsWith start calls levels pairs taken low → StandsWith start after levels pairs taken low
   stands_after start levels pairs taken low out s = record {

@@ -1,27 +1,11 @@
 -- A pending call is invoked after all others: an order of these stays one.
-use Rattle.std.proofs.Common.{◌≡◌, ℕ, ◌+◌, ◌<◌, ◌≤◌, Bool, false, List, None, [], ◌∷◌, ◌++◌, length, take, get_or, refl, sym, ap, ◌∙◌}
-use Rattle.std.proofs.Common.{subst, ⊎_elim, arith}
-use Rattle.std.specs.Prelude.{◌^◌, slice_get, IsTrue, IsSomeAnd, is_some, All}
-use Rattle.std.specs.List.{cons_option}
-use Rattle.std.proofs.lemmas.Bool.{false_from_ne_true, both_ways, cases_lt}
-use Rattle.std.proofs.lemmas.List.{length-append}
-use Rattle.std.proofs.lemmas.List.Elements.{All-push, All-head, All-tail, All-contains}
-use Rattle.std.proofs.lemmas.List.Quantifiers.{all_pairs_push}
-use Rattle.std.proofs.lemmas.Option.{slice_get_within, slice_get-get_or, get_or_from_slice_get}
-use Rattle.events.specs.declared.operation.Operation.{Operation}
-use Rattle.events.specs.Precedence.{is_completed, is_before, precedes}
-use Rattle.map_object.specs.MapObject.{Contents}
-use Rattle.orders.specs.Orders.{calls_at, after_calls, IsLegal, IsCompletedAt, IsOrder}
-use Rattle.configurations.specs.Fronts.{PrecedesAt, IsFront}
-use Rattle.configurations.proofs.FrontLemmas.{IsOrder-from_front}
-use Rattle.search.specs.Undo.{undone}
-use Rattle.call_choices.specs.Standing.{AreMarked}
-use Rattle.list_laws.specs.Lists.{has_number}
-use Rattle.list_laws.proofs.Lists.{Contains-at, place_before-Contains, place-push, slice_get-append_left, slice_get-middle, All-from_contains}
-use Rattle.list_laws.proofs.FilterLemmas.{Contains-map}
-use Rattle.list_laws.proofs.NumberLemmas.{has_number-Contains, some_at}
-use Rattle.kept_fronts.specs.Standing.{places, StandsWith, AreCalls}
-use Rattle.kept_fronts.specs.declared.front.Level.{Level}
+use Rattle.kept_orders.proofs.Common.{◌≡◌, ℕ, ◌+◌, ◌<◌, ◌≤◌, Bool, false, List, None, [], ◌∷◌, ◌++◌, length, take, get_or, refl, sym, ap, ◌∙◌, subst}
+use Rattle.kept_orders.proofs.Common.{⊎_elim, arith, ◌^◌, slice_get, IsTrue, IsSomeAnd, is_some, All, cons_option, false_from_ne_true, both_ways}
+use Rattle.kept_orders.proofs.Common.{cases_lt, length-append, All-push, All-head, All-tail, All-contains, all_pairs_push, slice_get_within}
+use Rattle.kept_orders.proofs.Common.{slice_get-get_or, get_or_from_slice_get, Operation, is_completed, is_before, precedes, Contents, calls_at}
+use Rattle.kept_orders.proofs.Common.{after_calls, IsLegal, IsCompletedAt, IsOrder, PrecedesAt, IsFront, IsOrder-from_front, undone, AreMarked}
+use Rattle.kept_orders.proofs.Common.{has_number, Contains-at, place_before-Contains, place-push, slice_get-append_left, slice_get-middle}
+use Rattle.kept_orders.proofs.Common.{All-from_contains, Contains-map, has_number-Contains, some_at, places, StandsWith, AreCalls, Level}
 
 -- one mark more, of a call that is not in the front
 marked_more : (size : ℕ) (path : List ℕ) (taken : List Bool) (low : ℕ) → All (λ k. k < size) path → AreMarked size path taken low

@@ -1,13 +1,6 @@
 -- Orders that were found are kept.
-use Rattle.std.proofs.Common.{◌≡◌, List, refl, sym, subst}
-use Rattle.events.specs.declared.operation.Operation.{Operation}
-use Rattle.map_object.specs.MapObject.{Contents}
-use Rattle.orders.specs.Orders.{IsOrder}
-use Rattle.kept_orders.specs.Views.{KeptOrderView}
-use Rattle.kept_fronts.specs.Standing.{places, IsWhole}
-use Rattle.kept_orders.specs.Keeping.{view_of}
-use Rattle.kept_orders.specs.Answers.{Keeps}
-use Rattle.kept_fronts.specs.declared.front.Front.{Front}
+use Rattle.kept_orders.proofs.Common.{◌≡◌, List, refl, sym, subst, Operation, Contents, IsOrder, KeptOrderView, places, IsWhole, view_of, Keeps}
+use Rattle.kept_orders.proofs.Common.{Front}
 
 -- what holds of a map and a list of calls holds of the same ones
 pub over : (P : Contents → List Operation → Type 0) (m start : Contents) (list calls : List Operation) → m ≡ start → list ≡ calls → P m list

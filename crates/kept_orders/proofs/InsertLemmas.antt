@@ -1,23 +1,12 @@
 -- A call comes to calls by rising invocation.
-use Rattle.std.proofs.Common.{◌≡◌, ℕ, ◌+◌, ◌<◌, ◌≤◌, true, false, List, length, get_or, take, drop, refl, sym, subst}
-use Rattle.std.proofs.Common.{arith, nat_lt, ⊎_elim, Result}
-use Rattle.std.specs.Prelude.{◌≢◌, ◌⊎◌, ◌^◌, All, AllPairs, IfOk}
-use Rattle.std.specs.List.{AllWithin, insert}
+use Rattle.kept_orders.proofs.Common.{◌≡◌, ℕ, ◌+◌, ◌<◌, ◌≤◌, true, false, List, length, get_or, take, drop, refl, sym, subst, arith, nat_lt, ⊎_elim}
+use Rattle.kept_orders.proofs.Common.{Result, ◌≢◌, ◌⊎◌, ◌^◌, All, AllPairs, IfOk, AllWithin, insert, ltb-true, ltb-false, take-append-drop}
+use Rattle.kept_orders.proofs.Common.{get_or-take, get_or-drop, length-drop, length-take, All-contains, All-front, All-back, All-from_contains}
+use Rattle.kept_orders.proofs.Common.{Contains-map, Operation, precedes, NonePrecedesItself, Contents, HasCome, places, AreCalls, IsAnswer}
+use Rattle.kept_orders.proofs.Common.{IsAnswerWith, Level}
 use Rattle.std.specs.List.Sorted.{IsNonDecreasingBy}
-use Rattle.std.proofs.lemmas.Bool.{ltb-true, ltb-false}
-use Rattle.std.proofs.lemmas.List.{take-append-drop, get_or-take, get_or-drop, length-drop, length-take}
-use Rattle.std.proofs.lemmas.List.Elements.{All-contains}
 use Rattle.std.proofs.lemmas.Result.{IfOk-weaker}
 use Rattle.quiet_cuts.proofs.AroundLemmas.{All-around, AllPairs-around}
-use Rattle.list_laws.proofs.Lists.{All-front, All-back, All-from_contains}
-use Rattle.list_laws.proofs.FilterLemmas.{Contains-map}
-use Rattle.events.specs.declared.operation.Operation.{Operation}
-use Rattle.events.specs.Precedence.{precedes, NonePrecedesItself}
-use Rattle.map_object.specs.MapObject.{Contents}
-use Rattle.kept_orders.specs.Views.{HasCome}
-use Rattle.kept_fronts.specs.Standing.{places, AreCalls}
-use Rattle.kept_orders.specs.Answers.{IsAnswer, IsAnswerWith}
-use Rattle.kept_fronts.specs.declared.front.Level.{Level}
 use Rattle.kept_orders.specs.declared.kept.Kept.{Kept}
 use Rattle.kept_orders.proofs.MoveLemmas.{length_more}
 

@@ -1,3 +1,4 @@
+mod Common
 mod AnswerLemmas
 mod BeginLemmas
 mod FindLemmas

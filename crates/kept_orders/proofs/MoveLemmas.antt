@@ -1,33 +1,15 @@
 -- A completed call comes to a place of the list: which call precedes which stays, and so do fronts, by the calls' new places.
-use Rattle.std.proofs.Common.{◌≡◌, ℕ, ◌+◌, ◌-◌, ◌<◌, ◌≤◌, Bool, true, false, List, Some, [], ◌∷◌, ◌++◌, length, take, map, get_or, refl, sym, ap, ◌∙◌}
-use Rattle.std.proofs.Common.{min, subst, inl, inr, ⊎_elim, arith, nat_lt}
-use Rattle.std.specs.Prelude.{◌≢◌, ◌⊎◌, cond, slice_get, option_map, IsTrue, IsSomeAnd, All, AllPairs, Contains}
-use Rattle.std.specs.List.{cons_option, insert}
-use Rattle.std.proofs.lemmas.Bool.{false_from_ne_true, both_ways, cases_order, cases_lt, lt-ltb, le-ltb, ltb-true}
-use Rattle.std.proofs.lemmas.List.{length-map, take-map, map-append, get_or_default, take-append-le, take_at}
-use Rattle.std.proofs.lemmas.List.Edits.{length-insert, get_or-insert_below, get_or-insert_at, get_or-insert_above}
-use Rattle.std.proofs.lemmas.List.Elements.{All-map, All-weaker, All-push, Contains-push, Contains-append_left}
-use Rattle.std.proofs.lemmas.List.Quantifiers.{all_pairs_push}
-use Rattle.std.proofs.lemmas.Option.{same_Some, slice_get_within, slice_get-get_or, slice_get_past, slice_get-map}
-use Rattle.events.specs.declared.operation.Operation.{Operation}
-use Rattle.events.specs.Precedence.{is_completed, is_before, precedes}
-use Rattle.map_object.specs.MapObject.{Contents}
-use Rattle.orders.specs.Orders.{calls_at, after_calls, IsLegal, IsCompletedAt}
-use Rattle.configurations.specs.Fronts.{PrecedesAt, IsFront}
-use Rattle.configurations.proofs.FrontLemmas.{completed}
+use Rattle.kept_orders.proofs.Common.{◌≡◌, ℕ, ◌+◌, ◌-◌, ◌<◌, ◌≤◌, Bool, true, false, List, Some, [], ◌∷◌, ◌++◌, length, take, map, get_or, refl, sym}
+use Rattle.kept_orders.proofs.Common.{ap, ◌∙◌, min, subst, inl, inr, ⊎_elim, arith, nat_lt, ◌≢◌, ◌⊎◌, cond, slice_get, option_map, IsTrue, IsSomeAnd}
+use Rattle.kept_orders.proofs.Common.{All, AllPairs, Contains, cons_option, insert, false_from_ne_true, both_ways, cases_order, cases_lt, lt-ltb}
+use Rattle.kept_orders.proofs.Common.{le-ltb, ltb-true, length-map, take-map, map-append, get_or_default, take-append-le, take_at, length-insert}
+use Rattle.kept_orders.proofs.Common.{get_or-insert_below, get_or-insert_at, get_or-insert_above, All-map, All-weaker, All-push, Contains-push}
+use Rattle.kept_orders.proofs.Common.{Contains-append_left, all_pairs_push, same_Some, slice_get_within, slice_get-get_or, slice_get_past}
+use Rattle.kept_orders.proofs.Common.{slice_get-map, Operation, is_completed, is_before, precedes, Contents, calls_at, after_calls, IsLegal}
+use Rattle.kept_orders.proofs.Common.{IsCompletedAt, PrecedesAt, IsFront, completed, undone, AreMarked, has_number, All-at, place-push, AllPairs-map}
+use Rattle.kept_orders.proofs.Common.{AllPairs-weaker, Contains-map, Contains-from_map, slice_get-below, has_number-Contains}
+use Rattle.kept_orders.proofs.Common.{has_number-from_Contains, MayCome, IsClosed, HasCompleted, moved_up, moved, places, IsUndone, StandsWith, Level}
 use Rattle.search.specs.Standing.{pairs_after}
-use Rattle.search.specs.Undo.{undone}
-use Rattle.call_choices.specs.Standing.{AreMarked}
-use Rattle.list_laws.specs.Lists.{has_number}
-use Rattle.list_laws.proofs.Lists.{All-at, place-push}
-use Rattle.list_laws.proofs.FilterLemmas.{AllPairs-map, AllPairs-weaker, Contains-map, Contains-from_map}
-use Rattle.list_laws.proofs.NumberLemmas.{slice_get-below, has_number-Contains, has_number-from_Contains}
-use Rattle.kept_orders.specs.Views.{MayCome}
-use Rattle.kept_fronts.specs.Closed.{IsClosed}
-use Rattle.kept_fronts.specs.Mending.{HasCompleted}
-use Rattle.kept_orders.specs.Moving.{moved_up, moved}
-use Rattle.kept_fronts.specs.Standing.{places, IsUndone, StandsWith}
-use Rattle.kept_fronts.specs.declared.front.Level.{Level}
 
 -- ---- the new places
 
@@ -240,7 +222,7 @@ module _ (calls : List Operation) (op : Operation) (p : ℕ) (within : p ≤ len
         ∙ h
         ∙ ap (after_calls start) (sym (calls_at_same path))
 
-    -- a front stands as before
+    -- a front is in the same state as before
     pub stands_moved : (start : Contents) (levels : List Level) (pairs : Contents) (taken : List Bool) (low : ℕ)
         → StandsWith start calls levels pairs taken low
         → StandsWith start more (map (moved p) levels) pairs (insert taken p false) (min low p)

@@ -1,21 +1,9 @@
 -- Calls of a front up to one that ended before a place began before that place.
-use Rattle.std.proofs.Common.{◌≡◌, ℕ, ◌+◌, ◌-◌, ◌<◌, ◌≤◌, true, false, List, Option, Some, None, [], ◌∷◌, ◌++◌, length, take, drop, map, get_or, refl, sym, ap, ◌∙◌}
-use Rattle.std.proofs.Common.{subst, ⊎_elim, arith}
-use Rattle.std.specs.Prelude.{◌≢◌, slice_get, option_map, All}
-use Rattle.std.proofs.lemmas.Bool.{both_ways, cases_lt, lt-ltb, ltb-true}
-use Rattle.std.proofs.lemmas.List.{length-drop, length-take, get_or-drop, take-append-drop}
-use Rattle.std.proofs.lemmas.List.Elements.{All-head, All-tail}
-use Rattle.std.proofs.lemmas.Option.{slice_get_within, get_or_from_slice_get, slice_get-get_or, slice_get-map}
-use Rattle.events.specs.declared.operation.Operation.{Operation}
-use Rattle.events.specs.declared.operation.Response.{Response}
-use Rattle.events.specs.Precedence.{is_before, precedes}
-use Rattle.map_object.specs.MapObject.{Contents}
-use Rattle.configurations.specs.Fronts.{IsFront}
-use Rattle.list_laws.proofs.Lists.{All-at, AllPairs-at, place_before-Contains, slice_get-take}
-use Rattle.list_laws.proofs.NumberLemmas.{slice_get-below}
-use Rattle.kept_fronts.specs.Standing.{places}
-use Rattle.kept_fronts.specs.declared.front.Level.{Level}
-use Rattle.kept_orders.specs.Moving.{moved}
+use Rattle.kept_orders.proofs.Common.{◌≡◌, ℕ, ◌+◌, ◌-◌, ◌<◌, ◌≤◌, true, false, List, Option, Some, None, [], ◌∷◌, ◌++◌, length, take, drop, map}
+use Rattle.kept_orders.proofs.Common.{get_or, refl, sym, ap, ◌∙◌, subst, ⊎_elim, arith, ◌≢◌, slice_get, option_map, All, both_ways, cases_lt, lt-ltb}
+use Rattle.kept_orders.proofs.Common.{ltb-true, length-drop, length-take, get_or-drop, take-append-drop, All-head, All-tail, slice_get_within}
+use Rattle.kept_orders.proofs.Common.{get_or_from_slice_get, slice_get-get_or, slice_get-map, Operation, Response, is_before, precedes, Contents}
+use Rattle.kept_orders.proofs.Common.{IsFront, All-at, AllPairs-at, place_before-Contains, slice_get-take, slice_get-below, places, Level, moved}
 use Rattle.kept_orders.proofs.MoveLemmas.{moved_low}
 
 -- what ended before a place ended before a later one
@@ -33,7 +21,7 @@ module _ (start : Contents) (calls : List Operation) (path : List ℕ) (f : IsFr
       subst (λ (a : Operation). inv < a.inv)
       (get_or-drop p calls (n - p) b ∙ ap (λ k. get_or calls k b) (omega (arith, le)) ∙ get_or_from_slice_get calls n b b here) at
 
-  -- none stands up to one that ended before
+  -- each call up to one that ended before is below place p
   pub below_ended : (k d : ℕ) (a : Operation) → slice_get path k ≡ Some d → slice_get calls d ≡ Some a → is_before a.response inv ≡ true
       → (i n : ℕ) → i ≤ k → slice_get path i ≡ Some n → n < p
   below_ended k d a d_here a_here ended i n le here = ⊎_elim (λ lt. lt) (λ high. absurd (not_high high)) (cases_lt n p)
@@ -45,7 +33,7 @@ module _ (start : Contents) (calls : List Operation) (path : List ℕ) (f : IsFr
           let (j, lt, j_here) = place_before-Contains path i d (f.closed i d n here (a, b, a_here, b_here, e)) in
           AllPairs-at (λ x y. x ≢ y) path j k d d f.distinct (omega (arith, lt, le)) j_here d_here refl
 
--- and so do levels
+-- each level up to one of a call that ended before is below place p
 pub levels_below : (levels : List Level) (k p : ℕ) → ((i n : ℕ) → i ≤ k → slice_get (places levels) i ≡ Some n → n < p)
     → All (λ (level : Level). level.place < p) (take (k + 1) levels)
 levels_below levels k p below i d within =
@@ -65,7 +53,7 @@ moved_none p (level ∷ levels) h =
     ap (λ n. record { place = n; undo = level.undo } ∷ map (moved p) levels) (moved_low p level.place (All-head (λ (l : Level). l.place < p) level levels h))
     ∙ ap (λ rest. level ∷ rest) (moved_none p levels (All-tail (λ (l : Level). l.place < p) level levels h))
 
--- so that only those from there on are to be moved
+-- only levels from there on have to be moved
 pub moved_from : (p from : ℕ) (levels : List Level) → All (λ (level : Level). level.place < p) (take from levels)
     → levels ≡ map (moved p) (take from levels) ++ drop from levels
 moved_from p from levels h =

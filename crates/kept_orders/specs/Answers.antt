@@ -14,13 +14,13 @@ pub record Keeps (start : Contents) (calls : List Operation) (kept : KeptOrderVi
   pub same_calls : kept.calls ≡ calls
   pub is_order : IsOrder start calls kept.order
 
--- they have none, and are handed back
+-- the calls have no order, and are returned
 pub record HaveNoOrder (start : Contents) (calls : List Operation) (start_back : Contents) (calls_back : List Operation) : Type 0 where
   pub none : IsLinearizable start calls → ⊥
   pub same_start : start_back ≡ start
   pub same_calls : calls_back ≡ calls
 
--- more configurations are reachable than the budget, and the calls are handed back
+-- more configurations are reachable than the budget, and the calls are returned
 pub record IsSpent (start : Contents) (calls : List Operation) (budget : ℕ) (start_back : Contents) (calls_back : List Operation) : Type 0 where
   pub reaches : ReachesMoreThan start calls budget
   pub same_start : start_back ≡ start

@@ -14,9 +14,9 @@ use kept_fronts::{Front, mend, push_all, take_back};
 use std::alloc::Global;
 
 impl KeptOrder {
-    /// A call is answered, and the order is mended. At the end of the order that costs one call. At
-    /// an earlier place it costs the calls after it, and again those of each try in vain. Otherwise
-    /// it costs searches. `Memory` if memory runs out: then the order is lost.
+    /// Answers a call, and mends the order. At the end of the order that costs one call. At an
+    /// earlier place it costs the calls after it, and again those after each place that was tried
+    /// in vain. Otherwise it costs searches. `Memory` if memory runs out: then the order is lost.
     pub fn answer(
         self,
         alloc: Global,
@@ -40,8 +40,8 @@ impl KeptOrder {
     }
 }
 
-/// A call is answered, and says whether the order goes on with it: where it was, or else at the
-/// last place that allows it.
+/// Answers a call, and says whether the order goes on with it: where it was, or else at the last
+/// place that allows it.
 fn answer_in_order(
     alloc: Global,
     calls: &mut [Operation],

@@ -35,7 +35,7 @@ pub(crate) fn make_room(
     Ok(())
 }
 
-/// After which calls of a front none is left that ended before a place. All calls up to there began
+/// How many calls a front has up to the last one that ended before a place. All of these began
 /// before that place.
 fn first_after(front: &Front, calls: &[Operation], inv: usize) -> usize
     requires { Stands calls.now front.now }

@@ -126,8 +126,8 @@ fn guessed(rt: &impl Abort, alloc: Global, guess: &[u32]) -> Result<KeptOrder, F
     order_of(KeptOrder::find(alloc, start, calls, guess, BUDGET)?)
 }
 
-// Of the guess, all that may not come next is passed over. Then the insert that the get read found
-// the other one.
+// The calls of the guess that may not come next are passed over. Then the insert that the get read
+// found the other one.
 #[test]
 fn an_answer_moves_a_call_of_a_guessed_order(rt: HostRuntime) -> Result<(), Fail> {
     let alloc = rt.alloc();
@@ -169,7 +169,7 @@ fn gets(
     Ok(order)
 }
 
-/// Whether a place stands before another one.
+/// Whether a place comes before another one.
 fn stands_before(alloc: Global, order: &KeptOrder, place: u32, later: u32) -> Result<bool, Memory> {
     let places = order.order(alloc)?;
     Ok(places.iter().position(|it| *it == place) < places.iter().position(|it| *it == later))
@@ -233,8 +233,9 @@ fn a_get_is_put_before_many_calls(rt: HostRuntime) -> Result<(), Fail> {
     Ok(())
 }
 
-/// So many gets, then two inserts whose answers say nothing, then so many gets. A get that the two
-/// precede is answered last, and read the first of them. So no place in that order allows it.
+/// This many gets, then two inserts with answers without the value, then this many gets. A get that
+/// comes after both inserts is answered last, and read the first of them. So no place in that order
+/// allows it.
 fn reread(rt: &impl Abort, alloc: Global, before: usize, after: usize) -> Result<KeptOrder, Fail>
     requires before { before < 1500 }
     requires after { after < 1500 }
@@ -270,9 +271,9 @@ fn a_long_window_goes_back(rt: HostRuntime) -> Result<(), Fail> {
     Ok(())
 }
 
-/// Two inserts of 5, so many gets of another key, a get of 5, and an insert that found 5. A removal
-/// that found 5 is answered last, and has one place in that order: between the first two. Each
-/// place after that but the last allows the removal, but not the calls after it.
+/// Two inserts of 5, this many gets of another key, a get of 5, and an insert that found 5. A
+/// removal that found 5 is answered last, and has one place in that order: between the first two.
+/// Each place after that but the last allows the removal, but not the calls after it.
 fn removed(rt: &impl Abort, alloc: Global, count: usize) -> Result<KeptOrder, Fail>
     requires { count < 500 }
 {

@@ -1,41 +1,22 @@
--- Parts that are kept, as calls are answered. `all_become`: the pasts of the first part become others, each by itself.
-use Rattle.std.proofs.Common.{◌≡◌, ℕ, suc, ◌<◌, true, false, not, List, [], ◌∷◌, ◌++◌, map, Option, None, Some, append-nil, inl, inr, sym, ap, ◌∙◌, subst, ⊎_elim, arith}
-use Rattle.std.specs.Prelude.{◌≢◌, AllPairs, Contains}
-use Rattle.std.specs.List.{AllZip}
-use Rattle.std.proofs.lemmas.Bool.{and_parts}
-use Rattle.std.proofs.lemmas.List.{append_assoc}
-use Rattle.std.proofs.lemmas.List.Elements.{All-nil, All-cons, All-head, All-tail, All-append, All-weaker, All-contains, Contains-append_left, Contains-append_right, Contains-append_cases}
-use Rattle.std.proofs.lemmas.Option.{none-some}
-use Rattle.list_laws.proofs.FilterLemmas.{AllPairs-weaker}
-use Rattle.list_laws.proofs.Lists.{All-from_contains, Contains-around}
-use Rattle.events.specs.declared.operation.Operation.{Operation}
-use Rattle.events.specs.declared.operation.Response.{Response}
-use Rattle.events.specs.Keys.{low_key, may_change}
-use Rattle.map_object.specs.MapObject.{Contents, value_at}
-use Rattle.key_effects.specs.KeyedCalls.{KeyedCall, concerns_key, is_refusal, keyed}
-use Rattle.key_effects.specs.KeyedOrders.{AreKeyedCalls}
-use Rattle.key_effects.specs.Forms.{HasForm}
-use Rattle.key_effects.specs.Choices.{Choice}
-use Rattle.key_effects.specs.Cuts.{Keys}
-use Rattle.key_effects.specs.Apart.{AreApart}
-use Rattle.key_effects.proofs.OrderLemmas.{same_call}
-use Rattle.key_parts.specs.Parts.{Part, StandFor}
-use Rattle.key_parts.specs.Operations.{HasSomeKeyIn}
-use Rattle.key_parts.specs.Left.{HasKeysIn, HasNoKeyIn, answered}
-use Rattle.key_parts.proofs.EventLemmas.{not_both, beside, middle, differ}
-use Rattle.kept_pasts.specs.Pasts.{KeptPast, FoundAt, IsPast, IsLeftOrFound}
-use Rattle.kept_pasts.proofs.DropLemmas.{pasts_in_any_order}
-use Rattle.kept_pasts.proofs.EventLemmas.{answered_calls_are_kept, answered_reads_are_kept, others_are_answered, refused_calls_are_not_kept}
-use Rattle.kept_pasts.proofs.PastLemmas.{taken_concerns}
-use Rattle.kept_pasts.proofs.TakenLemmas.{taken_calls_agree, taken_calls_disagree}
-use Rattle.kept_parts.specs.KeptParts.{KeptPart, AreCallsBefore, IsOfCalls, IsOwn, IsKeptAs}
-use Rattle.kept_parts.specs.Events.{ChangesAreAnswered, ReadsAreAnswered, IsLeftWithAnswer, IsLeftNoMore, FoundAsAnswered, FoundOtherwise, IsAfterAnswer, AreAfterAnswer, IsWithRead}
+-- Parts that are kept, as calls are answered. `all_become`: the pasts of the first part become
+-- others, each on its own.
+use Rattle.kept_parts.proofs.Common.{◌≡◌, ℕ, suc, ◌<◌, true, false, not, List, [], ◌∷◌, ◌++◌, map, Option, None, Some, append-nil, inl, inr, sym, ap}
+use Rattle.kept_parts.proofs.Common.{◌∙◌, subst, ⊎_elim, arith, ◌≢◌, AllPairs, Contains, AllZip, and_parts, append_assoc, All-nil, All-cons, All-head}
+use Rattle.kept_parts.proofs.Common.{All-tail, All-append, All-weaker, All-contains, Contains-append_left, Contains-append_right}
+use Rattle.kept_parts.proofs.Common.{Contains-append_cases, none-some, AllPairs-weaker, All-from_contains, Contains-around, Operation, Response}
+use Rattle.kept_parts.proofs.Common.{low_key, may_change, Contents, value_at, KeyedCall, concerns_key, is_refusal, keyed, AreKeyedCalls, HasForm}
+use Rattle.kept_parts.proofs.Common.{Choice, Keys, AreApart, same_call, Part, StandFor, HasSomeKeyIn, HasKeysIn, HasNoKeyIn, answered, not_both}
+use Rattle.kept_parts.proofs.Common.{beside, middle, differ, KeptPast, FoundAt, IsPast, IsLeftOrFound, pasts_in_any_order, answered_calls_are_kept}
+use Rattle.kept_parts.proofs.Common.{answered_reads_are_kept, others_are_answered, refused_calls_are_not_kept, taken_concerns, taken_calls_agree}
+use Rattle.kept_parts.proofs.Common.{taken_calls_disagree, KeptPart, AreCallsBefore, IsOfCalls, IsOwn, IsKeptAs, ChangesAreAnswered, ReadsAreAnswered}
+use Rattle.kept_parts.proofs.Common.{IsLeftWithAnswer, IsLeftNoMore, FoundAsAnswered, FoundOtherwise, IsAfterAnswer, AreAfterAnswer, IsWithRead}
 use Rattle.kept_parts.proofs.CallLemmas.{one_key_of, form_of, has_low_key, calls_answered, keyed_around}
-use Rattle.kept_parts.proofs.PartLemmas.{keys_in, no_key_in, IsKeptFirst, first_of, from_first, others_apart, stand_after, IsKeptPast, AreKeptPasts, pasts_go, parts_go}
+use Rattle.kept_parts.proofs.PartLemmas.{keys_in, no_key_in, IsKeptFirst, first_of, from_first, others_apart, stand_after, IsKeptPast, AreKeptPasts}
+use Rattle.kept_parts.proofs.PartLemmas.{pasts_go, parts_go}
 
 -- ---- pasts that become others
 
--- where a past stands first, some stand in its stead
+-- a first past may be replaced by some
 abbrev pub Becomes : (ℕ → Option ℕ) → ℕ → List Operation → Keys → List Part → Choice → List KeptPast → Type 0
 Becomes held place more keys rest past nexts =
     (others : List Choice) → StandFor held place (map keyed more) (record { keys = keys; pasts = past ∷ others } ∷ rest)
@@ -139,7 +120,7 @@ own_fewer calls kept next left found own = record {
 
 module _ (place : ℕ) (front back : List Operation) (o : Operation) (response : Response) (pending : o.response ≡ None)
     (are : AreCallsBefore place (front ++ o ∷ back)) where
-  -- the same past, by the calls around the one that is answered
+  -- a past, by the calls around the one that is answered
   pub around : (keys : Keys) (kept : KeptPast) (past : Choice) → IsPast keys (map keyed (front ++ o ∷ back)) kept past
       → IsPast keys (map keyed front ++ keyed o ∷ map keyed back) kept past
   around keys kept past is = subst (λ (calls : List KeyedCall). IsPast keys calls kept past) (keyed_around front back o) is
@@ -182,7 +163,7 @@ module _ (place : ℕ) (front back : List Operation) (o : Operation) (response :
         (a, still_call a a_in (λ same. free.found f f_in (sym named ∙ same)), named, none, changes);
   }
 
-  -- and it is left with its answer
+  -- the call is left with its answer
   own_with : (pairs : Contents) (before after : List Operation) (found : List FoundAt)
       → IsOfCalls (front ++ answered response o ∷ back) (record { pairs = pairs; left = before ++ after; found = found })
       → IsOfCalls (front ++ answered response o ∷ back) (record { pairs = pairs; left = before ++ answered response o ∷ after; found = found })
@@ -199,7 +180,8 @@ module _ (place : ℕ) (front back : List Operation) (o : Operation) (response :
     found = own.found;
   }
 
-  -- and each that may change the map is left, or found what is kept, where each but this one is so still
+  -- each call that may change the map is still left, or what it found is kept, if that holds of all
+  -- others
   pub whole_still : (keys : Keys) (kept next : KeptPast) → ((p : Operation) → p.inv ≢ o.inv → IsLeftOrFound kept p → IsLeftOrFound next p)
       → IsOwn keys (front ++ o ∷ back) kept → (p : Operation) → Contains (front ++ answered response o ∷ back) p → p.response ≡ None
       → may_change p.call ≡ true → keys (low_key p.call) ≡ true → IsLeftOrFound next p

@@ -1,35 +1,20 @@
 -- The calls of a stream before an event, and after it: a call began (`calls_begun`), or was answered (`calls_answered`). And what a call is by
 -- its kind: `reads_leave`, `one_key_of`, `own_key_of`, `form_of`.
 use Rattle.events.specs.declared.event.Reply.TheVariants as replies
-use Rattle.std.proofs.Common.{◌≡◌, ℕ, suc, ◌<◌, ◌≤◌, ◌==◌, ◌&&◌, nat_le, nat_lt, Bool, true, false, cond, List, [], ◌∷◌, ◌++◌, map, Option, None, Some, inl, inr, refl, sym, ap, ◌∙◌, subst, ⊎_elim, arith}
-use Rattle.std.specs.Prelude.{◌≢◌, ◌⊎◌, All, AllPairs, Contains}
-use Rattle.std.proofs.lemmas.Bool.{eq-eqb, leb-true, le-leb, ltb-true, and_parts, and_from, false_from_ne_true}
-use Rattle.std.proofs.lemmas.List.{map-append}
-use Rattle.std.proofs.lemmas.List.Elements.{All-nil, All-cons, All-contains, Contains-append_left, Contains-append_cases}
-use Rattle.std.proofs.lemmas.List.Kept.{AllPairs-cons}
-use Rattle.std.proofs.lemmas.Option.{none-some, same_Some}
-use Rattle.list_laws.proofs.FilterLemmas.{AllPairs-map, AllPairs-from_map, AllPairs-weaker, Contains-map, Contains-from_map}
-use Rattle.list_laws.proofs.Lists.{AllPairs-nil, AllPairs-append, All-from_contains, Contains-nil, Contains-cases, Contains-around}
+use Rattle.kept_parts.proofs.Common.{◌≡◌, ℕ, suc, ◌<◌, ◌≤◌, ◌==◌, ◌&&◌, nat_le, nat_lt, Bool, true, false, cond, List, [], ◌∷◌, ◌++◌, map, Option}
+use Rattle.kept_parts.proofs.Common.{None, Some, inl, inr, refl, sym, ap, ◌∙◌, subst, ⊎_elim, arith, ◌≢◌, ◌⊎◌, All, AllPairs, Contains, eq-eqb}
+use Rattle.kept_parts.proofs.Common.{leb-true, le-leb, ltb-true, and_parts, and_from, false_from_ne_true, map-append, All-nil, All-cons, All-contains}
+use Rattle.kept_parts.proofs.Common.{Contains-append_left, Contains-append_cases, AllPairs-cons, none-some, same_Some, AllPairs-map}
+use Rattle.kept_parts.proofs.Common.{AllPairs-from_map, AllPairs-weaker, Contains-map, Contains-from_map, AllPairs-nil, AllPairs-append}
+use Rattle.kept_parts.proofs.Common.{All-from_contains, Contains-nil, Contains-cases, Contains-around, Operation, Response, low_key, high_key}
+use Rattle.kept_parts.proofs.Common.{may_change, Contents, value_at, after, after_call, after_call_cases, KeyedCall, IsFormed, no_effect}
+use Rattle.kept_parts.proofs.Common.{point_effect, effect_of_key, told_effect, read_of, effect_at, concerns_key, place_of, is_refusal, keyed}
+use Rattle.kept_parts.proofs.Common.{precedes, AreDistinct, HasForm, IsRead, formed, open_fits, answered, beside, middle, one_key, AreCallsBefore}
 use Rattle.events.specs.declared.event.Call.{Call}
 use Rattle.events.specs.declared.event.Call.TheVariants.{Get, Insert, Remove, Scan, Replace}
 use Rattle.events.specs.declared.event.Reply.{Reply}
-use Rattle.events.specs.declared.operation.Operation.{Operation}
-use Rattle.events.specs.declared.operation.Response.{Response}
-use Rattle.events.specs.Keys.{low_key, high_key, may_change}
-use Rattle.map_object.specs.MapObject.{Contents, value_at, after}
-use Rattle.orders.specs.Orders.{after_call}
 use Rattle.quiet_cuts.specs.Values.{value_behind, value_behind_reply}
-use Rattle.quiet_cuts.proofs.ValueLemmas.{after_call_cases}
-use Rattle.key_effects.specs.KeyedCalls.{KeyedCall, IsFormed, no_effect, point_effect, effect_of_key, told_effect, read_of, effect_at, concerns_key, place_of, is_refusal, keyed, precedes}
-use Rattle.key_effects.specs.KeyedOrders.{AreDistinct}
-use Rattle.key_effects.specs.Forms.{HasForm}
 use Rattle.key_effects.specs.Growth.{LeaveTheSame, IsLater, HaveGrown}
-use Rattle.key_effects.specs.Apart.{IsRead}
-use Rattle.key_effects.proofs.GrowLemmas.{formed, open_fits}
-use Rattle.key_parts.specs.Left.{answered}
-use Rattle.key_parts.proofs.EventLemmas.{beside, middle}
-use Rattle.kept_pasts.proofs.PastLemmas.{one_key}
-use Rattle.kept_parts.specs.KeptParts.{AreCallsBefore}
 
 -- ---- kinds of calls
 
@@ -57,7 +42,7 @@ has_low_key (Scan low high) some =
     and_from (nat_le low low) (nat_le low high) (le-leb low low first) (le-leb low high some)
 has_low_key (Replace own expected value) some = eq-eqb own own refl
 
--- so does a call that concerns some key
+-- a call that concerns some key concerns its least key
 pub concerns_low_key : (call : Call) (key : ℕ) → concerns_key call key ≡ true → concerns_key call (low_key call) ≡ true
 concerns_low_key (Get own) key concerned = eq-eqb own own refl
 concerns_low_key (Insert own value) key concerned = eq-eqb own own refl
@@ -127,7 +112,7 @@ answered_leaves (Remove own) response key accepted = point_leaves own (Remove ow
 answered_leaves (Scan low high) response key accepted = scan_leaves low high response.reply key
 answered_leaves (Replace own expected new) response key accepted = point_leaves own (Replace own expected new) response key accepted
 
--- so does a get
+-- a get leaves what it finds
 get_leaves : (own : ℕ) (response : Option Response) (value : Option ℕ) → (point_effect (Get own) response).leaves value ≡ value
 get_leaves own None value = refl
 get_leaves own (Some response) value = by_reply response.reply

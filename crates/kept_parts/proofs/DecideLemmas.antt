@@ -1,28 +1,13 @@
 -- The calls so far have an order exactly where each part that is kept goes on (`kept_parts_decide`).
-use Rattle.std.proofs.Common.{◌≡◌, ℕ, ◌<◌, true, false, not, ◌&&◌, List, [], ◌∷◌, map, inl, inr, sym, subst, ⊎_elim}
-use Rattle.std.specs.Prelude.{◌⊎◌, ◌↔◌, All, Any, Contains}
-use Rattle.std.specs.List.{AllZip}
-use Rattle.std.proofs.lemmas.Bool.{and_parts, false_from_ne_true}
-use Rattle.std.proofs.lemmas.List.Elements.{All-nil, All-cons, All-head, All-tail, All-contains}
-use Rattle.list_laws.proofs.Lists.{Contains-nil, Contains-first, Contains-later, Contains-cases}
-use Rattle.events.specs.declared.operation.Operation.{Operation}
+use Rattle.kept_parts.proofs.Common.{◌≡◌, ℕ, ◌<◌, true, false, not, ◌&&◌, List, [], ◌∷◌, map, inl, inr, sym, subst, ⊎_elim, ◌⊎◌, ◌↔◌, All, Any}
+use Rattle.kept_parts.proofs.Common.{Contains, AllZip, and_parts, false_from_ne_true, All-nil, All-cons, All-head, All-tail, All-contains}
+use Rattle.kept_parts.proofs.Common.{Contains-nil, Contains-first, Contains-later, Contains-cases, Operation, value_at, IsLinearizable, KeyedCall}
+use Rattle.kept_parts.proofs.Common.{keyed, Choice, rest_of, Keys, IsWithin, keyed_orders, bool_cases, Part, IsAt, IsOneOf, ShareKeys, GoesOnAt}
+use Rattle.kept_parts.proofs.Common.{SomePastGoesOn, IsOfOnePart, AreOfOnePart, IsLeftAt, parts_decide, not_both, KeptPast, IsOpenRead, IsPast}
+use Rattle.kept_parts.proofs.Common.{KeptPart, AreCallsBefore, IsKeptAs, GoesOn, KeptPartsDecide}
 use Rattle.events.specs.Operations.{operations}
-use Rattle.map_object.specs.MapObject.{value_at}
-use Rattle.orders.specs.Orders.{IsLinearizable}
-use Rattle.key_effects.specs.KeyedCalls.{KeyedCall, keyed}
-use Rattle.key_effects.specs.Choices.{Choice, rest_of}
-use Rattle.key_effects.specs.Cuts.{Keys, IsWithin}
-use Rattle.key_effects.proofs.BridgeLemmas.{keyed_orders}
-use Rattle.key_effects.proofs.DeadLemmas.{bool_cases}
-use Rattle.key_parts.specs.Parts.{Part, IsAt, IsOneOf, ShareKeys, GoesOnAt, SomePastGoesOn, IsOfOnePart, AreOfOnePart}
-use Rattle.key_parts.specs.Steps.{IsLeftAt}
-use Rattle.key_parts.proofs.DecideLemmas.{parts_decide}
-use Rattle.key_parts.proofs.EventLemmas.{not_both}
 use Rattle.key_parts.proofs.KnownLemmas.{calls_are_known}
 use Rattle.key_parts.proofs.OperationLemmas.{operations_decide}
-use Rattle.kept_pasts.specs.Pasts.{KeptPast, IsOpenRead, IsPast}
-use Rattle.kept_parts.specs.KeptParts.{KeptPart, AreCallsBefore, IsKeptAs}
-use Rattle.kept_parts.specs.Steps.{GoesOn, KeptPartsDecide}
 use Rattle.kept_parts.proofs.PastLemmas.{zip_forth, zip_back}
 use Rattle.kept_parts.proofs.StepLemmas.{rising_calls, any_to}
 

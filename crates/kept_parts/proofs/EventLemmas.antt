@@ -1,24 +1,13 @@
 -- Parts that are kept before any event, and as calls begin.
-use Rattle.std.proofs.Common.{◌≡◌, ℕ, suc, ◌<◌, true, false, List, [], ◌∷◌, ◌++◌, map, None, inl, inr, refl, sym, subst, ⊎_elim}
-use Rattle.std.specs.Prelude.{◌⊎◌, All, Contains}
-use Rattle.std.proofs.lemmas.List.Elements.{All-nil, All-cons, All-append, All-weaker, Contains-append_left}
-use Rattle.list_laws.proofs.Lists.{All-from_contains, Contains-nil}
-use Rattle.events.specs.declared.operation.Operation.{Operation}
-use Rattle.events.specs.Keys.{low_key, may_change}
-use Rattle.map_object.specs.MapObject.{value_at}
-use Rattle.key_effects.specs.KeyedCalls.{KeyedCall, concerns_key, keyed}
-use Rattle.key_effects.specs.Choices.{Choice, at_first}
-use Rattle.key_effects.specs.Cuts.{Keys}
-use Rattle.key_effects.specs.Apart.{AreApart, IsRead}
-use Rattle.key_parts.specs.Left.{HasNoKeyIn}
-use Rattle.key_parts.proofs.EventLemmas.{not_both, middle}
-use Rattle.key_parts.proofs.StepLemmas.{parts_begin}
-use Rattle.kept_pasts.specs.Pasts.{KeptPast, IsPast, IsLeftOrFound}
-use Rattle.kept_pasts.proofs.EventLemmas.{nothing_is_kept, begun_calls_are_kept, others_begin}
-use Rattle.kept_parts.specs.KeptParts.{AreCallsBefore, IsOfCalls, IsOwn, at_rest}
-use Rattle.kept_parts.specs.Events.{AllIsKept, ChangesBegin, ReadsBegin, with_begun}
+use Rattle.kept_parts.proofs.Common.{◌≡◌, ℕ, suc, ◌<◌, true, false, List, [], ◌∷◌, ◌++◌, map, None, inl, inr, refl, sym, subst, ⊎_elim, ◌⊎◌, All}
+use Rattle.kept_parts.proofs.Common.{Contains, All-nil, All-cons, All-append, All-weaker, Contains-append_left, All-from_contains, Contains-nil}
+use Rattle.kept_parts.proofs.Common.{Operation, low_key, may_change, value_at, KeyedCall, concerns_key, keyed, Choice, at_first, Keys, AreApart}
+use Rattle.kept_parts.proofs.Common.{IsRead, HasNoKeyIn, not_both, middle, parts_begin, KeptPast, IsPast, IsLeftOrFound, nothing_is_kept}
+use Rattle.kept_parts.proofs.Common.{begun_calls_are_kept, others_begin, AreCallsBefore, IsOfCalls, IsOwn, at_rest, AllIsKept, ChangesBegin}
+use Rattle.kept_parts.proofs.Common.{ReadsBegin, with_begun}
 use Rattle.kept_parts.proofs.CallLemmas.{one_key_of, has_low_key, low_is_not_above, reads_leave, last_or_old, no_calls, calls_begun, keyed_begun}
-use Rattle.kept_parts.proofs.PartLemmas.{keys_in, no_key_in, own_at_rest, first_of, from_first, others_apart, stand_after, IsKeptPast, pasts_go, zip_map, parts_go}
+use Rattle.kept_parts.proofs.PartLemmas.{keys_in, no_key_in, own_at_rest, first_of, from_first, others_apart, stand_after, IsKeptPast, pasts_go}
+use Rattle.kept_parts.proofs.PartLemmas.{zip_map, parts_go}
 
 pub all_is_kept : AllIsKept
 all_is_kept start rises = record {
@@ -86,7 +75,7 @@ module _ (place : ℕ) (calls : List Operation) (o : Operation) (at : o.inv ≡ 
           not_both (concerns_key o.call (low_key o.call)) (has_low_key o.call (low_is_not_above o.call changes)) (out (low_key o.call) here)
       never changes here (inr read) = not_both (may_change o.call) changes read
 
-  -- and where it may change the map, and has its key there, it is left
+  -- a call that may change the map, and has its key in the part, is left there
   change_then : (keys : Keys) (kept : KeptPast) (past : Choice) → may_change o.call ≡ true → keys (low_key o.call) ≡ true
       → IsKeptPast keys calls kept past → IsKeptPast keys (calls ++ o ∷ []) (with_begun o kept) past
   change_then keys kept past changes here known =

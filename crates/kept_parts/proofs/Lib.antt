@@ -1,3 +1,4 @@
+mod Common
 pub mod CallLemmas
 pub mod PartLemmas
 pub mod EventLemmas

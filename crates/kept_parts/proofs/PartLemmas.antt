@@ -1,24 +1,9 @@
--- Kept parts: `first_of`, `from_first`: the part that stands first; `pasts_go`: pasts that are kept in another way after an event; `parts_go`:
--- parts whose pasts are kept as before.
-use Rattle.std.proofs.Common.{◌≡◌, ℕ, suc, true, List, [], ◌∷◌, map, None, refl, subst, arith}
-use Rattle.std.specs.Prelude.{All, Contains}
-use Rattle.std.specs.List.{AllZip}
-use Rattle.std.proofs.lemmas.Bool.{false_from_ne_true}
-use Rattle.std.proofs.lemmas.List.Elements.{All-nil, All-cons, All-head, All-tail}
-use Rattle.list_laws.proofs.Lists.{AllPairs-head, Contains-nil}
-use Rattle.events.specs.declared.operation.Operation.{Operation}
-use Rattle.events.specs.Keys.{low_key, may_change}
-use Rattle.map_object.specs.MapObject.{Contents, value_at}
-use Rattle.key_effects.specs.KeyedCalls.{concerns_key, keyed}
-use Rattle.key_effects.specs.Choices.{Choice}
-use Rattle.key_effects.specs.Cuts.{Keys}
-use Rattle.key_effects.specs.Apart.{AreApart}
-use Rattle.key_parts.specs.Parts.{Part, StandFor}
-use Rattle.key_parts.specs.Left.{HasKeysIn, HasNoKeyIn}
-use Rattle.key_parts.proofs.EventLemmas.{not_both}
-use Rattle.key_parts.proofs.StepLemmas.{parts_stay}
-use Rattle.kept_pasts.specs.Pasts.{KeptPast, IsPast, ArePasts}
-use Rattle.kept_parts.specs.KeptParts.{KeptPart, AreCallsBefore, IsOfCalls, IsOwn, IsKeptAs, AreKept, at_rest}
+-- Kept parts: `first_of`, `from_first`: the first part; `pasts_go`: pasts that are kept in another
+-- way after an event; `parts_go`: parts whose pasts are kept as before.
+use Rattle.kept_parts.proofs.Common.{◌≡◌, ℕ, suc, true, List, [], ◌∷◌, map, None, refl, subst, arith, All, Contains, AllZip, false_from_ne_true}
+use Rattle.kept_parts.proofs.Common.{All-nil, All-cons, All-head, All-tail, AllPairs-head, Contains-nil, Operation, low_key, may_change, Contents}
+use Rattle.kept_parts.proofs.Common.{value_at, concerns_key, keyed, Choice, Keys, AreApart, Part, StandFor, HasKeysIn, HasNoKeyIn, not_both}
+use Rattle.kept_parts.proofs.Common.{parts_stay, KeptPast, IsPast, ArePasts, KeptPart, AreCallsBefore, IsOfCalls, IsOwn, IsKeptAs, AreKept, at_rest}
 use Rattle.kept_parts.proofs.CallLemmas.{AreCallsAfter, own_key_of}
 
 -- ---- keys
@@ -41,9 +26,9 @@ own_at_rest calls pairs = record {
   found = λ f f_in. absurd (Contains-nil f f_in);
 }
 
--- ---- the part that stands first
+-- ---- the first part
 
--- a part is kept that stands first
+-- the first part is kept
 pub record IsKeptFirst (start : Contents) (place : ℕ) (calls : List Operation) (kept : KeptPart) (rest : List KeptPart) : Type 0 where
   pub are_calls : AreCallsBefore place calls
   pub pasts : List Choice
@@ -89,7 +74,7 @@ others_apart start place calls kept rest first =
 
 -- ---- an event
 
--- parts stand after it
+-- parts come after it
 pub stand_after : (start : Contents) (place : ℕ) (calls more : List Operation) (parts : List Part) → AreCallsAfter place calls more
     → StandFor (value_at start) place (map keyed calls) parts → StandFor (value_at start) (suc place) (map keyed more) parts
 stand_after start place calls more parts after stand =

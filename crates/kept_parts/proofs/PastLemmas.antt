@@ -1,22 +1,12 @@
--- The pasts of a part, each with the choice beside it: in another order (`pasts_in_any_order_are_kept`), of the part's keys
--- (`kept_pasts_are_within`), and what they keep of a pending call (`open_changes_are_kept`). `zip_forth`, `zip_back`: what goes with an item.
-use Rattle.std.proofs.Common.{◌≡◌, ℕ, true, List, [], ◌∷◌, ◌++◌, map, Option, inl, inr, refl, sym, ◌∙◌, subst, ⊎_elim}
-use Rattle.std.specs.Prelude.{◌≢◌, Contains}
-use Rattle.std.specs.List.{AllZip}
-use Rattle.std.proofs.lemmas.List.Elements.{All-contains, Contains-append_left, Contains-append_right, Contains-append_cases}
-use Rattle.list_laws.proofs.Lists.{All-from_contains, Contains-nil, Contains-first, Contains-later, Contains-cases}
-use Rattle.events.specs.declared.operation.Operation.{Operation}
-use Rattle.map_object.specs.MapObject.{value_at}
-use Rattle.key_effects.specs.KeyedCalls.{KeyedCall, keyed}
-use Rattle.key_effects.specs.Choices.{Choice}
-use Rattle.key_effects.specs.Cuts.{Keys}
-use Rattle.key_parts.specs.Parts.{Part, StandFor}
-use Rattle.key_parts.proofs.EventLemmas.{not_both}
-use Rattle.kept_pasts.specs.Pasts.{KeptPast, IsPast, ArePasts, AreKeptAlike, IsLeftOrFound}
+-- The pasts of a part, each with its choice: in another order (`pasts_in_any_order_are_kept`), of
+-- the part's keys (`kept_pasts_are_within`), and what they keep of a pending call
+-- (`open_changes_are_kept`). `zip_forth`, `zip_back`: the partner of an item.
+use Rattle.kept_parts.proofs.Common.{◌≡◌, ℕ, true, List, [], ◌∷◌, ◌++◌, map, Option, inl, inr, refl, sym, ◌∙◌, subst, ⊎_elim, ◌≢◌, Contains, AllZip}
+use Rattle.kept_parts.proofs.Common.{All-contains, Contains-append_left, Contains-append_right, Contains-append_cases, All-from_contains}
+use Rattle.kept_parts.proofs.Common.{Contains-nil, Contains-first, Contains-later, Contains-cases, Operation, value_at, KeyedCall, keyed, Choice}
+use Rattle.kept_parts.proofs.Common.{Keys, Part, StandFor, not_both, KeptPast, IsPast, ArePasts, AreKeptAlike, IsLeftOrFound, pasts_in_any_order}
+use Rattle.kept_parts.proofs.Common.{IsOwn, PastsInAnyOrderAreKept, IsWithinKeys, KeptPastsAreWithin, IsKnownIn, OpenChangesAreKept}
 use Rattle.kept_pasts.proofs.AlikeLemmas.{alike_pasts_go}
-use Rattle.kept_pasts.proofs.DropLemmas.{pasts_in_any_order}
-use Rattle.kept_parts.specs.KeptParts.{IsOwn}
-use Rattle.kept_parts.specs.Steps.{PastsInAnyOrderAreKept, IsWithinKeys, KeptPastsAreWithin, IsKnownIn, OpenChangesAreKept}
 use Rattle.kept_parts.proofs.PartLemmas.{IsKeptFirst, first_of, from_first}
 
 -- ---- what goes with an item

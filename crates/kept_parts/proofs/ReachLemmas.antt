@@ -1,44 +1,25 @@
 -- Pasts that are reached, as they are kept. Of each part one past is picked: the calls that were taken are those that are left in none of these, and
 -- were answered or found something.
-use Rattle.std.proofs.Common.{◌≡◌, ℕ, ◌<◌, Bool, true, false, not, ◌&&◌, ◌||◌, ◌==◌, cond, List, [], ◌∷◌, ◌++◌, map, Option, Some, None, inl, inr, refl, sym, ap, ◌∙◌, subst, ⊎_elim, is_some, arith}
-use Rattle.std.specs.Prelude.{◌≢◌, ◌⊎◌, All, AllPairs, Contains, filter, IsTrue}
-use Rattle.std.specs.List.{AllZip, list_any}
-use Rattle.std.proofs.lemmas.Bool.{and_parts, and_from, or_left, or_right, not-true, not_from_false, false_from_ne_true, eqb-true, eq-eqb}
-use Rattle.std.proofs.lemmas.List.{map-append}
-use Rattle.std.proofs.lemmas.List.Elements.{All-nil, All-cons, All-head, All-tail, All-contains}
-use Rattle.std.proofs.lemmas.List.Kept.{AllPairs-cons, AllPairs-filter}
-use Rattle.list_laws.proofs.FilterLemmas.{AllPairs-map, AllPairs-from_map, AllPairs-weaker, Contains-map, Contains-from_map}
-use Rattle.list_laws.proofs.Lists.{AllPairs-nil, AllPairs-head, AllPairs-tail, All-from_contains, Contains-nil, Contains-first, Contains-later, Contains-cases, Contains-split, Contains-filter, Contains-from_filter}
-use Rattle.events.specs.declared.operation.Operation.{Operation}
-use Rattle.events.specs.declared.operation.Response.{Response}
-use Rattle.events.specs.Keys.{may_change}
-use Rattle.events.specs.Precedence as events
-use Rattle.map_object.specs.MapObject.{Contents, IsRising, value_at}
-use Rattle.orders.specs.Orders.{after_call, after_calls}
-use Rattle.quiet_cuts.proofs.ValueLemmas.{rising_kept}
-use Rattle.key_effects.specs.KeyedCalls.{KeyedCall, IsNoEffect, no_effect, concerns_key, is_completed, is_refused, place_of, precedes, effect_at, keyed}
-use Rattle.key_effects.specs.KeyedOrders.{left_by, AreDistinct, FitInTurn}
-use Rattle.key_effects.specs.Forms.{HasForm}
-use Rattle.key_effects.specs.Choices.{Choice, Agrees, at_first, rest_of}
-use Rattle.key_effects.specs.Cuts.{Keys}
-use Rattle.key_effects.specs.Apart.{AreApart}
-use Rattle.key_effects.proofs.BridgeLemmas.{same_precedes}
-use Rattle.key_effects.proofs.DeadLemmas.{bool_cases}
-use Rattle.key_effects.proofs.EffectLemmas.{step_of, fits_legal}
-use Rattle.key_effects.proofs.GrowLemmas.{formed, open_fits}
-use Rattle.key_effects.proofs.OrderLemmas.{same_call}
-use Rattle.key_effects.proofs.RestLemmas.{none_none}
-use Rattle.key_parts.specs.Parts.{Part, IsAt, IsOneOf, choices_of, AgreesAt}
-use Rattle.key_parts.specs.Operations.{HasSomeKeyIn}
+use Rattle.kept_parts.proofs.Common.{◌≡◌, ℕ, ◌<◌, Bool, true, false, not, ◌&&◌, ◌||◌, ◌==◌, cond, List, [], ◌∷◌, ◌++◌, map, Option, Some, None, inl}
+use Rattle.kept_parts.proofs.Common.{inr, refl, sym, ap, ◌∙◌, subst, ⊎_elim, arith, ◌≢◌, ◌⊎◌, All, AllPairs, Contains, filter, IsTrue, AllZip}
+use Rattle.kept_parts.proofs.Common.{list_any, and_parts, and_from, or_left, or_right, not-true, not_from_false, false_from_ne_true, eqb-true, eq-eqb}
+use Rattle.kept_parts.proofs.Common.{map-append, All-nil, All-cons, All-head, All-tail, All-contains, AllPairs-cons, AllPairs-filter, AllPairs-map}
+use Rattle.kept_parts.proofs.Common.{AllPairs-from_map, AllPairs-weaker, Contains-map, Contains-from_map, AllPairs-nil, AllPairs-head, AllPairs-tail}
+use Rattle.kept_parts.proofs.Common.{All-from_contains, Contains-nil, Contains-first, Contains-later, Contains-cases, Contains-split, Contains-filter}
+use Rattle.kept_parts.proofs.Common.{Contains-from_filter, Operation, Response, may_change, Contents, IsRising, value_at, after_call, after_calls}
+use Rattle.kept_parts.proofs.Common.{rising_kept, KeyedCall, IsNoEffect, no_effect, concerns_key, is_completed, is_refused, place_of, precedes}
+use Rattle.kept_parts.proofs.Common.{effect_at, keyed, left_by, AreDistinct, FitInTurn, HasForm, Choice, Agrees, at_first, rest_of, Keys, AreApart}
+use Rattle.kept_parts.proofs.Common.{same_precedes, bool_cases, step_of, fits_legal, formed, open_fits, same_call, none_none, Part, IsAt, IsOneOf}
+use Rattle.kept_parts.proofs.Common.{choices_of, AgreesAt, HasSomeKeyIn, FoundAt, KeptPast, IsPast, KeptPart, AreCallsBefore, IsOwn, IsKeptAs}
+use Rattle.std.proofs.Common.{is_some}
 use Rattle.key_parts.specs.Reached.{Lead, IsOpen, AreAllTaken}
 use Rattle.key_parts.proofs.PartLemmas.{at_next, instead, instead_here, instead_there, or_cases}
 use Rattle.key_parts.proofs.ReachLemmas.{choices_are_reached}
-use Rattle.kept_pasts.specs.Pasts.{FoundAt, KeptPast, IsPast}
 use Rattle.kept_pasts.proofs.NextLemmas.{zip_there}
-use Rattle.kept_parts.specs.KeptParts.{KeptPart, AreCallsBefore, IsOwn, IsKeptAs}
 use Rattle.kept_parts.specs.Reached.{IsFoundIn, IsReached, HasPasts, KeptPastsAreReached}
 use Rattle.kept_parts.proofs.CallLemmas.{own_key_of}
 use Rattle.kept_parts.proofs.PartLemmas.{IsKeptFirst, first_of}
+use Rattle.events.specs.Precedence as events
 
 -- ---- some item of a list
 
@@ -213,7 +194,8 @@ module _ (place : ℕ) (calls : List Operation) (picks : List (Pick calls)) (w :
       any_from (λ p. list_any (λ o2. o2.inv == o.inv) p.kept.left) picks p p_in
       (any_from (λ o2. o2.inv == o.inv) p.kept.left q q_in (eq-eqb q.inv o.inv same)) in cc
 
-  -- and where it is left in none, it is of them if it was answered, or something that it found is kept
+  -- a call that is left in no pick is among them if it was answered, or something that it found is
+  -- kept
   in_few : (o : Operation) → Contains calls o
       → ((p : Pick calls) → Contains picks p → (q : Operation) → Contains p.kept.left q → q.inv ≡ o.inv → ⊥)
       → (events.is_completed o || has_found o.inv) ≡ true → Contains few o

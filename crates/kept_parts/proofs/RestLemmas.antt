@@ -1,48 +1,26 @@
 -- Reads that are taken as they are answered: such as report nothing (`reads_without_report`), and such as report what keys at rest hold
 -- (`reads_at_rest`).
-use Rattle.std.proofs.Common.{◌≡◌, ℕ, suc, ◌<◌, Bool, true, false, not, cond, List, [], ◌∷◌, ◌++◌, map, Option, None, Some, append-nil, inl, inr, refl, sym, ap, ◌∙◌, subst, ⊎_elim}
-use Rattle.std.specs.Prelude.{◌⊎◌, All, AllPairs, Contains}
-use Rattle.std.specs.List.{AllZip}
-use Rattle.std.proofs.lemmas.Bool.{eq-eqb, and_from, false_from_ne_true}
-use Rattle.std.proofs.lemmas.List.Elements.{All-nil, All-cons, All-head, All-append, All-contains}
-use Rattle.std.proofs.lemmas.List.Kept.{AllPairs-cons}
-use Rattle.list_laws.proofs.FilterLemmas.{Contains-map, Contains-from_map}
-use Rattle.list_laws.proofs.Lists.{AllPairs-head, AllPairs-tail, AllPairs-append, AllPairs-front, AllPairs-back, AllPairs-across, All-back, All-front, All-from_contains, Contains-nil, Contains-first, Contains-later, Contains-cases, Contains-around}
-use Rattle.events.specs.declared.operation.Operation.{Operation}
-use Rattle.events.specs.declared.operation.Response.{Response}
-use Rattle.events.specs.Keys.{low_key, may_change}
-use Rattle.map_object.specs.MapObject.{Contents, value_at}
-use Rattle.orders.specs.Orders.{IsLegalCall}
-use Rattle.key_effects.specs.KeyedCalls.{KeyedCall, Effect, IsFormed, IsNoEffect, no_effect, concerns_key, effect_at, is_refusal, keyed, precedes}
-use Rattle.key_effects.specs.Forms.{HasForm}
-use Rattle.key_effects.specs.Choices.{Choice, rest_of}
-use Rattle.key_effects.specs.Cuts.{Keys}
-use Rattle.key_effects.specs.Apart.{AreApart, IsQuiet}
-use Rattle.key_effects.proofs.DeadLemmas.{bool_cases}
-use Rattle.key_effects.proofs.EffectLemmas.{step_of}
-use Rattle.key_effects.proofs.GrowLemmas.{formed}
-use Rattle.key_effects.proofs.RestLemmas.{pending_never}
-use Rattle.key_parts.specs.Parts.{Part, StandFor}
-use Rattle.key_parts.specs.Steps.{IsLeftAt, NoneIsLeftAt, MayComeNext, IsReadAt, IsAtRest}
-use Rattle.key_parts.specs.Operations.{HasSomeKeyIn}
-use Rattle.key_parts.specs.Left.{HasKeysIn, IsNotTakenAt, answered}
+use Rattle.kept_parts.proofs.Common.{◌≡◌, ℕ, suc, ◌<◌, Bool, true, false, not, cond, List, [], ◌∷◌, ◌++◌, map, Option, None, Some, append-nil, inl}
+use Rattle.kept_parts.proofs.Common.{inr, refl, sym, ap, ◌∙◌, subst, ⊎_elim, ◌⊎◌, All, AllPairs, Contains, AllZip, eq-eqb, and_from}
+use Rattle.kept_parts.proofs.Common.{false_from_ne_true, All-nil, All-cons, All-head, All-append, All-contains, AllPairs-cons, Contains-map}
+use Rattle.kept_parts.proofs.Common.{Contains-from_map, AllPairs-head, AllPairs-tail, AllPairs-append, AllPairs-front, AllPairs-back, AllPairs-across}
+use Rattle.kept_parts.proofs.Common.{All-back, All-front, All-from_contains, Contains-nil, Contains-first, Contains-later, Contains-cases}
+use Rattle.kept_parts.proofs.Common.{Contains-around, Operation, Response, low_key, may_change, Contents, value_at, IsLegalCall, KeyedCall, Effect}
+use Rattle.kept_parts.proofs.Common.{IsFormed, IsNoEffect, no_effect, concerns_key, effect_at, is_refusal, keyed, precedes, HasForm, Choice, rest_of}
+use Rattle.kept_parts.proofs.Common.{Keys, AreApart, IsQuiet, bool_cases, step_of, formed, pending_never, Part, StandFor, IsLeftAt, NoneIsLeftAt}
+use Rattle.kept_parts.proofs.Common.{MayComeNext, IsReadAt, IsAtRest, HasSomeKeyIn, HasKeysIn, IsNotTakenAt, answered, formed_rest, not_both, beside}
+use Rattle.kept_parts.proofs.Common.{middle, own_alike, parts_in_any_order, KeptPast, IsOpenRead, IsPast, refused_reads_are_not_kept, left_of}
+use Rattle.kept_parts.proofs.Common.{untold_reads_are_taken, KeptPart, AreCallsBefore, IsOwn, IsKeptAs, AreKept, at_rest, ReadsAtRestAreTaken}
+use Rattle.kept_parts.proofs.Common.{ReadsWithoutReportAreTaken}
 use Rattle.key_parts.proofs.ComeLemmas.{operations_come_next}
-use Rattle.key_parts.proofs.DecideLemmas.{formed_rest}
-use Rattle.key_parts.proofs.EventLemmas.{not_both, beside, middle, own_alike}
 use Rattle.key_parts.proofs.RestLemmas.{reads_at_rest as reads_of_parts_at_rest}
-use Rattle.key_parts.proofs.StepLemmas.{parts_in_any_order}
-use Rattle.kept_pasts.specs.Pasts.{KeptPast, IsOpenRead, IsPast}
 use Rattle.kept_pasts.proofs.AfterLemmas.{is_past_after}
-use Rattle.kept_pasts.proofs.EventLemmas.{refused_reads_are_not_kept}
-use Rattle.kept_pasts.proofs.PastLemmas.{left_of}
-use Rattle.kept_pasts.proofs.TakenLemmas.{untold_reads_are_taken}
-use Rattle.kept_parts.specs.KeptParts.{KeptPart, AreCallsBefore, IsOwn, IsKeptAs, AreKept, at_rest}
-use Rattle.kept_parts.specs.Events.{ReadsAtRestAreTaken, ReadsWithoutReportAreTaken}
 use Rattle.kept_parts.proofs.CallLemmas.{concerns_low_key, reads_keep, reads_leave, AreCallsAfter, calls_answered, keyed_around}
 use Rattle.kept_parts.proofs.PartLemmas.{own_at_rest, IsKeptFirst, first_of, from_first, stand_after, IsKeptPast}
-use Rattle.kept_parts.proofs.AnswerLemmas.{Becomes, EachBecomes, one_becomes, all_become, IsFree, around, from_around, apart_around, own_still, whole_still, read_free, read_then, others_then}
+use Rattle.kept_parts.proofs.AnswerLemmas.{Becomes, EachBecomes, one_becomes, all_become, IsFree, around, from_around, apart_around, own_still}
+use Rattle.kept_parts.proofs.AnswerLemmas.{whole_still, read_free, read_then, others_then}
 
--- ---- a part that stands further back
+-- ---- a part that is not the first
 
 abbrev AreApartParts : Part → Part → Type 0
 AreApartParts part other = AreApart part.keys other.keys
@@ -96,7 +74,7 @@ module _ (xs : List Part) (x : Part) (ys : List Part) where
       across : All (λ a. All (AreApartParts a) (x ∷ ys)) xs
       across = AllPairs-across AreApartParts xs (x ∷ ys) apart
 
-  -- parts stand where the first is moved into the middle, and back
+  -- parts represent the calls if the first is moved into the middle, and back
   pub stand_middle : (held : ℕ → Option ℕ) (place : ℕ) (calls : List KeyedCall) → StandFor held place calls (x ∷ xs ++ ys)
       → StandFor held place calls (xs ++ x ∷ ys)
   stand_middle held place calls stand =
@@ -129,7 +107,7 @@ each_same (past ∷ kept) = (past ∷ [], kept, refl, refl, each_same kept)
 module _ (held : ℕ → Option ℕ) (place : ℕ) (front back : List Operation) (o : Operation) (response : Response) (pending : o.response ≡ None)
     (are : AreCallsBefore place (front ++ o ∷ back)) (read : may_change o.call ≡ false)
     (none : (key : ℕ) → IsNoEffect (effect_at o.call (Some response) key)) where
-  -- a past is kept as before, where it stands first
+  -- a past is kept as before, if it is the first
   past_becomes : (keys : Keys) (rest : List Part) (kept : KeptPast) (past : Choice) (nexts : List KeptPast) → IsSame kept nexts
       → IsKeptPast keys (front ++ o ∷ back) kept past → Becomes held (suc place) (front ++ answered response o ∷ back) keys rest past nexts
   past_becomes keys rest kept past nexts same known = by_reply (bool_cases (is_refusal response.reply))
@@ -167,7 +145,7 @@ module _ (held : ℕ → Option ℕ) (place : ℕ) (front back : List Operation)
           (subst (λ (calls : List KeyedCall). StandFor held (suc place) calls (record { keys = keys; pasts = next ∷ others } ∷ rest))
           (sym (keyed_around front back (answered response o))) next_stand)
 
-  -- and so is each part
+  -- each part is kept as before
   parts_become : (kept : List KeptPart) (parts done : List Part) → AllZip (IsKeptAs (front ++ o ∷ back)) kept parts
       → StandFor held (suc place) (map keyed (front ++ answered response o ∷ back)) (parts ++ done)
       → (news : List Part) × AllZip (IsKeptAs (front ++ answered response o ∷ back)) kept news
@@ -231,7 +209,7 @@ record IsReadOfRest (place : ℕ) (front back : List Operation) (o : Operation) 
 
 module _ (place : ℕ) (front back : List Operation) (o : Operation) (response : Response) (keys : Keys) (pairs : Contents) (past : Choice)
     (all : IsReadOfRest place front back o response keys pairs past) where
-  -- it is left, and nothing else
+  -- the read is left, and nothing else
   left_now : IsPast keys (map keyed (front ++ answered response o ∷ back))
       (record { pairs = pairs; left = answered response o ∷ []; found = [] }) past
   left_now =
@@ -266,7 +244,7 @@ module _ (place : ℕ) (front back : List Operation) (o : Operation) (response :
       (Contains-map keyed (front ++ o ∷ back) p (beside front o back p rest))))
       (Contains-around front (answered response o) back p p_in)
 
-  -- and if something is left of it, it is a read that is pending
+  -- if something is left of another call, it is a pending read
   open_if_left : (a : KeyedCall) → Contains (map keyed (front ++ o ∷ back)) a → a.refused ≡ false → IsLeftAt keys past a → IsOpenRead a
   open_if_left a a_in accepted is_left =
       ⊎_elim
@@ -293,7 +271,7 @@ module _ (place : ℕ) (front back : List Operation) (o : Operation) (response :
       (λ old. old_quiet a key old here)
       (read_or_old a a_in))
 
-  -- so it may come next
+  -- the call that is answered may come next
   first_now : (a : KeyedCall) → Contains (map keyed (front ++ answered response o ∷ back)) a → precedes a (keyed (answered response o)) ≡ true
       → (a.refused ≡ true) ⊎ NoneIsLeftAt keys past a
   first_now a a_in earlier = ⊎_elim

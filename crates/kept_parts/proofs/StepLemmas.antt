@@ -1,25 +1,11 @@
 -- Parts that are kept, in another order (`parts_move`); and pasts of a part that go (`dead_pasts_are_lost`), or become others (`pasts_move_on`).
-use Rattle.std.proofs.Common.{◌≡◌, ℕ, ◌<◌, ◌≤◌, Bool, true, false, List, [], ◌∷◌, ◌++◌, map, Option, None, Some, inl, inr, refl, sym, ◌∙◌, subst, ⊎_elim}
-use Rattle.std.proofs.lemmas.Bool.{false≢true}
-use Rattle.std.specs.Prelude.{◌⊎◌, is_some, AllPairs, Any, Contains}
-use Rattle.std.specs.List.{AllZip}
-use Rattle.std.proofs.lemmas.List.Elements.{All-nil, All-contains}
-use Rattle.list_laws.proofs.FilterLemmas.{AllPairs-map, Contains-from_map}
-use Rattle.list_laws.proofs.Lists.{All-from_contains}
-use Rattle.events.specs.declared.operation.Operation.{Operation}
-use Rattle.events.specs.declared.operation.Response.{Response}
-use Rattle.events.specs.Keys.{low_key, may_change}
-use Rattle.map_object.specs.MapObject.{value_at}
-use Rattle.orders.specs.Orders.{IsLinearizable}
-use Rattle.key_effects.specs.KeyedCalls.{KeyedCall, concerns_key, is_completed, keyed, place_of}
-use Rattle.key_effects.specs.Choices.{Choice}
-use Rattle.key_effects.specs.Cuts.{Keys}
-use Rattle.key_parts.specs.Parts.{Part, StandFor}
-use Rattle.kept_pasts.specs.Pasts.{KeptPast, IsNameKept, OpenReadsBeganAfter}
+use Rattle.kept_parts.proofs.Common.{◌≡◌, ℕ, ◌<◌, ◌≤◌, Bool, true, false, List, [], ◌∷◌, ◌++◌, map, Option, None, Some, inl, inr, refl, sym, ◌∙◌}
+use Rattle.kept_parts.proofs.Common.{subst, ⊎_elim, false≢true, ◌⊎◌, is_some, AllPairs, Any, Contains, AllZip, All-nil, All-contains, AllPairs-map}
+use Rattle.kept_parts.proofs.Common.{Contains-from_map, All-from_contains, Operation, Response, low_key, may_change, value_at, IsLinearizable}
+use Rattle.kept_parts.proofs.Common.{KeyedCall, concerns_key, is_completed, keyed, place_of, Choice, Keys, Part, StandFor, KeptPast, IsNameKept}
+use Rattle.kept_parts.proofs.Common.{OpenReadsBeganAfter, dead_pasts_go, AreCallsBefore, IsOfCalls, IsOwn, IsKeptAs, AreKept, PartsMove}
+use Rattle.kept_parts.proofs.Common.{DeadPastsAreLost, ReadsBeganAfter, PastsMoveOn}
 use Rattle.kept_pasts.specs.Leads.{Setting, IsMadeOf}
-use Rattle.kept_pasts.proofs.DropLemmas.{dead_pasts_go}
-use Rattle.kept_parts.specs.KeptParts.{AreCallsBefore, IsOfCalls, IsOwn, IsKeptAs, AreKept}
-use Rattle.kept_parts.specs.Steps.{PartsMove, DeadPastsAreLost, ReadsBeganAfter, PastsMoveOn}
 use Rattle.kept_parts.proofs.CallLemmas.{own_key_of}
 use Rattle.kept_parts.proofs.PartLemmas.{IsKeptFirst, first_of, from_first, IsKeptPast, AreKeptPasts}
 use Rattle.kept_parts.proofs.AnswerLemmas.{Becomes, EachBecomes, one_becomes, all_become, zip_append}
@@ -27,7 +13,7 @@ use Rattle.kept_parts.proofs.RestLemmas.{stand_middle, stand_front}
 
 -- ---- parts in another order
 
--- two lists whose items go together, at a place of the first
+-- a place of the first of two lists whose items belong together
 pub record IsZipAt {A B : Type 0} (R : A → B → Type 0) (xs ys : List A) (zs : List B) : Type 0 where
   pub us : List B
   pub vs : List B

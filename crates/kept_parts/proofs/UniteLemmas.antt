@@ -1,22 +1,10 @@
 -- Two parts that are kept become one (`kept_parts_unite`), and one falls apart (`kept_parts_fall_apart`).
-use Rattle.std.proofs.Common.{◌≡◌, ℕ, true, List, [], ◌∷◌, map, None, inl, inr, refl, sym, subst, ⊎_elim}
-use Rattle.std.specs.Prelude.{◌≢◌, All, Contains}
-use Rattle.std.specs.List.{AllZip}
-use Rattle.std.proofs.lemmas.Bool.{or_left, or_right, or_cases}
-use Rattle.std.proofs.lemmas.List.Elements.{All-nil, All-cons, All-head, All-tail, All-append, All-contains}
-use Rattle.list_laws.proofs.Lists.{All-from_contains}
-use Rattle.events.specs.declared.operation.Operation.{Operation}
-use Rattle.events.specs.Keys.{low_key, may_change}
-use Rattle.map_object.specs.MapObject.{value_at}
-use Rattle.key_effects.specs.KeyedCalls.{keyed}
-use Rattle.key_effects.specs.Cuts.{Keys}
-use Rattle.key_effects.specs.Apart.{AreApart}
-use Rattle.key_parts.specs.Parts.{Part, StandFor}
-use Rattle.kept_pasts.specs.Pasts.{KeptPast}
+use Rattle.kept_parts.proofs.Common.{◌≡◌, ℕ, true, List, [], ◌∷◌, map, None, inl, inr, refl, sym, subst, ⊎_elim, ◌≢◌, All, Contains, AllZip, or_left}
+use Rattle.kept_parts.proofs.Common.{or_right, or_cases, All-nil, All-cons, All-head, All-tail, All-append, All-contains, All-from_contains}
+use Rattle.kept_parts.proofs.Common.{Operation, low_key, may_change, value_at, keyed, Keys, AreApart, Part, StandFor, KeptPast, IsOfCalls, IsOwn}
+use Rattle.kept_parts.proofs.Common.{IsKeptAs, AreKept, KeptPartsUnite, KeptPartsFallApart}
 use Rattle.kept_pasts.specs.Unions.{both_keys, IsTogether, ArePairs, FallsApart}
 use Rattle.kept_pasts.proofs.UnionLemmas.{pasts_unite, pasts_fall_apart}
-use Rattle.kept_parts.specs.KeptParts.{IsOfCalls, IsOwn, IsKeptAs, AreKept}
-use Rattle.kept_parts.specs.Steps.{KeptPartsUnite, KeptPartsFallApart}
 use Rattle.kept_parts.proofs.PartLemmas.{keys_in, IsKeptFirst, first_of, from_first, others_apart}
 use Rattle.kept_parts.proofs.AnswerLemmas.{own_fewer}
 

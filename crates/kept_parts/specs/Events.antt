@@ -69,7 +69,7 @@ IsAfterAnswer o response past nexts =
     IsLeftWithAnswer o response past nexts ⊎ IsLeftNoMore o response past nexts ⊎ FoundAsAnswered o response past nexts
     ⊎ FoundOtherwise o response past nexts
 
--- of pasts in turn
+-- what becomes of pasts, each in turn, when a call is answered
 abbrev pub AreAfterAnswer : Operation → Response → List KeptPast → List KeptPast → Type 0
 AreAfterAnswer o response [] nexts = nexts ≡ []
 AreAfterAnswer o response (past ∷ pasts) nexts =

@@ -33,8 +33,8 @@ pub record IsOfCalls (calls : List Operation) (kept : KeptPast) : Type 0 where
   pub found : (f : FoundAt) → Contains kept.found f
       → (a : Operation) × Contains calls a × (a.inv ≡ f.inv) × (a.response ≡ None) × (may_change a.call ≡ true)
 
--- what is kept of a past of some keys is of the calls, and a pending call that may change the map, and has its key there, is left, or what it
--- found is kept
+-- What is kept of a past of some keys is of the calls. A pending call that may change the map, and
+-- has its key there, is left, or what it found is kept.
 pub record IsOwn (keys : Keys) (calls : List Operation) (kept : KeptPast) : Type 0 where
   pub of_calls : IsOfCalls calls kept
   pub whole : (o : Operation) → Contains calls o → o.response ≡ None → may_change o.call ≡ true → keys (low_key o.call) ≡ true
@@ -46,8 +46,8 @@ pub record IsKeptAs (calls : List Operation) (kept : KeptPart) (part : Part) : T
   pub pasts : ArePasts kept.keys (map keyed calls) kept.pasts part.pasts
   pub own : All (IsOwn kept.keys calls) kept.pasts
 
--- Parts are kept for the calls of a stream before its event at a place: their pasts, some of which are kept so, stand for these calls, whatever
--- events follow.
+-- Parts are kept for the calls of a stream before its event at a place: their pasts, some of which
+-- are kept so, represent these calls, whatever events follow.
 pub record AreKept (start : Contents) (place : ℕ) (calls : List Operation) (kept : List KeptPart) : Type 0 where
   pub are_calls : AreCallsBefore place calls
   pub parts : List Part

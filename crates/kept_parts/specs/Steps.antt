@@ -16,7 +16,7 @@ use Rattle.kept_pasts.specs.Unions.{both_keys, ArePairs, FallsApart}
 use Rattle.kept_pasts.specs.Leads.{Leads, IsMadeOf}
 use Rattle.kept_parts.specs.KeptParts.{KeptPart, AreKept}
 
--- parts stand in any order
+-- the order of parts does not matter
 abbrev pub PartsMove : Type 0
 PartsMove =
     (start : Contents) (place : ℕ) (calls : List Operation) (part : KeptPart) (front back : List KeptPart)
@@ -67,7 +67,7 @@ KeptPartsFallApart =
     → AreKept start place calls (record { keys = both_keys keys others; pasts = all } ∷ rest)
     → AreKept start place calls (record { keys = keys; pasts = a ∷ [] } ∷ record { keys = others; pasts = other_kept } ∷ rest)
 
--- a part's pasts stand in any order, each once or more
+-- the order of a part's pasts does not matter, nor how often each appears
 abbrev pub PastsInAnyOrderAreKept : Type 0
 PastsInAnyOrderAreKept =
     (start : Contents) (place : ℕ) (calls : List Operation) (keys : Keys) (pasts others : List KeptPast) (rest : List KeptPart)

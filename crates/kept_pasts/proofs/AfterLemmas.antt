@@ -1,29 +1,13 @@
 -- What is kept of the past to which a past comes by an operation that is left.
-use Rattle.std.proofs.Common.{◌≡◌, ℕ, ◌==◌, true, false, not, ◌&&◌, List, [], Option, Some, None, inl, inr}
-use Rattle.std.proofs.Common.{refl, sym, ap, ◌∙◌, subst, ⊎_elim}
-use Rattle.std.specs.Prelude.{◌⊎◌, ◌↔◌, All, Contains, is_some}
-use Rattle.std.proofs.lemmas.Bool.{and_parts, and_from, or_right, or_cases, not-true, eqb-true, eq-eqb, ne_eqb}
-use Rattle.std.proofs.lemmas.List.Elements.{All-contains}
-use Rattle.list_laws.proofs.Lists.{All-from_contains, Contains-nil, Contains-first, Contains-cases, Contains-filter, Contains-from_filter}
-use Rattle.events.specs.declared.operation.Operation.{Operation}
-use Rattle.events.specs.declared.operation.Response.{Response}
-use Rattle.events.specs.Keys.{low_key, high_key}
-use Rattle.map_object.specs.MapObject.{Contents, value_at}
+use Rattle.kept_pasts.proofs.Common.{◌≡◌, ℕ, ◌==◌, true, false, not, ◌&&◌, List, [], Option, Some, None, inl, inr, refl, sym, ap, ◌∙◌, subst, ⊎_elim}
+use Rattle.kept_pasts.proofs.Common.{◌⊎◌, ◌↔◌, All, Contains, is_some, and_parts, and_from, or_right, or_cases, not-true, eqb-true, eq-eqb, ne_eqb}
+use Rattle.kept_pasts.proofs.Common.{All-contains, All-from_contains, Contains-nil, Contains-first, Contains-cases, Contains-filter}
+use Rattle.kept_pasts.proofs.Common.{Contains-from_filter, Operation, Response, low_key, high_key, Contents, value_at, KeyedCall, is_completed}
+use Rattle.kept_pasts.proofs.Common.{place_of, keyed, AreKeyedCalls, Choice, rest_of, Keys, IsAlikeAt, bool_cases, same_call, AgreesAt, left_at}
+use Rattle.kept_pasts.proofs.Common.{IsLeftAt, IsAfterCall, AreLeftCalls, AreOfLeftCalls, without_call, HasKeysIn, HaveTheirKeys, not_both, FoundAt}
+use Rattle.kept_pasts.proofs.Common.{KeptPast, AreAllKept, ArePointsOrAnswered, AreFound, IsPast, found_by, IsPastAfter}
 use Rattle.orders.specs.Orders.{after_call}
-use Rattle.key_effects.specs.KeyedCalls.{KeyedCall, is_completed, place_of, keyed}
-use Rattle.key_effects.specs.KeyedOrders.{AreKeyedCalls}
-use Rattle.key_effects.specs.Choices.{Choice, rest_of}
-use Rattle.key_effects.specs.Cuts.{Keys}
-use Rattle.key_effects.specs.Apart.{IsAlikeAt}
-use Rattle.key_effects.proofs.DeadLemmas.{bool_cases}
-use Rattle.key_effects.proofs.OrderLemmas.{same_call}
-use Rattle.key_parts.specs.Parts.{AgreesAt, left_at}
-use Rattle.key_parts.specs.Steps.{IsLeftAt, IsAfterCall}
-use Rattle.key_parts.specs.Operations.{AreLeftCalls, AreOfLeftCalls, without_call}
-use Rattle.key_parts.specs.Left.{HasKeysIn, HaveTheirKeys}
-use Rattle.key_parts.proofs.EventLemmas.{not_both}
 use Rattle.kept_pasts.proofs.PastLemmas.{one_key}
-use Rattle.kept_pasts.specs.Pasts.{FoundAt, KeptPast, AreAllKept, ArePointsOrAnswered, AreFound, IsPast, found_by, IsPastAfter}
 
 -- what an operation found that is pending
 abbrev pub found_at : Contents → Operation → FoundAt
@@ -49,7 +33,8 @@ pub other_operation : (inv : ℕ) (left : List Operation) (q : Operation) → Co
 other_operation inv left q q_in other =
     Contains-filter (λ (p : Operation). not (p.inv == inv)) left q q_in (ap not (ne_eqb q.inv inv other))
 
--- All that is known of a past, of a call that is taken from there, of its operation, and of the past that comes next.
+-- All that is known when a call is taken from a past: of the past, the call, its operation, and the
+-- past that comes next.
 pub record IsStep (keys : Keys) (calls : List KeyedCall) (kept : KeptPast) (past after : Choice) (a : KeyedCall) (o : Operation) : Type 0 where
   pub is : IsPast keys calls kept past
   pub apart : AreKeyedCalls calls

@@ -1,23 +1,11 @@
 -- Two pasts that are kept alike: each goes on where the other does.
-use Rattle.std.proofs.Common.{◌≡◌, ℕ, Bool, true, false, cond, List, ◌∷◌, Option, inl, inr, refl, sym, ap, ◌∙◌, subst, ⊎_elim}
-use Rattle.std.specs.Prelude.{◌⊎◌, Contains}
-use Rattle.std.proofs.lemmas.Bool.{not-true}
-use Rattle.std.proofs.lemmas.List.Elements.{All-head, All-contains}
-use Rattle.list_laws.proofs.Lists.{All-from_contains, Contains-first, Contains-later, Contains-cases}
-use Rattle.events.specs.declared.operation.Operation.{Operation}
-use Rattle.map_object.specs.MapObject.{Contents, value_at}
-use Rattle.key_effects.specs.KeyedCalls.{KeyedCall, is_completed, keyed}
+use Rattle.kept_pasts.proofs.Common.{◌≡◌, ℕ, Bool, true, false, cond, List, ◌∷◌, Option, inl, inr, refl, sym, ap, ◌∙◌, subst, ⊎_elim, ◌⊎◌, Contains}
+use Rattle.kept_pasts.proofs.Common.{not-true, All-head, All-contains, All-from_contains, Contains-first, Contains-later, Contains-cases, Operation}
+use Rattle.kept_pasts.proofs.Common.{Contents, value_at, KeyedCall, is_completed, keyed, Choice, Agrees, GoesOn, SomeGoesOn, Keys, other_keys}
+use Rattle.kept_pasts.proofs.Common.{IsAlikeAt, bool_cases, same_call, Part, IsAt, IsOneOf, choices_of, ShareKeys, AgreesAt, left_at, not_both}
+use Rattle.kept_pasts.proofs.Common.{keys_shared, with_past, with_other, TakesNoMore, part_steps, KeptPast, IsOpenRead, IsPast, AreKeptAlike}
+use Rattle.kept_pasts.proofs.Common.{AlikePastsStand, AlikePastsGo}
 use Rattle.key_effects.specs.Growth.{HaveGrown}
-use Rattle.key_effects.specs.Choices.{Choice, Agrees, GoesOn, SomeGoesOn}
-use Rattle.key_effects.specs.Cuts.{Keys}
-use Rattle.key_effects.specs.Apart.{other_keys, IsAlikeAt}
-use Rattle.key_effects.proofs.DeadLemmas.{bool_cases}
-use Rattle.key_effects.proofs.OrderLemmas.{same_call}
-use Rattle.key_parts.specs.Parts.{Part, IsAt, IsOneOf, choices_of, ShareKeys, AgreesAt, left_at}
-use Rattle.key_parts.proofs.EventLemmas.{not_both}
-use Rattle.key_parts.proofs.PartLemmas.{keys_shared, with_past, with_other, TakesNoMore, part_steps}
-use Rattle.kept_pasts.specs.Pasts.{KeptPast, IsOpenRead, IsPast, AreKeptAlike}
-use Rattle.kept_pasts.specs.Cuts.{AlikePastsStand, AlikePastsGo}
 use Rattle.kept_pasts.proofs.DropLemmas.{pasts_in_any_order}
 
 alike_back : (kept other : KeptPast) → AreKeptAlike kept other → AreKeptAlike other kept

@@ -1,33 +1,14 @@
 -- Pasts at a past moment: those that come next at some keys, though operations that have some of these have others too. They are barred there.
-use Rattle.std.proofs.Common.{◌≡◌, ℕ, ◌+◌, ◌<◌, ◌==◌, true, false, not, List, Option, Some, inl, inr, refl, sym, ap, ◌∙◌, subst, ⊎_elim, arith}
-use Rattle.std.specs.Prelude.{◌⊎◌, All, Contains}
-use Rattle.std.specs.List.{AllZip}
-use Rattle.std.proofs.lemmas.Bool.{and_parts, eqb-true, eq-eqb}
-use Rattle.std.proofs.lemmas.List.Elements.{All-contains}
-use Rattle.events.specs.declared.operation.Operation.{Operation}
+use Rattle.kept_pasts.proofs.Common.{◌≡◌, ℕ, ◌+◌, ◌<◌, ◌==◌, true, false, not, List, Option, Some, inl, inr, refl, sym, ap, ◌∙◌, subst, ⊎_elim, arith}
+use Rattle.kept_pasts.proofs.Common.{◌⊎◌, All, Contains, AllZip, and_parts, eqb-true, eq-eqb, All-contains, Operation, value_at, KeyedCall, Effect}
+use Rattle.kept_pasts.proofs.Common.{IsFormed, IsNoEffect, ends_before, precedes, place_of, keyed, AreKeyedCalls, Choice, rest_of, Keys, IsAlikeAt}
+use Rattle.kept_pasts.proofs.Common.{same_precedes, bool_cases, same_call, ends_at, ends_sooner, left_at, IsLeftAt, NoneIsLeftAt, MayComeNext}
+use Rattle.kept_pasts.proofs.Common.{IsAfterCall, AreKnownAt, IsBarredAt, AreOwnOrBarred, AreAllLeft, HasSomeKeyIn, OperationMayCome, HasKeysIn}
+use Rattle.kept_pasts.proofs.Common.{begun_first, operations_may_come, not_both, AreAmong, begun_before, KeptPast, IsPast, IsPastAfter}
+use Rattle.kept_pasts.proofs.Common.{OpenReadsBeganAfter, UnbarredPastsComeNext, IsBarredBy, AreOwnOrBarredBy}
 use Rattle.events.specs.Precedence.{is_before}
-use Rattle.map_object.specs.MapObject.{value_at}
-use Rattle.key_effects.specs.KeyedCalls.{KeyedCall, Effect, IsFormed, IsNoEffect, ends_before, precedes, place_of, keyed}
-use Rattle.key_effects.specs.KeyedOrders.{AreKeyedCalls}
-use Rattle.key_effects.specs.Choices.{Choice, rest_of}
-use Rattle.key_effects.specs.Cuts.{Keys}
-use Rattle.key_effects.specs.Apart.{IsAlikeAt}
-use Rattle.key_effects.proofs.BridgeLemmas.{same_precedes}
 use Rattle.key_effects.proofs.CutLemmas.{outside_none}
-use Rattle.key_effects.proofs.DeadLemmas.{bool_cases}
-use Rattle.key_effects.proofs.OrderLemmas.{same_call, ends_at, ends_sooner}
-use Rattle.key_parts.specs.Parts.{left_at}
-use Rattle.key_parts.specs.Steps.{IsLeftAt, NoneIsLeftAt, MayComeNext, IsAfterCall, AreKnownAt, IsBarredAt, AreOwnOrBarred}
-use Rattle.key_parts.specs.Operations.{AreAllLeft, HasSomeKeyIn, OperationMayCome}
-use Rattle.key_parts.specs.Left.{HasKeysIn}
 use Rattle.key_parts.proofs.BarredLemmas.{unbarred_calls_come_next}
-use Rattle.key_parts.proofs.CallLemmas.{begun_first}
-use Rattle.key_parts.proofs.ComeLemmas.{operations_may_come}
-use Rattle.key_parts.proofs.EventLemmas.{not_both}
-use Rattle.key_parts.proofs.FewerLemmas.{AreAmong}
-use Rattle.key_parts.proofs.FirstLemmas.{begun_before}
-use Rattle.kept_pasts.specs.Pasts.{KeptPast, IsPast, IsPastAfter, OpenReadsBeganAfter}
-use Rattle.kept_pasts.specs.Cuts.{UnbarredPastsComeNext, IsBarredBy, AreOwnOrBarredBy}
 use Rattle.kept_pasts.proofs.LimitLemmas.{IsPastBefore, named_or_none, all_left, parted_before}
 use Rattle.kept_pasts.proofs.NextLemmas.{ComesNext, each_one, zip_weaker, zip_there, zip_back, next_by, one_call}
 
@@ -65,7 +46,7 @@ module _ (keys some : Keys) (res : ℕ) (calls : List KeyedCall) (kept : KeptPas
   has_key a o a_in o_in alike key left =
       at.is.own o a o_in a_in (sym alike.inv) key (and_parts (not (past.taken a.inv key)) (a.concerns key) left).1
 
-  -- where it is barred, so is its call
+  -- if it is barred, so is its call
   barred_call : (a : KeyedCall) (o : Operation) → IsAlikeAt keys (left_at keys past a) (keyed o) → IsBarredBy some kept.pairs o
       → IsBarredAt some past a
   barred_call a o alike (key, is, never) = (
@@ -79,7 +60,7 @@ module _ (keys some : Keys) (res : ℕ) (calls : List KeyedCall) (kept : KeptPas
       effect_here : keys key ≡ true → (left_at keys past a).effect key ≡ (rest_of past a).effect key
       effect_here here = rw here refl
 
-  -- and that is left there
+  -- a call that is barred at the keys is left there
   barred_left : (a : KeyedCall) → Contains calls a → IsBarredAt some past a → IsLeftAt some past a
   barred_left a a_in (key, is, never) = ⊎_elim
       (λ left. (key, is, left))
@@ -90,7 +71,7 @@ module _ (keys some : Keys) (res : ℕ) (calls : List KeyedCall) (kept : KeptPas
       absurd (not_both (((rest_of past a).effect key).fits (past.holds key)) (nothing.fits (past.holds key)) never))
       (bool_cases ((rest_of past a).concerns key))
 
-  -- so the call of an operation of some of the keys is left there
+  -- the call of an operation of some of the keys is left there
   left_there : (o : Operation) → Contains kept.left o → o.inv < res + 1 → HasSomeKeyIn some o
       → (a : KeyedCall) × Contains calls a × (a.refused ≡ false) × IsLeftAt some past a × IsAlikeAt keys (left_at keys past a) (keyed o)
   left_there o o_in early has =

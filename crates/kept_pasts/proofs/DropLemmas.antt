@@ -1,12 +1,8 @@
 -- Pasts of a part that are listed in another order, or dropped.
-use Rattle.std.proofs.Common.{◌∷◌, inl, inr, subst, ⊎_elim}
-use Rattle.list_laws.proofs.Lists.{Contains-later, Contains-cases}
-use Rattle.key_effects.specs.Choices.{Choice}
-use Rattle.key_parts.specs.Parts.{GoesOnAt}
+use Rattle.kept_pasts.proofs.Common.{◌∷◌, inl, inr, subst, ⊎_elim, Contains-later, Contains-cases, Choice, GoesOnAt, at_self, PastsInAnyOrder}
+use Rattle.kept_pasts.proofs.Common.{DeadPastsGo}
 use Rattle.key_parts.proofs.OperationLemmas.{operations_decide}
-use Rattle.key_parts.proofs.PartLemmas.{at_self}
 use Rattle.key_parts.proofs.StepLemmas.{dead_pasts_go as pasts_of_part_go}
-use Rattle.kept_pasts.specs.Cuts.{PastsInAnyOrder, DeadPastsGo}
 
 pub pasts_in_any_order : PastsInAnyOrder
 pasts_in_any_order held place calls keys pasts others rest forth back stand =

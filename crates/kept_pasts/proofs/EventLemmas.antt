@@ -1,23 +1,15 @@
 -- What is kept of a past before any event; and as calls begin, are answered, or are refused.
-use Rattle.std.proofs.Common.{◌≡◌, ℕ, ◌<◌, true, false, not, List, [], ◌∷◌, ◌++◌, Option, None, Some, inl, inr, sym, ap, ◌∙◌, subst, ⊎_elim, arith}
-use Rattle.std.specs.Prelude.{◌⊎◌, All, Contains, is_some}
-use Rattle.std.proofs.lemmas.Bool.{and_parts, false_from_ne_true}
-use Rattle.std.proofs.lemmas.List.Elements.{All-contains, Contains-append_left, Contains-append_cases}
-use Rattle.list_laws.proofs.Lists.{Contains-nil, Contains-cases, Contains-around}
-use Rattle.events.specs.declared.operation.Operation.{Operation}
-use Rattle.events.specs.declared.operation.Response.{Response}
-use Rattle.events.specs.Keys.{low_key}
-use Rattle.map_object.specs.MapObject.{value_at}
-use Rattle.key_effects.specs.KeyedCalls.{KeyedCall, concerns_key, is_refusal, place_of, keyed}
-use Rattle.key_effects.specs.Choices.{Choice, at_first}
-use Rattle.key_effects.specs.Cuts.{Keys}
-use Rattle.key_parts.specs.Steps.{IsLeftAt}
-use Rattle.key_parts.specs.Left.{HasKeysIn, IsNotTakenAt, answered}
+use Rattle.kept_pasts.proofs.Common.{◌≡◌, ℕ, ◌<◌, true, false, not, List, [], ◌∷◌, ◌++◌, Option, None, Some, inl, inr, sym, ap, ◌∙◌, subst, ⊎_elim}
+use Rattle.kept_pasts.proofs.Common.{arith, ◌⊎◌, All, Contains, is_some, and_parts, false_from_ne_true, All-contains, Contains-append_left}
+use Rattle.kept_pasts.proofs.Common.{Contains-append_cases, Contains-nil, Contains-cases, Contains-around, Operation, Response, low_key, value_at}
+use Rattle.kept_pasts.proofs.Common.{KeyedCall, concerns_key, is_refusal, place_of, keyed, Choice, at_first, Keys, IsLeftAt, HasKeysIn, IsNotTakenAt}
+use Rattle.kept_pasts.proofs.Common.{answered, IsShown, not_both, beside, middle, differ, own_alike, begun_calls_are_left, other_calls_begin}
+use Rattle.kept_pasts.proofs.Common.{other_calls_are_answered, answered_calls_are_left, NothingIsKept, BegunCallsAreKept, OthersBegin}
+use Rattle.kept_pasts.proofs.Common.{AnsweredCallsAreKept, AnsweredReadsAreKept, OthersAreAnswered, RefusedCallsAreNotKept, RefusedReadsAreNotKept}
+use Rattle.kept_pasts.proofs.Common.{KeptPast, AreFound, IsOpenRead, IsPast}
 use Rattle.key_parts.proofs.AnswerLemmas.{nothing_is_left, answered_reads_are_left, refused_calls_are_not_left}
-use Rattle.key_parts.proofs.EventLemmas.{IsShown, not_both, beside, middle, differ, own_alike, begun_calls_are_left, other_calls_begin, other_calls_are_answered, answered_calls_are_left}
-use Rattle.kept_pasts.specs.Events.{NothingIsKept, BegunCallsAreKept, OthersBegin, AnsweredCallsAreKept, AnsweredReadsAreKept, OthersAreAnswered, RefusedCallsAreNotKept, RefusedReadsAreNotKept}
-use Rattle.kept_pasts.specs.Pasts.{KeptPast, AreFound, IsOpenRead, IsPast}
-use Rattle.kept_pasts.proofs.PastLemmas.{one_key, has_its_key, IsFit, AreKnown, fit_of, left_of, past_from, found_is_free, taken_concerns, fit_on, fit_now, known_on, found_on, whole_on}
+use Rattle.kept_pasts.proofs.PastLemmas.{one_key, has_its_key, IsFit, AreKnown, fit_of, left_of, past_from, found_is_free, taken_concerns, fit_on}
+use Rattle.kept_pasts.proofs.PastLemmas.{fit_now, known_on, found_on, whole_on}
 
 -- ---- before any event
 
@@ -46,13 +38,13 @@ module _ (keys : Keys) (calls : List KeyedCall) (kept : KeptPast) (past : Choice
   new_name : (a : KeyedCall) → Contains calls a → a.inv ≡ o.inv → ⊥
   new_name a a_in same = let less : a.inv < o.inv = All-contains (λ b. b.inv < o.inv) calls a later a_in in omega (arith, less, same)
 
-  -- it was not taken
+  -- the new call was not taken
   new_free : IsNotTakenAt keys past o.inv
   new_free key here = false_from_ne_true (past.taken o.inv key) (λ taken.
       let (a, a_in, same, concerned) = is.known o.inv key here taken in
       new_name a a_in same)
 
-  -- and nothing is left of it yet
+  -- nothing is left of the call yet
   not_left_yet : (p : Operation) → Contains kept.left p → p.inv ≡ o.inv → ⊥
   not_left_yet p p_in same =
       let (a, a_in, accepted, some, alike) = is.owned p p_in in

@@ -1,3 +1,4 @@
+mod Common
 pub mod DropLemmas
 pub mod AlikeLemmas
 pub mod LimitLemmas

@@ -1,27 +1,12 @@
 -- A kept past at some of its keys, up to a limit before which no pending read of these keys began: what is left there of the calls that began before
 -- it is known by the operations alone.
-use Rattle.std.proofs.Common.{◌≡◌, ℕ, ◌+◌, ◌<◌, ◌≤◌, Bool, true, false, not, ◌&&◌, List, [], ◌∷◌, None, inl, inr}
-use Rattle.std.proofs.Common.{refl, sym, ◌∙◌, subst, ⊎_elim, arith}
-use Rattle.std.specs.Prelude.{◌⊎◌, Contains}
-use Rattle.std.proofs.lemmas.Bool.{and_parts, cases_eq}
-use Rattle.std.proofs.lemmas.List.Elements.{All-head}
-use Rattle.list_laws.proofs.Lists.{Contains-nil, Contains-first, Contains-later, Contains-cases}
-use Rattle.events.specs.declared.operation.Operation.{Operation}
-use Rattle.key_effects.specs.KeyedCalls.{KeyedCall, concerns_key, keyed}
-use Rattle.key_effects.specs.KeyedOrders.{AreKeyedCalls}
-use Rattle.key_effects.specs.Choices.{Choice, at_first, rest_of}
-use Rattle.key_effects.specs.Cuts.{Keys}
-use Rattle.key_effects.specs.Apart.{IsAlikeAt}
-use Rattle.key_effects.proofs.DeadLemmas.{bool_cases}
-use Rattle.key_effects.proofs.OrderLemmas.{same_call}
-use Rattle.key_parts.specs.Parts.{Part, IsAt, IsOneOf, choices_of, left_at}
-use Rattle.key_parts.specs.Steps.{IsLeftAt, AreKnownAt, ArePartedBefore}
-use Rattle.key_parts.specs.Operations.{AreAllLeft, HasSomeKeyIn}
-use Rattle.key_parts.specs.Left.{HaveKeysTogether}
-use Rattle.key_parts.proofs.EventLemmas.{not_both}
-use Rattle.key_parts.proofs.FewerLemmas.{AreAmong}
+use Rattle.kept_pasts.proofs.Common.{◌≡◌, ℕ, ◌+◌, ◌<◌, ◌≤◌, Bool, true, false, not, ◌&&◌, List, [], ◌∷◌, None, inl, inr, refl, sym, ◌∙◌, subst}
+use Rattle.kept_pasts.proofs.Common.{⊎_elim, arith, ◌⊎◌, Contains, and_parts, cases_eq, All-head, Contains-nil, Contains-first, Contains-later}
+use Rattle.kept_pasts.proofs.Common.{Contains-cases, Operation, KeyedCall, concerns_key, keyed, AreKeyedCalls, Choice, at_first, rest_of, Keys}
+use Rattle.kept_pasts.proofs.Common.{IsAlikeAt, bool_cases, same_call, Part, IsAt, IsOneOf, choices_of, left_at, IsLeftAt, AreKnownAt}
+use Rattle.kept_pasts.proofs.Common.{ArePartedBefore, AreAllLeft, HasSomeKeyIn, HaveKeysTogether, not_both, AreAmong, KeptPast, IsPast, IsNameKept}
+use Rattle.kept_pasts.proofs.Common.{OpenReadsBeganAfter}
 use Rattle.key_parts.proofs.KnownLemmas.{calls_are_known}
-use Rattle.kept_pasts.specs.Pasts.{KeptPast, IsPast, IsNameKept, OpenReadsBeganAfter}
 
 -- ---- an operation of a name that has some key among these, or none
 
@@ -95,7 +80,7 @@ module _ (keys some : Keys) (limit : ℕ) (calls : List KeyedCall) (kept : KeptP
       concerned : a.concerns is_left.0 ≡ true
       concerned = (and_parts (not (past.taken a.inv is_left.0)) (a.concerns is_left.0) is_left.2).1
 
-      -- a pending read that is kept was not taken, and so it is left
+      -- a pending read that is kept was not taken; therefore it is left
       by_late : (limit ≤ a.inv) ⊎ IsNameKept kept a → (o : Operation) × Contains kept.left o × IsAlikeAt keys (left_at keys past a) (keyed o)
       by_late (inl later) = absurd (omega arith)
       by_late (inr (inl (o, o_in, same))) =
@@ -115,7 +100,7 @@ module _ (keys some : Keys) (limit : ℕ) (calls : List KeyedCall) (kept : KeptP
       → (key : ℕ) → a.concerns key ≡ true → some key ≡ true
   keys_inside o a o_in a_in same early has key concerned = at.together o o_in early has key (at.is.own o a o_in a_in same key concerned)
 
-  -- so its call is left there
+  -- the call of an operation that has some key there is left there
   pub left_there : (o : Operation) → Contains kept.left o → o.inv < limit → HasSomeKeyIn some o
       → (a : KeyedCall) × Contains calls a × (a.refused ≡ false) × IsLeftAt some past a × IsAlikeAt keys (left_at keys past a) (keyed o)
   left_there o o_in early has =
@@ -148,7 +133,7 @@ module _ (keys some : Keys) (limit : ℕ) (calls : List KeyedCall) (kept : KeptP
       (bool_cases ((rest_of past a).concerns key))))
       (named_or_none some a.inv kept.left)
 
-  -- and is left at these keys alone, or at others alone
+  -- a call is left only at these keys, or only at others
   pub parted_before : (rest : List Part) → ArePartedBefore some limit (record { keys = keys; pasts = past ∷ [] } ∷ rest) calls
   parted_before rest w b w_is b_in early accepted =
       ⊎_elim

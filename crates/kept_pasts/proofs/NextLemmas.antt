@@ -1,27 +1,11 @@
 -- Pasts at a past moment: those that come next, as they are kept.
-use Rattle.std.proofs.Common.{◌≡◌, ℕ, ◌+◌, ◌<◌, true, false, List, [], ◌∷◌, refl, sym, ap, ◌∙◌, subst, ⊎_elim, arith}
-use Rattle.std.specs.Prelude.{All, Contains, is_some}
-use Rattle.std.specs.List.{AllZip}
-use Rattle.std.proofs.lemmas.Bool.{false_from_ne_true, cases_eq}
-use Rattle.std.proofs.lemmas.List.Elements.{All-contains}
-use Rattle.list_laws.proofs.Lists.{Contains-first, Contains-later, Contains-at, place_of-Contains}
+use Rattle.kept_pasts.proofs.Common.{◌≡◌, ℕ, ◌+◌, ◌<◌, true, false, List, [], ◌∷◌, refl, sym, ap, ◌∙◌, subst, ⊎_elim, arith, All, Contains, is_some}
+use Rattle.kept_pasts.proofs.Common.{AllZip, false_from_ne_true, cases_eq, All-contains, Contains-first, Contains-later, Contains-at}
+use Rattle.kept_pasts.proofs.Common.{place_of-Contains, Operation, KeyedCall, Effect, IsFormed, ends_before, precedes, place_of, keyed, Choice}
+use Rattle.kept_pasts.proofs.Common.{rest_of, Keys, IsAlikeAt, IsRead, same_precedes, same_call, ends_at, left_at, MayComeNext, IsAfterCall, IsReadAt}
+use Rattle.kept_pasts.proofs.Common.{OperationMayCome, calls_come_next, reads_come_next, operations_may_come, operations_come_next, begun_before}
+use Rattle.kept_pasts.proofs.Common.{not_both, KeptPast, IsPast, IsPastAfter, PastsComeNext, ReadsOfPastsComeNext}
 use Rattle.list_laws.proofs.ZipLemmas.{zip_left, zip_right}
-use Rattle.events.specs.declared.operation.Operation.{Operation}
-use Rattle.key_effects.specs.KeyedCalls.{KeyedCall, Effect, IsFormed, ends_before, precedes, place_of, keyed}
-use Rattle.key_effects.specs.Choices.{Choice, rest_of}
-use Rattle.key_effects.specs.Cuts.{Keys}
-use Rattle.key_effects.specs.Apart.{IsAlikeAt, IsRead}
-use Rattle.key_effects.proofs.BridgeLemmas.{same_precedes}
-use Rattle.key_effects.proofs.OrderLemmas.{same_call, ends_at}
-use Rattle.key_parts.specs.Parts.{left_at}
-use Rattle.key_parts.specs.Steps.{MayComeNext, IsAfterCall, IsReadAt}
-use Rattle.key_parts.specs.Operations.{OperationMayCome}
-use Rattle.key_parts.proofs.CallLemmas.{calls_come_next, reads_come_next}
-use Rattle.key_parts.proofs.ComeLemmas.{operations_may_come, operations_come_next}
-use Rattle.key_parts.proofs.FirstLemmas.{begun_before}
-use Rattle.key_parts.proofs.EventLemmas.{not_both}
-use Rattle.kept_pasts.specs.Pasts.{KeptPast, IsPast, IsPastAfter}
-use Rattle.kept_pasts.specs.Cuts.{PastsComeNext, ReadsOfPastsComeNext}
 use Rattle.kept_pasts.proofs.AfterLemmas.{from_others, other_operation, is_past_after}
 use Rattle.kept_pasts.proofs.LimitLemmas.{IsPastBefore, all_left, left_there, known_at, parted_before}
 
@@ -66,7 +50,7 @@ pub record IsNext (keys some : Keys) (calls : List KeyedCall) (kept : KeptPast) 
   pub taken : IsAfterCall keys past call after
   pub next_is : IsPastAfter kept o next
 
--- by the call of some operation
+-- a past comes to another by the call of some operation
 abbrev pub ComesNext : Keys → Keys → List KeyedCall → KeptPast → Choice → KeptPast → Choice → Type 0
 ComesNext keys some calls kept past next after = (o : Operation) × IsNext keys some calls kept past o next after
 
@@ -111,7 +95,7 @@ module _ (keys some : Keys) (limit : ℕ) (calls : List KeyedCall) (kept : KeptP
         },
       )
 
-  -- where the same is kept after two operations, their calls are one
+  -- if the same is kept after two operations, their calls are one
   pub one_call : (a : KeyedCall) (o p : Operation) (next : KeptPast) (after : Choice) → Contains calls a → Contains kept.left o
       → IsAlikeAt keys (left_at keys past a) (keyed o) → IsPastAfter kept o next → (is : IsNext keys some calls kept past p next after)
       → is.call ≡ a
@@ -179,7 +163,7 @@ pasts_come_next
         (All-contains (λ a. precedes a a ≡ false) calls e apart.last e_in) in
         omega arith
 
-    -- and so did each that may come next
+    -- each operation that may come next began before that answer
     early : (o : Operation) → OperationMayCome some kept.pairs kept.left o → o.inv < res + 1
     early o may_come =
         begun_before (place_of ended.response) o.inv (res + 1) (ends_at (place_of ended.response) res (res + 1) ended_at (omega arith))

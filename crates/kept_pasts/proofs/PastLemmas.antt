@@ -1,31 +1,18 @@
 -- What is kept of a past is known by each call and each operation alone. `fit_of`, `left_of`, `past_from`: from a past to its parts, and back.
 -- `fit_on`, `known_on`, `found_on`, `whole_on`: the parts stay known as a pending call is answered. `found_is_free`, `taken_concerns`: what a
 -- past says of one call.
-use Rattle.std.proofs.Common.{◌≡◌, ℕ, ◌≤◌, true, false, nat_le, List, ◌∷◌, ◌++◌, Option, None, Some, inl, inr, refl, sym, ap, ◌∙◌, subst, ⊎_elim, arith}
-use Rattle.std.specs.Prelude.{◌≢◌, ◌⊎◌, Contains, is_some}
-use Rattle.std.proofs.lemmas.Bool.{eqb-true, eq-eqb, leb-true, le-leb, and_parts, and_from, false_from_ne_true}
-use Rattle.std.proofs.lemmas.List.Elements.{All-contains}
-use Rattle.list_laws.proofs.Lists.{All-from_contains, Contains-around}
+use Rattle.kept_pasts.proofs.Common.{◌≡◌, ℕ, ◌≤◌, true, false, nat_le, List, ◌∷◌, ◌++◌, Option, None, Some, inl, inr, refl, sym, ap, ◌∙◌, subst}
+use Rattle.kept_pasts.proofs.Common.{⊎_elim, arith, ◌≢◌, ◌⊎◌, Contains, is_some, eqb-true, eq-eqb, leb-true, le-leb, and_parts, and_from}
+use Rattle.kept_pasts.proofs.Common.{false_from_ne_true, All-contains, All-from_contains, Contains-around, Operation, Response, low_key, high_key}
+use Rattle.kept_pasts.proofs.Common.{KeyedCall, is_completed, is_refusal, concerns_key, place_of, keyed, AreKeyedCalls, Choice, Keys, IsAlikeAt}
+use Rattle.kept_pasts.proofs.Common.{same_call, left_at, IsLeftAt, IsLeft, HasKeysIn, IsNotTakenAt, answered, IsShown, beside, middle, KeptPast}
+use Rattle.kept_pasts.proofs.Common.{FoundAt, AreFound, AreAllKept, IsOpenRead, IsPast}
 use Rattle.events.specs.declared.event.Call.{Call}
 use Rattle.events.specs.declared.event.Call.TheVariants.{Get, Insert, Remove, Scan, Replace}
-use Rattle.events.specs.declared.operation.Operation.{Operation}
-use Rattle.events.specs.declared.operation.Response.{Response}
-use Rattle.events.specs.Keys.{low_key, high_key}
-use Rattle.key_effects.specs.KeyedCalls.{KeyedCall, is_completed, is_refusal, concerns_key, place_of, keyed}
-use Rattle.key_effects.specs.KeyedOrders.{AreKeyedCalls}
-use Rattle.key_effects.specs.Choices.{Choice}
-use Rattle.key_effects.specs.Cuts.{Keys}
-use Rattle.key_effects.specs.Apart.{IsAlikeAt}
-use Rattle.key_effects.proofs.OrderLemmas.{same_call}
-use Rattle.key_parts.specs.Parts.{left_at}
-use Rattle.key_parts.specs.Steps.{IsLeftAt}
-use Rattle.key_parts.specs.Left.{IsLeft, HasKeysIn, IsNotTakenAt, answered}
-use Rattle.key_parts.proofs.EventLemmas.{IsShown, beside, middle}
-use Rattle.kept_pasts.specs.Pasts.{KeptPast, FoundAt, AreFound, AreAllKept, IsOpenRead, IsPast}
 
 -- ---- calls of one key
 
--- such a call concerns this key alone
+-- a call of one key concerns only this key
 pub one_key : (call : Call) (key : ℕ) → low_key call ≡ high_key call → concerns_key call key ≡ true → low_key call ≡ key
 one_key (Get own) key one concerned = eqb-true own key concerned
 one_key (Insert own value) key one concerned = eqb-true own key concerned
@@ -38,7 +25,7 @@ one_key (Scan low high) key one concerned =
     omega (arith, first, second, same)
 one_key (Replace own old value) key one concerned = eqb-true own key concerned
 
--- and it does concern it
+-- a call of one key concerns that key
 pub has_its_key : (call : Call) → low_key call ≡ high_key call → concerns_key call (low_key call) ≡ true
 has_its_key (Get own) one = eq-eqb own own refl
 has_its_key (Insert own value) one = eq-eqb own own refl

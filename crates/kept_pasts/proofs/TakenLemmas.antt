@@ -1,29 +1,17 @@
 -- What is kept of a past as calls are answered that were taken, or are taken at once.
-use Rattle.std.proofs.Common.{◌≡◌, ℕ, ◌==◌, Bool, true, false, not, ◌&&◌, ◌||◌, cond, List, ◌∷◌, ◌++◌, Option, Some, inl, inr, refl, sym, ap, ◌∙◌, subst, ⊎_elim, arith}
-use Rattle.std.specs.Prelude.{◌≢◌, ◌⊎◌, Contains}
-use Rattle.std.proofs.lemmas.Bool.{eqb-true, eq-eqb, ne_eqb, not-true, and_parts, or_cases}
-use Rattle.std.proofs.lemmas.List.Elements.{All-contains}
-use Rattle.list_laws.proofs.Lists.{All-from_contains, Contains-later, Contains-cases, Contains-around}
+use Rattle.kept_pasts.proofs.Common.{◌≡◌, ℕ, ◌==◌, Bool, true, false, not, ◌&&◌, ◌||◌, cond, List, ◌∷◌, ◌++◌, Option, Some, inl, inr, refl, sym, ap}
+use Rattle.kept_pasts.proofs.Common.{◌∙◌, subst, ⊎_elim, arith, ◌≢◌, ◌⊎◌, Contains, eqb-true, eq-eqb, ne_eqb, not-true, and_parts, or_cases}
+use Rattle.kept_pasts.proofs.Common.{All-contains, All-from_contains, Contains-later, Contains-cases, Contains-around, Operation, Response, KeyedCall}
+use Rattle.kept_pasts.proofs.Common.{IsNoEffect, no_effect, concerns_key, effect_at, is_refusal, keyed, AreKeyedCalls, Choice, rest_of, Keys, only}
+use Rattle.kept_pasts.proofs.Common.{IsAlikeAt, bool_cases, AgreesAt, GoesOnAt, left_at, IsLeftAt, IsAfterCall, IsLeft, IsNotTakenAt, IsTakenAt}
+use Rattle.kept_pasts.proofs.Common.{answered, IsShown, not_both, beside, middle, differ, taken_calls_are_answered, at_self, none_left_out}
+use Rattle.kept_pasts.proofs.Common.{dead_pasts_go, TakenCallsAgree, TakenCallsDisagree, UntoldReadsAreTaken, KeptPast, AreFound, AreAllKept}
+use Rattle.kept_pasts.proofs.Common.{IsOpenRead, IsPast}
 use mathlib.Core.Path.{fun_ext}
-use Rattle.events.specs.declared.operation.Operation.{Operation}
-use Rattle.events.specs.declared.operation.Response.{Response}
-use Rattle.key_effects.specs.KeyedCalls.{KeyedCall, IsNoEffect, no_effect, concerns_key, effect_at, is_refusal, keyed}
-use Rattle.key_effects.specs.KeyedOrders.{AreKeyedCalls}
-use Rattle.key_effects.specs.Choices.{Choice, rest_of}
-use Rattle.key_effects.specs.Cuts.{Keys}
-use Rattle.key_effects.specs.Apart.{only, IsAlikeAt}
-use Rattle.key_effects.proofs.DeadLemmas.{bool_cases}
 use Rattle.key_effects.proofs.RestLemmas.{none_or}
-use Rattle.key_parts.specs.Parts.{AgreesAt, GoesOnAt, left_at}
-use Rattle.key_parts.specs.Steps.{IsLeftAt, IsAfterCall}
-use Rattle.key_parts.specs.Left.{IsLeft, IsNotTakenAt, IsTakenAt, answered}
-use Rattle.key_parts.proofs.EventLemmas.{IsShown, not_both, beside, middle, differ, taken_calls_are_answered}
-use Rattle.key_parts.proofs.PartLemmas.{at_self, none_left_out}
 use Rattle.key_parts.proofs.RestLemmas.{calls_without_effect}
-use Rattle.key_parts.proofs.StepLemmas.{dead_pasts_go}
-use Rattle.kept_pasts.specs.Events.{TakenCallsAgree, TakenCallsDisagree, UntoldReadsAreTaken}
-use Rattle.kept_pasts.specs.Pasts.{KeptPast, AreFound, AreAllKept, IsOpenRead, IsPast}
-use Rattle.kept_pasts.proofs.PastLemmas.{one_key, AreKnown, fit_of, left_of, past_from, found_is_free, taken_concerns, fit_on, known_on, pending_before, whole_on}
+use Rattle.kept_pasts.proofs.PastLemmas.{one_key, AreKnown, fit_of, left_of, past_from, found_is_free, taken_concerns, fit_on, known_on}
+use Rattle.kept_pasts.proofs.PastLemmas.{pending_before, whole_on}
 
 -- ---- a call that was taken
 
@@ -58,7 +46,7 @@ taken_calls_agree keys front back pairs left found others past o response f apar
     found_there : past.found o.inv f.key ≡ f.value
     found_there = subst (λ (n : ℕ). past.found n f.key ≡ f.value) named (is.found.right f f_in).2
 
-    -- it has no other key
+    -- the call that was taken has no other key
     only_key : (key : ℕ) → concerns_key o.call key ≡ true → f.key ≡ key
     only_key key there =
         sym (one_key o.call f.key one (concerned f.key (is.found.right f f_in).0 taken_there)) ∙ one_key o.call key one there
@@ -136,7 +124,7 @@ with_taken past o = record {
   holds = past.holds;
 }
 
--- of another call as much is left as before
+-- as much of another call is left as before
 other_rest : (past : Choice) (o : Operation) (c : KeyedCall) → (c.inv ≡ o.inv → ⊥) → rest_of past c ≡ rest_of (with_taken past o) c
 other_rest past o c other =
     ap (λ (t : ℕ → Bool). rest_by t c)

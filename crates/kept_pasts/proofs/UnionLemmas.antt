@@ -1,30 +1,14 @@
 -- Two parts become one of all pairs of their pasts: `both_past`. And one falls apart: `first_past`, `second_past`.
-use Rattle.std.proofs.Common.{◌≡◌, ℕ, Bool, true, false, not, ◌&&◌, ◌||◌, cond, List, [], ◌∷◌, ◌++◌, map, Option, append-nil, inl, inr, refl, sym, ◌∙◌, subst, ⊎_elim}
-use Rattle.std.specs.Prelude.{◌⊎◌, Contains}
-use Rattle.std.specs.List.{AllZip}
-use Rattle.std.proofs.lemmas.Bool.{and_parts, or_from, or_left, or_right, or_cases, false_from_ne_true}
-use Rattle.std.proofs.lemmas.List.Elements.{All-contains, Contains-append_left, Contains-append_right, Contains-append_cases}
+use Rattle.kept_pasts.proofs.Common.{◌≡◌, ℕ, Bool, true, false, not, ◌&&◌, ◌||◌, cond, List, [], ◌∷◌, ◌++◌, map, Option, append-nil, inl, inr, refl}
+use Rattle.kept_pasts.proofs.Common.{sym, ◌∙◌, subst, ⊎_elim, ◌⊎◌, Contains, AllZip, and_parts, or_from, or_left, or_right, or_cases}
+use Rattle.kept_pasts.proofs.Common.{false_from_ne_true, All-contains, Contains-append_left, Contains-append_right, Contains-append_cases}
+use Rattle.kept_pasts.proofs.Common.{All-from_contains, Contains-nil, Contains-first, Contains-later, Contains-cases, Contains-around, Operation}
+use Rattle.kept_pasts.proofs.Common.{Contents, value_at, KeyedCall, keyed, AreDistinct, Choice, Keys, AreApart, IsAlikeAt, bool_cases, same_call}
+use Rattle.kept_pasts.proofs.Common.{Part, IsAt, StandFor, left_at, AreJoined, AreOfLeftCalls, IsLeft, HasKeysIn, not_both, middle, beside, instead}
+use Rattle.kept_pasts.proofs.Common.{instead_here, instead_there, parts_unite, KeptPast, AreFound, AreAllKept, IsPast, ArePasts, AreKeptAlike}
 use Rattle.list_laws.proofs.FilterLemmas.{Contains-map, Contains-from_map}
-use Rattle.list_laws.proofs.Lists.{All-from_contains, Contains-nil, Contains-first, Contains-later, Contains-cases, Contains-around}
 use mathlib.Core.Path.{fun_ext}
-use Rattle.events.specs.declared.operation.Operation.{Operation}
-use Rattle.map_object.specs.MapObject.{Contents, value_at}
-use Rattle.key_effects.specs.KeyedCalls.{KeyedCall, keyed}
-use Rattle.key_effects.specs.KeyedOrders.{AreDistinct}
-use Rattle.key_effects.specs.Choices.{Choice}
-use Rattle.key_effects.specs.Cuts.{Keys}
-use Rattle.key_effects.specs.Apart.{AreApart, IsAlikeAt}
-use Rattle.key_effects.proofs.DeadLemmas.{bool_cases}
-use Rattle.key_effects.proofs.OrderLemmas.{same_call}
-use Rattle.key_parts.specs.Parts.{Part, IsAt, StandFor, left_at}
-use Rattle.key_parts.specs.Steps.{AreJoined}
-use Rattle.key_parts.specs.Operations.{AreOfLeftCalls}
-use Rattle.key_parts.specs.Left.{IsLeft, HasKeysIn}
-use Rattle.key_parts.proofs.EventLemmas.{not_both, middle, beside}
-use Rattle.key_parts.proofs.PartLemmas.{instead, instead_here, instead_there}
-use Rattle.key_parts.proofs.StepLemmas.{parts_unite}
 use Rattle.key_parts.proofs.UniteLemmas.{left_calls_unite, left_calls_part}
-use Rattle.kept_pasts.specs.Pasts.{KeptPast, AreFound, AreAllKept, IsPast, ArePasts, AreKeptAlike}
 use Rattle.kept_pasts.specs.Unions.{both_keys, IsTogether, ArePairs, PastsUnite, FallsApart, PastsFallApart}
 use Rattle.kept_pasts.proofs.AlikeLemmas.{alike_pasts_stand}
 use Rattle.kept_pasts.proofs.DropLemmas.{pasts_in_any_order}

@@ -14,8 +14,8 @@ use Rattle.key_parts.specs.Operations.{HasSomeKeyIn, OperationMayCome}
 use Rattle.key_parts.specs.Left.{HasKeysIn, HaveKeysTogether}
 use Rattle.kept_pasts.specs.Pasts.{KeptPast, IsPast, ArePasts, IsPastAfter, AreKeptAlike, OpenReadsBeganAfter}
 
--- where an operation of some of the keys is left that was answered, and no pending read began before, a past becomes those after each operation
--- that may come next there
+-- Suppose that an operation of some of the keys is left that was answered, and no pending read
+-- began before. Then a past becomes those after each operation that may come next there.
 abbrev pub PastsComeNext : Type 0
 PastsComeNext =
     (held : ℕ → Option ℕ) (place res : ℕ) (calls : List KeyedCall) (keys some : Keys) (kept : KeptPast) (past : Choice) (others : List Choice)
@@ -40,8 +40,9 @@ abbrev pub AreOwnOrBarredBy : Keys → ℕ → Contents → List Operation → T
 AreOwnOrBarredBy keys place pairs left =
     (o : Operation) → Contains left o → o.inv < place → HasSomeKeyIn keys o → HasKeysIn keys o ⊎ IsBarredBy keys pairs o
 
--- where that operation is the first left that ended, one may have these keys and others if it is barred at these; then the past becomes those
--- after each operation of some of these keys that may come next at all keys of the part
+-- if that operation is the first left that ended, one may have these keys and others if it is
+-- barred at these; then the past becomes those after each operation of some of these keys that may
+-- come next at all keys of the part
 abbrev pub UnbarredPastsComeNext : Type 0
 UnbarredPastsComeNext =
     (held : ℕ → Option ℕ) (place res : ℕ) (calls : List KeyedCall) (keys some : Keys) (kept : KeptPast) (past : Choice) (others : List Choice)
@@ -77,7 +78,7 @@ AlikePastsStand =
     → StandFor held place calls (record { keys = keys; pasts = past ∷ others } ∷ rest)
     → StandFor held place calls (record { keys = keys; pasts = twin ∷ others } ∷ rest)
 
--- of two pasts that are kept alike one may go
+-- if two pasts are kept alike, one may be dropped
 abbrev pub AlikePastsGo : Type 0
 AlikePastsGo =
     (held : ℕ → Option ℕ) (place : ℕ) (calls : List KeyedCall) (keys : Keys) (kept other : KeptPast) (past twin : Choice) (others : List Choice)
@@ -85,7 +86,7 @@ AlikePastsGo =
     → StandFor held place calls (record { keys = keys; pasts = past ∷ twin ∷ others } ∷ rest)
     → StandFor held place calls (record { keys = keys; pasts = twin ∷ others } ∷ rest)
 
--- and one of which what is left has no order
+-- a past may be dropped if what is left after it has no order
 abbrev pub DeadPastsGo : Type 0
 DeadPastsGo =
     (held : ℕ → Option ℕ) (place : ℕ) (calls : List KeyedCall) (keys : Keys) (kept : KeptPast) (past : Choice) (others : List Choice)
@@ -93,7 +94,7 @@ DeadPastsGo =
     → IsPast keys calls kept past → StandFor held place calls (record { keys = keys; pasts = past ∷ others } ∷ rest)
     → StandFor held place calls (record { keys = keys; pasts = others } ∷ rest)
 
--- pasts of a part stand in any order
+-- the order of a part's pasts does not matter, nor how often each appears
 abbrev pub PastsInAnyOrder : Type 0
 PastsInAnyOrder =
     (held : ℕ → Option ℕ) (place : ℕ) (calls : List KeyedCall) (keys : Keys) (pasts others : List Choice) (rest : List Part)

@@ -1,4 +1,4 @@
--- Pasts that may stand in place of others, wherever a part of their keys stands among others.
+-- Pasts that may replace others, wherever a part of their keys is among others.
 use Rattle.std.specs.Prelude.{◌≡◌, ◌⊎◌, ℕ, List, ◌∷◌, Option, None, All, Contains}
 use Rattle.events.specs.declared.operation.Operation.{Operation}
 use Rattle.key_effects.specs.KeyedCalls.{KeyedCall}
@@ -26,12 +26,13 @@ Stand moment s kept =
     × StandFor s.held s.place s.calls (record { keys = s.keys; pasts = pasts } ∷ s.rest)
     × All (OpenReadsBeganAfter s.keys moment s.calls) kept
 
--- where some pasts stand, others do
+-- some pasts may be replaced by others
 abbrev pub Leads : ℕ → List KeptPast → List KeptPast → Type 0
 Leads moment kept nexts = (s : Setting) → IsSetting s → Stand moment s kept → Stand moment s nexts
 
--- a past that is made of another by calls that took effect: what is left was left, and what is found was found, or by a pending call that was left;
--- what was found is found still, and a pending call that was left is left, or what it found is kept
+-- A past that is made of another by calls that took effect. What is left was left. What is found
+-- was found before, or by a pending call that was left. What was found is still found. A pending
+-- call that was left is left, or what it found is kept.
 pub record IsMadeOf (past next : KeptPast) : Type 0 where
   pub left : (o : Operation) → Contains next.left o → Contains past.left o
   pub found : All (λ f. Contains past.found f ⊎ ((o : Operation) × Contains past.left o × (o.inv ≡ f.inv) × (o.response ≡ None))) next.found

@@ -30,7 +30,7 @@ pub record KeptPast : Type 0 where
 abbrev pub IsOpenRead : KeyedCall → Type 0
 IsOpenRead a = (is_completed a ≡ false) × IsRead a
 
--- what is left of calls that were not refused is among the operations, but for pending reads
+-- what is left of calls that were not refused is among the operations, except for pending reads
 abbrev pub AreAllKept : Keys → Choice → List KeyedCall → List Operation → Type 0
 AreAllKept keys past calls left =
     (a : KeyedCall) → Contains calls a → a.refused ≡ false → IsLeftAt keys past a
@@ -40,7 +40,7 @@ AreAllKept keys past calls left =
 abbrev pub ArePointsOrAnswered : List Operation → Type 0
 ArePointsOrAnswered left = All (λ o. (o.response ≡ None) → low_key o.call ≡ high_key o.call) left
 
--- of calls that are pending, and took effect at these keys, it is kept what they found
+-- for pending calls that took effect at these keys, the past keeps what they found
 pub record AreFound (keys : Keys) (past : Choice) (calls : List KeyedCall) (found : List FoundAt) : Type 0 where
   pub right : (f : FoundAt) → Contains found f → (keys f.key ≡ true) × (past.taken f.inv f.key ≡ true) × (past.found f.inv f.key ≡ f.value)
   pub whole : (a : KeyedCall) (key : ℕ) → Contains calls a → is_completed a ≡ false → keys key ≡ true → past.taken a.inv key ≡ true
@@ -95,7 +95,8 @@ IsNameKept kept a =
     HasInvocation kept.left a.inv
     ⊎ ((f : FoundAt) × Contains kept.found f × (f.inv ≡ a.inv) × ((key : ℕ) → a.concerns key ≡ true → f.key ≡ key))
 
--- pending reads of these keys began no earlier than a place; but for such as are kept in the past, as a call may be that replaces a value by itself
+-- pending reads of these keys began no earlier than a place; except those that are kept in the
+-- past, as a call may be that replaces a value by the same one
 abbrev pub OpenReadsBeganAfter : Keys → ℕ → List KeyedCall → KeptPast → Type 0
 OpenReadsBeganAfter keys limit calls kept =
     (a : KeyedCall) (key : ℕ) → Contains calls a → IsOpenRead a → keys key ≡ true → a.concerns key ≡ true → (limit ≤ a.inv) ⊎ IsNameKept kept a

@@ -21,7 +21,7 @@ pub fn alike_pasts_stand()
     ensures { AlikePastsStand }
 {}
 
-/// Of two pasts that are kept alike one may be dropped.
+/// If two pasts are kept alike, one may be dropped.
 pub fn alike_pasts_go()
     ensures { AlikePastsGo }
 {}

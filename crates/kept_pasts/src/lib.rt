@@ -1,5 +1,6 @@
-//! Laws of what a monitor keeps of a past of some keys: the pairs of a map of these keys, the calls that are left, and what pending calls found
-//! that took effect. As events come, and at a cut, the code changes these alone, and the laws say what that means for the pasts.
+//! Laws of what a monitor keeps of a past of some keys: the pairs of a map of these keys, the calls
+//! that are left, and what pending calls found that took effect. As events come, and at a cut, the
+//! code changes only these. The laws say what that means for the pasts.
 #![tactic(auto)]
 
 mod cut_laws;

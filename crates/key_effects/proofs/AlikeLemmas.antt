@@ -1,15 +1,10 @@
 -- Calls that are alike at some keys.
-use Rattle.std.proofs.Common.{◌≡◌, ℕ, true, false, List, [], ◌∷◌, Option, None, inl, inr, sym, ◌∙◌, subst, ⊎_elim, is_some}
-use Rattle.std.specs.Prelude.{◌≢◌, ◌⊎◌, Contains}
+use Rattle.key_effects.proofs.Common.{◌≡◌, ℕ, true, false, List, [], ◌∷◌, Option, None, inl, inr, sym, ◌∙◌, subst, ⊎_elim, ◌≢◌, ◌⊎◌, Contains}
+use Rattle.key_effects.proofs.Common.{All-contains, AllPairs-cons, AllPairs-nil, AllPairs-head, AllPairs-tail, All-from_contains, Contains-nil}
+use Rattle.key_effects.proofs.Common.{Contains-first, Contains-later, Contains-cases, KeyedCall, ends_before, precedes, is_completed, FitInTurn}
+use Rattle.key_effects.proofs.Common.{AreDistinct, KeepPrecedence, IsKeyedOrder, HasKeyedOrder, Keys, IsAlikeAt, AlikeCallsDecide}
+use Rattle.std.proofs.Common.{is_some}
 use Rattle.std.specs.List.{AllZip}
-use Rattle.std.proofs.lemmas.List.Elements.{All-contains}
-use Rattle.std.proofs.lemmas.List.Kept.{AllPairs-cons}
-use Rattle.list_laws.proofs.Lists.{AllPairs-nil, AllPairs-head, AllPairs-tail, All-from_contains, Contains-nil, Contains-first, Contains-later, Contains-cases}
-use Rattle.key_effects.specs.KeyedCalls.{KeyedCall, ends_before, precedes, is_completed}
-use Rattle.key_effects.specs.KeyedOrders.{FitInTurn, AreDistinct, KeepPrecedence, IsKeyedOrder, HasKeyedOrder}
-use Rattle.key_effects.specs.Cuts.{Keys}
-use Rattle.key_effects.specs.Apart.{IsAlikeAt}
-use Rattle.key_effects.specs.Laws.{AlikeCallsDecide}
 use Rattle.key_effects.proofs.DeadLemmas.{bool_cases}
 use Rattle.key_effects.proofs.OrderLemmas.{same_call}
 
@@ -93,7 +88,7 @@ fit_back keys key is (a ∷ old) (b ∷ new) value zip fit = (
   subst (λ (v : Option ℕ). FitInTurn key v new) (zip.0.leaves key value is) (fit_back keys key is old new ((a.effect key).leaves value) zip.1 fit.1),
 )
 
--- and elsewhere
+-- at keys outside of the set all calls fit nothing
 fit_none : (keys : Keys) (key : ℕ) → keys key ≡ false → (new : List KeyedCall)
     → ((b : KeyedCall) → Contains new b → (a : KeyedCall) × IsAlikeAt keys a b) → FitInTurn key None new
 fit_none keys key is [] each = tt

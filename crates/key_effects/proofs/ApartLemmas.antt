@@ -1,18 +1,14 @@
 -- Sets of keys that are judged apart.
-use Rattle.std.proofs.Common.{◌≡◌, ℕ, ◌==◌, Bool, true, false, not, ◌||◌, cond, List, [], ◌∷◌, ◌++◌, map, Option, inl, inr, refl, sym, ap, ◌∙◌, subst, ⊎_elim}
-use Rattle.std.specs.Prelude.{◌≢◌, ◌⊎◌, All, Contains, filter}
-use Rattle.std.proofs.lemmas.Bool.{eqb-true, eq-eqb, ne_eqb}
+use Rattle.key_effects.proofs.Common.{◌≡◌, ℕ, ◌==◌, Bool, true, false, not, ◌||◌, cond, List, [], ◌∷◌, ◌++◌, map, Option, inl, inr, refl, sym, ap}
+use Rattle.key_effects.proofs.Common.{◌∙◌, subst, ⊎_elim, ◌≢◌, ◌⊎◌, All, Contains, filter, eqb-true, eq-eqb, ne_eqb, All-contains}
+use Rattle.key_effects.proofs.Common.{Contains-append_left, Contains-append_right, AllPairs-filter, Contains-map, Contains-from_map, AllPairs-map}
+use Rattle.key_effects.proofs.Common.{AllPairs-from_map, AllPairs-head, AllPairs-tail, AllPairs-across, AllPairs-back, Contains-nil, Contains-first}
+use Rattle.key_effects.proofs.Common.{Contains-later, Contains-cases, Contains-split, Contains-filter, Contains-from_filter, KeyedCall, no_effect}
+use Rattle.key_effects.proofs.Common.{IsNoEffect, IsFormed, precedes, is_completed, FitInTurn, left_by, AreDistinct, KeepPrecedence, IsKeyedOrder}
+use Rattle.key_effects.proofs.Common.{HasKeyedOrder, AreKeyedCalls, Keys, IsWithin, IsOutside, only, other_keys, IsQuiet, IsRead, IsUndisturbed}
+use Rattle.key_effects.proofs.Common.{Parts, SomeKeysRefute, SetsOfKeysJudge}
 use Rattle.std.proofs.lemmas.List.{append_assoc}
-use Rattle.std.proofs.lemmas.List.Elements.{All-contains, Contains-append_left, Contains-append_right}
-use Rattle.std.proofs.lemmas.List.Kept.{AllPairs-filter}
 use Rattle.list_laws.specs.Lists.{has_number}
-use Rattle.list_laws.proofs.FilterLemmas.{Contains-map, Contains-from_map, AllPairs-map, AllPairs-from_map}
-use Rattle.list_laws.proofs.Lists.{AllPairs-head, AllPairs-tail, AllPairs-across, AllPairs-back, Contains-nil, Contains-first, Contains-later, Contains-cases, Contains-split, Contains-filter, Contains-from_filter}
-use Rattle.key_effects.specs.KeyedCalls.{KeyedCall, no_effect, IsNoEffect, IsFormed, precedes, is_completed}
-use Rattle.key_effects.specs.KeyedOrders.{FitInTurn, left_by, AreDistinct, KeepPrecedence, IsKeyedOrder, HasKeyedOrder, AreKeyedCalls}
-use Rattle.key_effects.specs.Cuts.{Keys, IsWithin, IsOutside}
-use Rattle.key_effects.specs.Apart.{only, other_keys, IsQuiet, IsRead, IsUndisturbed, Parts}
-use Rattle.key_effects.specs.Laws.{SomeKeysRefute, SetsOfKeysJudge}
 use Rattle.key_effects.proofs.CutLemmas.{fit_only}
 use Rattle.key_effects.proofs.DeadLemmas.{bool_cases}
 use Rattle.key_effects.proofs.MergeLemmas.{AreMerged, merge}
@@ -64,7 +60,7 @@ without_quiet key p (x ∷ xs) value quiet fit =
           subst (λ (v : Option ℕ). left_by key v (filter p xs) ≡ left_by key ((x.effect key).leaves value) xs) same rest.1,
         )
 
--- of two fronts of one list one goes on to the other
+-- one of two fronts of a list goes on to the other
 pub fronts : (p q r s : List KeyedCall) → p ++ q ≡ r ++ s
     → ((d : List KeyedCall) × (r ≡ p ++ d) × (q ≡ d ++ s)) ⊎ ((d : List KeyedCall) × (p ≡ r ++ d) × (s ≡ d ++ q))
 fronts [] q r s same = inl (r, refl, same)
@@ -86,7 +82,7 @@ filter_append p (x ∷ xs) ys = by_test (bool_cases (p x)) (filter_append p xs y
     by_test (inl passes) rest = rw passes (ap (λ (zs : List KeyedCall). x ∷ zs) rest)
     by_test (inr fails) rest = rw fails rest
 
--- calls in turn with others between them, each of which fits where it stands and changes nothing
+-- calls in turn with others between them, each of which fits at its place and changes nothing
 pub with_quiet : (key : ℕ) (p : KeyedCall → Bool) (value : Option ℕ) (rest front : List KeyedCall)
     → ((x : KeyedCall) (before after : List KeyedCall) → front ++ rest ≡ before ++ x ∷ after → p x ≡ false
     → IsQuiet x key × ((x.effect key).fits (left_by key value (filter p before)) ≡ true))
@@ -129,13 +125,13 @@ with_quiet key p value (x ∷ rest) front between fit =
         append_nil [] = refl
         append_nil (y ∷ xs) = ap (λ (zs : List KeyedCall). y ∷ zs) (append_nil xs)
 
--- a read at a key, beside whose place in two orders no other call changes it
+-- a read at a key, near whose place in two orders no other call changes the key
 pub record IsSettledRead (key : ℕ) (calls order : List KeyedCall) (y : KeyedCall) : Type 0 where
   pub there : Contains order y
   pub quiet : IsQuiet y key
   pub undisturbed : (a : KeyedCall) → Contains calls a → IsQuiet a key ⊎ (precedes a y ≡ true) ⊎ (precedes y a ≡ true)
 
--- an order at a key, and another in which the same calls that may change it stand in the same turn
+-- an order at a key, and another in which the same calls that may change it are in the same turn
 pub record AreAlikeAt (key : ℕ) (p : KeyedCall → Bool) (value : Option ℕ) (calls old new : List KeyedCall) : Type 0 where
   pub fit : FitInTurn key value old
   pub keep_old : KeepPrecedence old
@@ -163,7 +159,8 @@ after_read p y e after fails e_in =
     differ : (b : Bool) → b ≡ true → b ≡ false → ⊥
     differ b is not = cc
 
--- what stands before a call in an order that keeps precedence is not preceded by it, and what stands after it does not precede it
+-- what comes before a call in an order that keeps precedence is not preceded by it, and what comes
+-- after it does not precede it
 before_keeps : (before after : List KeyedCall) (y e : KeyedCall) → KeepPrecedence (before ++ y ∷ after) → Contains before e → precedes y e ≡ false
 before_keeps before after y e keep e_in =
     All-contains (λ b. precedes b e ≡ false) (y ∷ after) y

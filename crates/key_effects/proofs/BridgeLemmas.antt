@@ -1,25 +1,16 @@
 -- The calls of events, as the keys see them.
-use Rattle.std.proofs.Common.{◌≡◌, ℕ, ◌<◌, Bool, true, false, List, [], ◌∷◌, map, length, Option, Some, None, refl, sym, ap, ◌∙◌, subst, is_some}
-use Rattle.std.specs.Prelude.{◌≢◌, All, AllPairs, Contains, slice_get, ⊤}
-use Rattle.std.proofs.lemmas.List.Elements.{All-nil, All-cons, All-contains}
-use Rattle.list_laws.proofs.FilterLemmas.{AreRelatedAs, AllPairs-filter_map, AllPairs-from_filter_map, AllPairs-map, AllPairs-from_map, AllPairs-weaker, Contains-map, Contains-from_map, Contains-filter_map, Contains-from_filter_map}
-use Rattle.list_laws.proofs.Lists.{All-from_contains, Contains-first, Contains-later, Contains-at, place_of-Contains}
+use Rattle.key_effects.proofs.Common.{◌≡◌, ℕ, ◌<◌, Bool, true, false, List, [], ◌∷◌, map, length, Option, Some, None, refl, sym, ap, ◌∙◌, subst, ◌≢◌}
+use Rattle.key_effects.proofs.Common.{All, AllPairs, Contains, slice_get, ⊤, All-nil, All-cons, All-contains, AreRelatedAs, AllPairs-filter_map}
+use Rattle.key_effects.proofs.Common.{AllPairs-from_filter_map, AllPairs-map, AllPairs-from_map, AllPairs-weaker, Contains-map, Contains-from_map}
+use Rattle.key_effects.proofs.Common.{Contains-filter_map, Contains-from_filter_map, All-from_contains, Contains-first, Contains-later, Contains-at}
+use Rattle.key_effects.proofs.Common.{place_of-Contains, Call, Get, Insert, Remove, Scan, Replace, Operation, Response, operations, inv_rises}
+use Rattle.key_effects.proofs.Common.{same_number, Contents, IsRising, value_at, calls_at, IsOrder, IsLinearizable, KeyedCall, keyed, place_of}
+use Rattle.key_effects.proofs.Common.{ends_before, precedes, is_completed, IsKeyedOrder, HasForm, HaveForms, OrdersAreKeyedOrders}
+use Rattle.std.proofs.Common.{is_some}
 use Rattle.list_laws.proofs.NumberLemmas.{slice_get-below, some_at, IsSomeAnd-within}
-use Rattle.events.specs.declared.event.Call.{Call}
-use Rattle.events.specs.declared.event.Call.TheVariants.{Get, Insert, Remove, Scan, Replace}
-use Rattle.events.specs.declared.operation.Operation.{Operation}
-use Rattle.events.specs.declared.operation.Response.{Response}
-use Rattle.events.specs.Operations.{operations}
 use Rattle.events.specs.Precedence.{is_before}
-use Rattle.events.specs.Precedence as events
-use Rattle.events.proofs.TimeLemmas.{inv_rises, same_number}
-use Rattle.map_object.specs.MapObject.{Contents, IsRising, value_at}
-use Rattle.orders.specs.Orders.{calls_at, IsOrder, IsLinearizable}
-use Rattle.key_effects.specs.KeyedCalls.{KeyedCall, keyed, place_of, ends_before, precedes, is_completed}
-use Rattle.key_effects.specs.KeyedOrders.{IsKeyedOrder}
-use Rattle.key_effects.specs.Forms.{HasForm, HaveForms}
-use Rattle.key_effects.specs.Laws.{OrdersAreKeyedOrders}
 use Rattle.key_effects.proofs.EffectLemmas.{legal_fits, fits_legal}
+use Rattle.events.specs.Precedence as events
 
 -- precedence is the same
 same_before : (response : Option Response) (place : ℕ) → ends_before (place_of response) place ≡ is_before response place

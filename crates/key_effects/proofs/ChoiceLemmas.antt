@@ -1,9 +1,6 @@
--- Choices that stand above the calls, or below.
-use Rattle.std.proofs.Common.{◌≡◌, ℕ, List, [], ◌∷◌, map, Option, refl, sym, ap, subst}
-use Rattle.key_effects.specs.KeyedCalls.{KeyedCall}
-use Rattle.key_effects.specs.KeyedOrders.{HasKeyedOrder}
-use Rattle.key_effects.specs.Choices.{Choice, at_first, rest_of, GoesOn}
-use Rattle.key_effects.specs.Laws.{ChoicesBegin, ChoicesStay, ChoicesJudge}
+-- Choices that are above the calls, or below.
+use Rattle.key_effects.proofs.Common.{◌≡◌, ℕ, List, [], ◌∷◌, map, Option, refl, sym, ap, subst, KeyedCall, HasKeyedOrder, Choice, at_first, rest_of}
+use Rattle.key_effects.proofs.Common.{GoesOn, ChoicesBegin, ChoicesStay, ChoicesJudge}
 use Rattle.key_effects.proofs.GrowthLemmas.{growth_on}
 
 pub choices_on : ChoicesStay

@@ -1,11 +1,6 @@
 -- Walks up to a past moment.
-use Rattle.std.proofs.Common.{◌≡◌, ℕ, Bool, true, false, not, ◌&&◌, cond, List, [], ◌∷◌, map, Option, inl, inr, refl}
-use Rattle.std.specs.Prelude.{◌⊎◌}
-use Rattle.key_effects.specs.KeyedCalls.{KeyedCall, no_effect, IsNoEffect, IsFormed}
-use Rattle.key_effects.specs.KeyedOrders.{FitInTurn}
-use Rattle.key_effects.specs.Choices.{Choice, rest_of}
-use Rattle.key_effects.specs.Cuts.{Keys, IsWithin, IsOutside}
-use Rattle.key_effects.specs.Apart.{only}
+use Rattle.key_effects.proofs.Common.{◌≡◌, ℕ, Bool, true, false, not, ◌&&◌, cond, List, [], ◌∷◌, map, Option, inl, inr, refl, ◌⊎◌, KeyedCall}
+use Rattle.key_effects.proofs.Common.{no_effect, IsNoEffect, IsFormed, FitInTurn, Choice, rest_of, Keys, IsWithin, IsOutside, only}
 use Rattle.key_effects.proofs.RestLemmas.{none_none}
 
 bool_cases : (b : Bool) → (b ≡ true) ⊎ (b ≡ false)

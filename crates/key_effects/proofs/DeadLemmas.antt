@@ -1,14 +1,8 @@
 -- What goes on with further events goes on now.
-use Rattle.std.proofs.Common.{◌≡◌, ℕ, ◌<◌, Bool, true, false, List, ◌++◌, map, Option, Some, None, inl, inr, refl, sym, ap, ◌∙◌, subst, ⊎_elim, arith}
-use Rattle.std.specs.Prelude.{◌≢◌, ◌⊎◌, Contains, is_some}
-use Rattle.std.proofs.lemmas.List.Elements.{All-contains, Contains-append_left}
-use Rattle.list_laws.proofs.FilterLemmas.{Contains-map, Contains-from_map}
-use Rattle.list_laws.proofs.Lists.{All-from_contains, AllPairs-front}
-use Rattle.key_effects.specs.KeyedCalls.{KeyedCall, IsFormed, precedes, is_completed}
-use Rattle.key_effects.specs.KeyedOrders.{IsKeyedOrder, HasKeyedOrder}
-use Rattle.key_effects.specs.Growth.{IsLater, HaveGrown}
-use Rattle.key_effects.specs.Choices.{Choice, rest_of, Agrees}
-use Rattle.key_effects.specs.Laws.{DeadChoicesStayDead, DeadChoicesGo}
+use Rattle.key_effects.proofs.Common.{◌≡◌, ℕ, ◌<◌, Bool, true, false, List, ◌++◌, map, Option, Some, None, inl, inr, refl, sym, ap, ◌∙◌, subst}
+use Rattle.key_effects.proofs.Common.{⊎_elim, arith, ◌≢◌, ◌⊎◌, Contains, is_some, All-contains, Contains-append_left, Contains-map, Contains-from_map}
+use Rattle.key_effects.proofs.Common.{All-from_contains, AllPairs-front, KeyedCall, IsFormed, precedes, is_completed, IsKeyedOrder, HasKeyedOrder}
+use Rattle.key_effects.proofs.Common.{IsLater, HaveGrown, Choice, rest_of, Agrees, DeadChoicesStayDead, DeadChoicesGo}
 use Rattle.key_effects.proofs.OrderLemmas.{same_call, ends_at, IsSplitAt, split_at, ended_early}
 use Rattle.key_effects.proofs.RestLemmas.{refused_none, later_stands, stands_itself}
 use Rattle.key_effects.proofs.TurnLemmas.{StandsFor, HasNone, GoesOver, AreOver, fit-front, go_over}
@@ -23,11 +17,11 @@ agrees_now place w a b later agrees =
     })
     later.response
 
--- what is left of a call now stands for what is left of it later
+-- what is left of a call now may replace what is left of it later
 abbrev IsNow : ℕ → Choice → List KeyedCall → KeyedCall → KeyedCall → Type 0
 IsNow place w calls x y = (a : KeyedCall) × Contains calls a × (y ≡ rest_of w a) × (y.inv ≡ x.inv)
 
--- it was pending, and is refused
+-- the call was pending, and is refused
 abbrev IsDropped : List KeyedCall → KeyedCall → Type 0
 IsDropped calls x = (a : KeyedCall) × Contains calls a × (is_completed a ≡ false) × (a.inv ≡ x.inv)
 

@@ -1,18 +1,14 @@
--- A scan that only a pending call disturbs. Two keys hold 0. An insert of 1 at key 1 is pending, and was read while the scan ran; then key 2 was
--- given 1. The scan was told 0 at key 1, as before both, and 1 at key 2, as after both.
-use Rattle.std.proofs.Common.{◌≡◌, ℕ, ◌==◌, ◌||◌, Bool, true, false, cond, List, [], ◌∷◌, ◌++◌, map, Option, Some, None, inl, inr, refl, sym, ap, ◌∙◌, subst, ⊎_elim, arith}
-use Rattle.std.specs.Prelude.{◌≢◌, ◌⊎◌, All, AllPairs, Contains}
-use Rattle.std.proofs.lemmas.Bool.{eqb-true}
-use Rattle.std.proofs.lemmas.List.Elements.{All-nil, All-cons, All-contains, Contains-append_left, Contains-append_right, Contains-append_cases}
-use Rattle.std.proofs.lemmas.List.Kept.{AllPairs-cons}
-use Rattle.list_laws.proofs.FilterLemmas.{Contains-map, Contains-from_map}
-use Rattle.list_laws.proofs.Lists.{AllPairs-nil, AllPairs-across, All-from_contains, Contains-nil, Contains-first, Contains-later, Contains-cases, Contains-split}
-use Rattle.key_effects.specs.KeyedCalls.{KeyedCall, Effect, no_effect, IsNoEffect, IsFormed, is_completed, precedes, is_same_value, read_of}
-use Rattle.key_effects.specs.KeyedOrders.{FitInTurn, left_by, AreDistinct, KeepPrecedence, AreKeyedCalls, HasKeyedOrder}
-use Rattle.key_effects.specs.Cuts.{Keys, IsOutside, has_call}
-use Rattle.key_effects.specs.Apart.{only, other_keys, IsQuiet, IsRead}
+-- A scan that only a pending call disturbs. Two keys hold 0. An insert of 1 at key 1 is pending,
+-- and was read while the scan ran; then key 2 was given 1. The scan reported 0 at key 1, as before
+-- both, and 1 at key 2, as after both.
+use Rattle.key_effects.proofs.Common.{◌≡◌, ℕ, ◌==◌, ◌||◌, Bool, true, false, cond, List, [], ◌∷◌, ◌++◌, map, Option, Some, None, inl, inr, refl, sym}
+use Rattle.key_effects.proofs.Common.{ap, ◌∙◌, subst, ⊎_elim, arith, ◌≢◌, ◌⊎◌, All, AllPairs, Contains, eqb-true, All-nil, All-cons, All-contains}
+use Rattle.key_effects.proofs.Common.{Contains-append_left, Contains-append_right, Contains-append_cases, AllPairs-cons, Contains-map}
+use Rattle.key_effects.proofs.Common.{Contains-from_map, AllPairs-nil, AllPairs-across, All-from_contains, Contains-nil, Contains-first}
+use Rattle.key_effects.proofs.Common.{Contains-later, Contains-cases, Contains-split, KeyedCall, Effect, no_effect, IsNoEffect, IsFormed}
+use Rattle.key_effects.proofs.Common.{is_completed, precedes, is_same_value, read_of, FitInTurn, left_by, AreDistinct, KeepPrecedence, AreKeyedCalls}
+use Rattle.key_effects.proofs.Common.{HasKeyedOrder, Keys, IsOutside, has_call, only, other_keys, IsQuiet, IsRead, PendingCallsDisturb}
 use Rattle.key_effects.specs.Wider.{PartsByCompleted, IsUndisturbedByCompleted}
-use Rattle.key_effects.specs.Laws.{PendingCallsDisturb}
 use Rattle.key_effects.proofs.AfterLemmas.{from_named}
 use Rattle.key_effects.proofs.DeadLemmas.{bool_cases}
 use Rattle.key_effects.proofs.EffectLemmas.{same_values}
@@ -96,7 +92,7 @@ zero_or_one : (a : Option ℕ) → a ≡ Some 0 → a ≡ Some 1 → ⊥
 zero_or_one a zero one = let told : is_same_value a (Some 1) ≡ true = (same_values a (Some 1)).1 one in
     let not_so : is_same_value a (Some 1) ≡ false = rw zero refl in cc
 
--- so the calls have no order
+-- the calls have no order
 no_order : HasKeyedOrder zeros all_calls → ⊥
 no_order (order, is) =
     let scan_in : Contains order scan = is.complete scan (Contains-later first (scan ∷ seen ∷ second ∷ []) scan (Contains-first scan (seen ∷ second ∷ []))) refl in

@@ -1,25 +1,16 @@
 -- What a call does to a map, key by key.
 use Rattle.events.specs.declared.event.Reply.TheVariants as replies
-use Rattle.std.proofs.Common.{◌≡◌, ℕ, ◌<◌, ◌≤◌, ◌==◌, ◌&&◌, ◌++◌, nat_le, Bool, true, false, cond, List, [], ◌∷◌, map, Option, Some, None, inl, inr, refl, sym, ap, ◌∙◌, subst, ⊎_elim, arith}
-use Rattle.std.specs.Prelude.{◌⊎◌, ◌↔◌, All}
-use Rattle.std.proofs.lemmas.Bool.{eqb-true, eq-eqb, leb-true, le-leb, and_parts, and_from}
-use Rattle.std.proofs.lemmas.List.Elements.{All-nil, All-cons, All-head, All-tail, All-weaker}
-use Rattle.list_laws.proofs.Lists.{filter_all}
-use Rattle.events.specs.declared.event.Call.{Call}
-use Rattle.events.specs.declared.event.Call.TheVariants.{Get, Insert, Remove, Scan, Replace}
-use Rattle.events.specs.declared.event.Reply.{Reply}
+use Rattle.key_effects.proofs.Common.{◌≡◌, ℕ, ◌<◌, ◌≤◌, ◌==◌, ◌&&◌, ◌++◌, nat_le, Bool, true, false, cond, List, [], ◌∷◌, map, Option, Some, None}
+use Rattle.key_effects.proofs.Common.{inl, inr, refl, sym, ap, ◌∙◌, subst, ⊎_elim, arith, ◌⊎◌, ◌↔◌, All, eqb-true, eq-eqb, leb-true, le-leb}
+use Rattle.key_effects.proofs.Common.{and_parts, and_from, All-nil, All-cons, All-head, All-tail, All-weaker, filter_all, Call, Get, Insert, Remove}
+use Rattle.key_effects.proofs.Common.{Scan, Replace, Reply, Operation, Response, Contents, IsRising, value_at, within, below, above, put, is_just}
+use Rattle.key_effects.proofs.Common.{value_reply, reply_to, after, after_reply, TellsOf, IsLegalReply, after_call, IsLegalCall, IsLegal}
+use Rattle.key_effects.proofs.Common.{value_behind, value_behind_reply, Effect, no_effect, is_same_value, is_answer, point_effect, told_effect}
+use Rattle.key_effects.proofs.Common.{effect_of_key, effect_at, read_of, keyed, FitInTurn, ArePairsOf, HasForm, HaveForms}
 use Rattle.events.specs.Keys.{low_key, high_key}
-use Rattle.events.specs.declared.operation.Operation.{Operation}
-use Rattle.events.specs.declared.operation.Response.{Response}
-use Rattle.map_object.specs.MapObject.{Contents, IsRising, value_at, within, below, above, put, is_just, value_reply, reply_to, after, after_reply, TellsOf, IsLegalReply}
 use Rattle.map_object.proofs.MapLemmas.{AreBelow-below, AreAbove-above, value_at_found, value_at_gap}
-use Rattle.orders.specs.Orders.{after_call, IsLegalCall, IsLegal}
 use Rattle.segments.proofs.RangeLemmas.{value_at-within, in_range, in_range_from}
-use Rattle.quiet_cuts.specs.Values.{value_behind, value_behind_reply}
 use Rattle.quiet_cuts.proofs.ValueLemmas.{IsOut, same_within, within_rises, within_bounds, value_left, rising_kept}
-use Rattle.key_effects.specs.KeyedCalls.{Effect, no_effect, is_same_value, is_answer, point_effect, told_effect, effect_of_key, effect_at, read_of, keyed}
-use Rattle.key_effects.specs.KeyedOrders.{FitInTurn}
-use Rattle.key_effects.specs.Forms.{ArePairsOf, HasForm, HaveForms}
 
 -- ---- answers
 

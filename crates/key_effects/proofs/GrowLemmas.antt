@@ -1,29 +1,19 @@
 -- The calls of events, and of these with further events.
 use Rattle.events.specs.declared.event.Reply.TheVariants as replies
-use Rattle.std.proofs.Common.{◌≡◌, ℕ, suc, ◌+◌, ◌<◌, ◌≤◌, ◌==◌, ◌&&◌, nat_le, Bool, true, false, cond, List, [], ◌∷◌, ◌++◌, map, length, Option, Some, None, inl, inr, refl, sym, ap, ◌∙◌, subst, ⊎_elim, arith}
-use Rattle.std.specs.Prelude.{◌≢◌, ◌⊎◌, Contains}
-use Rattle.std.proofs.lemmas.List.Elements.{All-contains}
-use Rattle.std.proofs.lemmas.Option.{none-some, same_Some}
-use Rattle.list_laws.proofs.FilterLemmas.{AllPairs-map, AllPairs-weaker, Contains-map, Contains-from_map}
-use Rattle.list_laws.proofs.Lists.{All-from_contains, Contains-nil, Contains-first, Contains-later, Contains-cases}
-use Rattle.events.specs.declared.event.Call.{Call}
-use Rattle.events.specs.declared.event.Call.TheVariants.{Get, Insert, Remove, Scan, Replace}
+use Rattle.key_effects.proofs.Common.{◌≡◌, ℕ, suc, ◌+◌, ◌<◌, ◌≤◌, ◌==◌, ◌&&◌, nat_le, Bool, true, false, cond, List, [], ◌∷◌, ◌++◌, map, length}
+use Rattle.key_effects.proofs.Common.{Option, Some, None, inl, inr, refl, sym, ap, ◌∙◌, subst, ⊎_elim, arith, ◌≢◌, ◌⊎◌, Contains, All-contains}
+use Rattle.key_effects.proofs.Common.{none-some, same_Some, AllPairs-map, AllPairs-weaker, Contains-map, Contains-from_map, All-from_contains}
+use Rattle.key_effects.proofs.Common.{Contains-nil, Contains-first, Contains-later, Contains-cases, Call, Get, Insert, Remove, Scan, Replace, Reply}
+use Rattle.key_effects.proofs.Common.{Operation, Response, operations, operations_from, operation_of, response_from, value_at, value_behind}
+use Rattle.key_effects.proofs.Common.{value_behind_reply, inv_rises, inv-at_least, NonePrecedesItself-operations, KeyedCall, Effect, IsFormed}
+use Rattle.key_effects.proofs.Common.{IsNoEffect, no_effect, keyed, place_of, is_refused, is_refusal, concerns_key, effect_at, effect_of_key}
+use Rattle.key_effects.proofs.Common.{point_effect, told_effect, read_of, precedes, AreDistinct, LeaveTheSame, IsAnsweredAs, IsLater, HaveGrown}
+use Rattle.key_effects.proofs.Common.{CallsGrow}
 use Rattle.events.specs.declared.event.Event.{Event}
 use Rattle.events.specs.declared.event.Event.TheVariants.{Invoke, Answer}
-use Rattle.events.specs.declared.event.Reply.{Reply}
-use Rattle.events.specs.declared.operation.Operation.{Operation}
-use Rattle.events.specs.declared.operation.Response.{Response}
-use Rattle.events.specs.Operations.{operations, operations_from, operation_of, response_from}
-use Rattle.events.specs.Precedence as precedence
-use Rattle.map_object.specs.MapObject.{value_at}
-use Rattle.quiet_cuts.specs.Values.{value_behind, value_behind_reply}
-use Rattle.events.proofs.TimeLemmas.{inv_rises, inv-at_least, NonePrecedesItself-operations}
-use Rattle.key_effects.specs.KeyedCalls.{KeyedCall, Effect, IsFormed, IsNoEffect, no_effect, keyed, place_of, is_refused, is_refusal, concerns_key, effect_at, effect_of_key, point_effect, told_effect, read_of, precedes}
-use Rattle.key_effects.specs.KeyedOrders.{AreDistinct}
-use Rattle.key_effects.specs.Growth.{LeaveTheSame, IsAnsweredAs, IsLater, HaveGrown}
-use Rattle.key_effects.specs.Laws.{CallsGrow}
 use Rattle.key_effects.proofs.BridgeLemmas.{same_precedes}
 use Rattle.key_effects.proofs.RestLemmas.{none_none}
+use Rattle.events.specs.Precedence as precedence
 
 -- ---- effects
 
@@ -107,7 +97,7 @@ open_fits (Remove own) key value = open_point own (Remove own) key value
 open_fits (Scan low high) key value = refl
 open_fits (Replace own expected new) key value = open_point own (Replace own expected new) key value
 
--- and leaves what it leaves when it is answered
+-- a pending call leaves what it leaves when it is answered
 accepted_behind : (value : Option ℕ) (call : Call) (reply : Reply) → is_refusal reply ≡ false → value_behind_reply value call reply ≡ value_behind value call
 accepted_behind value call replies.None accepted = refl
 accepted_behind value call (replies.Some told) accepted = refl
@@ -230,7 +220,7 @@ calls_come i place (Invoke p call ∷ events) more at b b_in =
     (calls_come (suc i) place events more (omega arith) b later))
     (Contains-cases (operation_of p call i (events ++ more)) (operations_from (suc i) (events ++ more)) b b_in)
 
--- as the keys see it
+-- a call as the keys see it, with further events
 same_operation : (a b : Operation) → b.call ≡ a.call → b.inv ≡ a.inv → b.response ≡ a.response → b ≡ a
 same_operation a b call inv response =
     ap (λ (c : Call). made c b.inv b.response) call ∙ ap (λ (n : ℕ). made a.call n b.response) inv ∙ ap (λ (r : Option Response). made a.call a.inv r) response

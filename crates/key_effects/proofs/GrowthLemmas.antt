@@ -1,8 +1,5 @@
 -- Calls that grow.
-use Rattle.std.proofs.Common.{◌≡◌, ℕ, ◌≤◌, inl, inr, sym, ◌∙◌, subst, ⊎_elim, arith}
-use Rattle.key_effects.specs.KeyedCalls.{KeyedCall}
-use Rattle.key_effects.specs.Growth.{IsAnsweredAs, IsLater}
-use Rattle.key_effects.specs.Laws.{GrowthGoesOn}
+use Rattle.key_effects.proofs.Common.{◌≡◌, ℕ, ◌≤◌, inl, inr, sym, ◌∙◌, subst, ⊎_elim, arith, KeyedCall, IsAnsweredAs, IsLater, GrowthGoesOn}
 
 -- an answer after a later place is one after an earlier
 answered_after : (place next : ℕ) (a b : KeyedCall) → place ≤ next → IsAnsweredAs next a b → IsAnsweredAs place a b

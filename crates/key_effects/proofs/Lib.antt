@@ -1,3 +1,4 @@
+mod Common
 pub mod GrowthLemmas
 pub mod ChoiceLemmas
 pub mod TurnLemmas
@@ -7,10 +8,7 @@ pub mod DeadLemmas
 pub mod CutLemmas
 pub mod WalkLemmas
 pub mod AfterLemmas
-pub mod AboveLemmas
 pub mod MergeLemmas
-pub mod ReachedLemmas
-pub mod BelowLemmas
 pub mod ApartLemmas
 pub mod EffectLemmas
 pub mod BridgeLemmas
@@ -19,5 +17,4 @@ pub mod WiderLemmas
 pub mod NoneLemmas
 pub mod AlikeLemmas
 pub mod DisturbedLemmas
-pub mod ReadLemmas
 pub mod PartLemmas

@@ -1,12 +1,9 @@
 -- Two lists of calls that keep precedence are merged into one that does: no list has effects at the keys of the other.
-use Rattle.std.proofs.Common.{◌≡◌, ℕ, zero, suc, ◌+◌, ◌<◌, ◌≤◌, Bool, true, false, List, [], ◌∷◌, length, Option, Some, None, inl, inr, refl, sym, ap, ◌∙◌, subst, ⊎_elim, arith}
-use Rattle.std.specs.Prelude.{◌≢◌, ◌⊎◌, Contains, filter}
-use Rattle.std.proofs.lemmas.Bool.{ltb-true, ltb-false}
-use Rattle.std.proofs.lemmas.List.Elements.{All-contains}
-use Rattle.std.proofs.lemmas.List.Kept.{AllPairs-cons}
-use Rattle.list_laws.proofs.Lists.{AllPairs-head, AllPairs-tail, All-from_contains, Contains-nil, Contains-first, Contains-later, Contains-cases, filter_all, filter_none}
-use Rattle.key_effects.specs.KeyedCalls.{KeyedCall, IsNoEffect, ends_before, precedes}
-use Rattle.key_effects.specs.KeyedOrders.{FitInTurn, left_by, AreDistinct, KeepPrecedence}
+use Rattle.key_effects.proofs.Common.{◌≡◌, ℕ, zero, suc, ◌+◌, ◌<◌, ◌≤◌, Bool, true, false, List, [], ◌∷◌, length, Option, Some, None, inl, inr, refl}
+use Rattle.key_effects.proofs.Common.{sym, ap, ◌∙◌, subst, ⊎_elim, arith, ◌≢◌, ◌⊎◌, Contains, filter, ltb-true, ltb-false, All-contains}
+use Rattle.key_effects.proofs.Common.{AllPairs-cons, AllPairs-head, AllPairs-tail, All-from_contains, Contains-nil, Contains-first, Contains-later}
+use Rattle.key_effects.proofs.Common.{Contains-cases, filter_all, filter_none, KeyedCall, IsNoEffect, ends_before, precedes, FitInTurn, left_by}
+use Rattle.key_effects.proofs.Common.{AreDistinct, KeepPrecedence}
 use Rattle.key_effects.proofs.DeadLemmas.{bool_cases}
 
 -- the calls of both, with what they are at a key where the others are nothing
@@ -159,7 +156,8 @@ merged_none ys may = record {
           ap (λ (v : Option ℕ). left_by key v xs) (here.leaves value) ∙ rest.1,
         )
 
--- where some call of the second list precedes the first of the first, none of the first precedes the first of the second
+-- if some call of the second list precedes the first call of the first list, no call of the first
+-- list precedes the first call of the second
 second_first : (x y : KeyedCall) (xs ys : List KeyedCall) → MayMerge (x ∷ xs) (y ∷ ys)
     → (z : KeyedCall) × Contains (y ∷ ys) z × (precedes z x ≡ true) → (a : KeyedCall) → Contains (x ∷ xs) a → precedes a y ≡ false
 second_first x y xs ys may (z, z_in, before) a a_in =
@@ -171,7 +169,7 @@ second_first x y xs ys may (z, z_in, before) a a_in =
     (λ later. All-contains (λ b. precedes b y ≡ false) ys z (AllPairs-head (λ b c. precedes c b ≡ false) y ys may.keep_right) later)
     (Contains-cases y ys z z_in))
 
--- by so many steps as there are calls
+-- by as many steps as there are calls
 pub merge_by : (n : ℕ) (xs ys : List KeyedCall) → length xs + length ys ≤ n → MayMerge xs ys → (zs : List KeyedCall) × AreMerged xs ys zs
 merge_by n [] ys less may = (ys, merged_none ys may)
 merge_by n (x ∷ xs) [] less may = (x ∷ xs, turned [] (x ∷ xs) (x ∷ xs) (merged_none (x ∷ xs) (may_turn (x ∷ xs) [] may)))

@@ -1,15 +1,8 @@
 -- Calls without effect.
-use Rattle.std.proofs.Common.{◌≡◌, ℕ, ◌<◌, Bool, true, false, not, ◌&&◌, List, Option, Some, None, inl, inr, refl, subst, ⊎_elim, arith}
-use Rattle.std.specs.Prelude.{◌≢◌, ◌⊎◌, Contains, filter}
-use Rattle.std.proofs.lemmas.Bool.{ltb-true, lt-ltb, and_parts, and_from}
-use Rattle.std.proofs.lemmas.List.Elements.{All-contains}
-use Rattle.std.proofs.lemmas.List.Kept.{AllPairs-filter}
-use Rattle.list_laws.proofs.FilterLemmas.{AllPairs-weaker}
-use Rattle.list_laws.proofs.Lists.{Contains-filter, Contains-from_filter}
-use Rattle.key_effects.specs.KeyedCalls.{KeyedCall, IsNoEffect, ends_before, precedes, is_completed}
-use Rattle.key_effects.specs.KeyedOrders.{IsKeyedOrder, AreKeyedCalls}
-use Rattle.key_effects.specs.Cuts.{has_call}
-use Rattle.key_effects.specs.Laws.{EffectsDecide}
+use Rattle.key_effects.proofs.Common.{◌≡◌, ℕ, ◌<◌, Bool, true, false, not, ◌&&◌, List, Option, Some, None, inl, inr, refl, subst, ⊎_elim, arith, ◌≢◌}
+use Rattle.key_effects.proofs.Common.{◌⊎◌, Contains, filter, ltb-true, lt-ltb, and_parts, and_from, All-contains, AllPairs-filter, AllPairs-weaker}
+use Rattle.key_effects.proofs.Common.{Contains-filter, Contains-from_filter, KeyedCall, IsNoEffect, ends_before, precedes, is_completed, IsKeyedOrder}
+use Rattle.key_effects.proofs.Common.{AreKeyedCalls, has_call, EffectsDecide}
 use Rattle.key_effects.proofs.AfterLemmas.{named_in, from_named}
 use Rattle.key_effects.proofs.DeadLemmas.{bool_cases}
 use Rattle.key_effects.proofs.MergeLemmas.{AreMerged, merge}
@@ -21,7 +14,7 @@ use Rattle.key_effects.proofs.TurnLemmas.{HasNone, AreOver, go_over}
 abbrev IsKept : List KeyedCall → KeyedCall → KeyedCall → Type 0
 IsKept more x y = (y ≡ x) × Contains more y
 
--- by rising invocation, calls keep precedence where none precedes itself
+-- calls by rising invocation keep precedence, if none precedes itself
 rising_keep : (a b : KeyedCall) → a.inv < b.inv → precedes b b ≡ false → precedes b a ≡ false
 rising_keep a b less alone = by_test (bool_cases (precedes b a))
   where

@@ -1,13 +1,10 @@
 -- Orders of calls, up to a place.
-use Rattle.std.proofs.Common.{◌≡◌, ℕ, ◌<◌, ◌≤◌, Bool, true, false, nat_lt, List, [], ◌∷◌, ◌++◌, Option, Some, None, inl, inr, refl, sym, ap, ◌∙◌, subst, ⊎_elim, arith}
-use Rattle.std.specs.Prelude.{◌≢◌, ◌⊎◌, All, Contains}
-use Rattle.std.proofs.lemmas.Bool.{ltb-true, ltb-false, lt-ltb}
-use Rattle.std.proofs.lemmas.List.Elements.{All-nil, All-cons, All-contains, Contains-append_cases}
-use Rattle.list_laws.proofs.Lists.{AllPairs-head, AllPairs-tail, AllPairs-back, Contains-nil, Contains-cases}
-use Rattle.key_effects.specs.KeyedCalls.{KeyedCall, ends_before, precedes}
-use Rattle.key_effects.specs.KeyedOrders.{AreDistinct, KeepPrecedence}
+use Rattle.key_effects.proofs.Common.{◌≡◌, ℕ, ◌<◌, ◌≤◌, Bool, true, false, nat_lt, List, [], ◌∷◌, ◌++◌, Option, Some, None, inl, inr, refl, sym, ap}
+use Rattle.key_effects.proofs.Common.{◌∙◌, subst, ⊎_elim, arith, ◌≢◌, ◌⊎◌, All, Contains, ltb-true, ltb-false, lt-ltb, All-nil, All-cons}
+use Rattle.key_effects.proofs.Common.{All-contains, Contains-append_cases, AllPairs-head, AllPairs-tail, AllPairs-back, Contains-nil, Contains-cases}
+use Rattle.key_effects.proofs.Common.{KeyedCall, ends_before, precedes, AreDistinct, KeepPrecedence}
 
--- of one name there is one call
+-- only one call has a name
 pub same_call : (calls : List KeyedCall) (a b : KeyedCall) → AreDistinct calls → Contains calls a → Contains calls b → a.inv ≡ b.inv → a ≡ b
 same_call [] a b distinct a_in b_in same = absurd (Contains-nil a a_in)
 same_call (x ∷ calls) a b distinct a_in b_in same =

@@ -1,16 +1,10 @@
 -- Many sets of keys, judged one after another.
-use Rattle.std.proofs.Common.{◌≡◌, ℕ, ◌<◌, Bool, true, false, not, ◌&&◌, cond, List, [], ◌∷◌, map, Option, inl, inr, refl, sym, ap, ◌∙◌, subst, ⊎_elim}
-use Rattle.std.specs.Prelude.{◌≢◌, ◌⊎◌, All, AllPairs, Contains}
-use Rattle.std.proofs.lemmas.Bool.{and_parts}
-use Rattle.std.proofs.lemmas.List.Elements.{All-nil, All-cons, All-head, All-tail, All-contains, All-map}
-use Rattle.list_laws.proofs.FilterLemmas.{Contains-from_map, AllPairs-map}
-use Rattle.list_laws.proofs.Lists.{AllPairs-nil, AllPairs-head, AllPairs-tail, All-from_contains, Contains-nil}
+use Rattle.key_effects.proofs.Common.{◌≡◌, ℕ, ◌<◌, Bool, true, false, not, ◌&&◌, cond, List, [], ◌∷◌, map, Option, inl, inr, refl, sym, ap, ◌∙◌}
+use Rattle.key_effects.proofs.Common.{subst, ⊎_elim, ◌≢◌, ◌⊎◌, All, AllPairs, Contains, and_parts, All-nil, All-cons, All-head, All-tail}
+use Rattle.key_effects.proofs.Common.{All-contains, All-map, Contains-from_map, AllPairs-map, AllPairs-nil, AllPairs-head, AllPairs-tail}
+use Rattle.key_effects.proofs.Common.{All-from_contains, Contains-nil, KeyedCall, Effect, IsNoEffect, IsFormed, no_effect, precedes, HasKeyedOrder}
+use Rattle.key_effects.proofs.Common.{AreKeyedCalls, Keys, only, other_keys, IsQuiet, IsUndisturbed, Parts, AreApart, AreParts, PartsJudge}
 use mathlib.Core.Path.{fun_ext}
-use Rattle.key_effects.specs.KeyedCalls.{KeyedCall, Effect, IsNoEffect, IsFormed, no_effect, precedes}
-use Rattle.key_effects.specs.KeyedOrders.{HasKeyedOrder, AreKeyedCalls}
-use Rattle.key_effects.specs.Cuts.{Keys}
-use Rattle.key_effects.specs.Apart.{only, other_keys, IsQuiet, IsUndisturbed, Parts, AreApart, AreParts}
-use Rattle.key_effects.specs.Laws.{PartsJudge}
 use Rattle.key_effects.proofs.ApartLemmas.{some_refute, sets_judge}
 use Rattle.key_effects.proofs.DeadLemmas.{bool_cases}
 use Rattle.key_effects.proofs.NoneLemmas.{effects_decide}
@@ -66,7 +60,7 @@ module _ (out : Keys) (calls : List KeyedCall) where
             (λ more. inr (⊎_elim (λ here. inl (undisturbed_only keys s here)) (λ there. inr (undisturbed_only (other_keys keys) s there)) more)) some,
       ))
 
--- at a set of keys apart from one, what is left without that one is the same
+-- at keys of one set, leaving out the keys of another set that is apart from it changes nothing
 concerns_less : (l k c : Bool) → (l ≡ true → k ≡ false) → (l && (not k && c)) ≡ (l && c)
 concerns_less true k c apart = rw (apart refl) refl
 concerns_less false k c apart = refl

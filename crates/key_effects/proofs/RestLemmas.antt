@@ -1,9 +1,6 @@
 -- What is left of calls by a choice.
-use Rattle.std.proofs.Common.{◌≡◌, ℕ, Bool, true, false, cond, Option, Some, None, refl, sym, subst, ⊎_elim}
-use Rattle.std.specs.Prelude.{is_some}
-use Rattle.key_effects.specs.KeyedCalls.{KeyedCall, Effect, no_effect, IsNoEffect, IsFormed, ends_before}
-use Rattle.key_effects.specs.Growth.{LeaveTheSame, IsAnsweredAs, IsLater}
-use Rattle.key_effects.specs.Choices.{Choice, rest_of}
+use Rattle.key_effects.proofs.Common.{◌≡◌, ℕ, Bool, true, false, cond, Option, Some, None, refl, sym, subst, ⊎_elim, is_some, KeyedCall, Effect}
+use Rattle.key_effects.proofs.Common.{no_effect, IsNoEffect, IsFormed, ends_before, LeaveTheSame, IsAnsweredAs, IsLater, Choice, rest_of}
 use Rattle.key_effects.proofs.TurnLemmas.{StandsFor, HasNone}
 
 -- no effect is none
@@ -14,7 +11,7 @@ pub none_or : (t : Bool) (e : Effect) → IsNoEffect e → IsNoEffect (cond t no
 none_or true e none = none_none
 none_or false e none = none
 
--- of a refused call nothing is left
+-- nothing is left of a refused call
 pub refused_none : (w : Choice) (a : KeyedCall) → IsFormed a → a.refused ≡ true → HasNone (rest_of w a)
 refused_none w a formed refused key = none_or (w.taken a.inv key) (a.effect key) (formed.refusal refused key)
 
@@ -31,7 +28,7 @@ leaves_or : (t : Bool) (e f : Effect) → LeaveTheSame e f → (value : Option �
 leaves_or true e f same value = refl
 leaves_or false e f same value = sym (same value)
 
--- what was left of a call while it was pending stands for what is left of it
+-- what was left of a call while it was pending may replace what is left of it
 pub pending_stands : (place : ℕ) (w : Choice) (a b : KeyedCall) → b.inv ≡ a.inv → IsAnsweredAs place a b → b.refused ≡ false
     → StandsFor (rest_of w b) (rest_of w a)
 pending_stands place w a b inv answered accepted = record {
@@ -52,7 +49,7 @@ stands_itself a = record {
   leaves = λ key value fit. refl;
 }
 
--- so does what is left of an old call, later, unless it was refused since
+-- what is left of a call later may replace what was left of it, unless it was refused since
 pub later_stands : (place : ℕ) (w : Choice) (a b : KeyedCall) → IsLater place a b → b.refused ≡ false → StandsFor (rest_of w b) (rest_of w a)
 later_stands place w a b later accepted =
     ⊎_elim (λ same. subst (λ (c : KeyedCall). StandsFor (rest_of w c) (rest_of w a)) (sym same) (stands_itself (rest_of w a)))

@@ -1,11 +1,8 @@
 -- Calls in turn at a key: parts of them, and others in their places.
-use Rattle.std.proofs.Common.{◌≡◌, ℕ, Bool, true, false, List, [], ◌∷◌, ◌++◌, Option, inl, inr, refl, sym, ap, ◌∙◌, subst, ⊎_elim}
-use Rattle.std.specs.Prelude.{◌≢◌, ◌⊎◌, All, Contains}
-use Rattle.std.proofs.lemmas.List.Elements.{All-contains}
-use Rattle.std.proofs.lemmas.List.Kept.{AllPairs-cons}
-use Rattle.list_laws.proofs.Lists.{AllPairs-nil, AllPairs-head, AllPairs-tail, All-from_contains, Contains-nil, Contains-first, Contains-later, Contains-cases}
-use Rattle.key_effects.specs.KeyedCalls.{KeyedCall, IsNoEffect, ends_before, precedes}
-use Rattle.key_effects.specs.KeyedOrders.{FitInTurn, left_by, AreDistinct, KeepPrecedence}
+use Rattle.key_effects.proofs.Common.{◌≡◌, ℕ, Bool, true, false, List, [], ◌∷◌, ◌++◌, Option, inl, inr, refl, sym, ap, ◌∙◌, subst, ⊎_elim, ◌≢◌, ◌⊎◌}
+use Rattle.key_effects.proofs.Common.{All, Contains, All-contains, AllPairs-cons, AllPairs-nil, AllPairs-head, AllPairs-tail, All-from_contains}
+use Rattle.key_effects.proofs.Common.{Contains-nil, Contains-first, Contains-later, Contains-cases, KeyedCall, IsNoEffect, ends_before, precedes}
+use Rattle.key_effects.proofs.Common.{FitInTurn, left_by, AreDistinct, KeepPrecedence}
 
 -- what one call after others leaves
 pub left_by-append : (key : ℕ) (value : Option ℕ) (xs ys : List KeyedCall)
@@ -28,18 +25,18 @@ pub fit-append : (key : ℕ) (value : Option ℕ) (xs ys : List KeyedCall) → F
 fit-append key value [] ys fit rest = rest
 fit-append key value (x ∷ xs) ys fit rest = (fit.0, fit-append key ((x.effect key).leaves value) xs ys fit.1 rest)
 
--- a call may stand in an order for another: it fits where that fits, and leaves the same there
+-- a call may be in an order for another: it fits where that fits, and leaves the same there
 pub record StandsFor (a b : KeyedCall) : Type 0 where
   pub inv : b.inv ≡ a.inv
   pub ends : (place : ℕ) → ends_before b.res place ≡ true → ends_before a.res place ≡ true
   pub fits : (key : ℕ) (value : Option ℕ) → (a.effect key).fits value ≡ true → (b.effect key).fits value ≡ true
   pub leaves : (key : ℕ) (value : Option ℕ) → (a.effect key).fits value ≡ true → (b.effect key).leaves value ≡ (a.effect key).leaves value
 
--- it has no effect at any key
+-- a call has no effect at any key
 abbrev pub HasNone : KeyedCall → Type 0
 HasNone a = (key : ℕ) → IsNoEffect (a.effect key)
 
--- one that stands for it, in a relation to it, or that it is left out
+-- some call may replace it, in a relation to it, or it is left out
 abbrev pub GoesOver : (KeyedCall → KeyedCall → Type 0) → (KeyedCall → Type 0) → KeyedCall → Type 0
 GoesOver Q D a = ((b : KeyedCall) × StandsFor a b × Q a b) ⊎ (HasNone a × D a)
 
@@ -116,7 +113,7 @@ over_out Q D held a old new none out over = record {
   aligned = inr (none, out, over.aligned);
 }
 
--- so calls in turn go over to others
+-- calls in turn go over to others
 pub go_over : (Q : KeyedCall → KeyedCall → Type 0) (D : KeyedCall → Type 0) (old : List KeyedCall) (held : ℕ → Option ℕ)
     → ((a : KeyedCall) → Contains old a → GoesOver Q D a) → AreDistinct old → KeepPrecedence old
     → ((key : ℕ) → FitInTurn key (held key) old) → (new : List KeyedCall) × AreOver Q D held old new

@@ -1,20 +1,14 @@
 -- Small calls that refute what goes further than the laws.
-use Rattle.std.proofs.Common.{◌≡◌, ℕ, ◌<◌, true, false, List, [], ◌∷◌, Option, Some, None, inl, inr, refl, sym, subst, ⊎_elim, arith}
-use Rattle.std.specs.Prelude.{◌≢◌, All, Contains}
-use Rattle.std.proofs.lemmas.List.Elements.{All-nil, All-cons}
-use Rattle.std.proofs.lemmas.Option.{none-some, same_Some}
-use Rattle.list_laws.proofs.Lists.{AllPairs-nil, All-from_contains, Contains-nil, Contains-first, Contains-cases}
-use Rattle.std.proofs.lemmas.List.Kept.{AllPairs-cons}
-use Rattle.key_effects.specs.KeyedCalls.{KeyedCall, IsFormed, precedes, is_same_value}
-use Rattle.key_effects.specs.KeyedOrders.{FitInTurn, AreDistinct, AreKeyedCalls, HasKeyedOrder}
-use Rattle.key_effects.specs.Growth.{HaveGrown}
-use Rattle.key_effects.specs.Choices.{Choice, among, at_first, Agrees, GoesOn, StandAbove}
-use Rattle.key_effects.specs.Laws.{AliveMayDie, AboveIsNoYes, BelowIsNoNo}
+use Rattle.key_effects.proofs.Common.{◌≡◌, ℕ, ◌<◌, true, false, List, [], ◌∷◌, Option, Some, None, inl, inr, refl, sym, subst, ⊎_elim, arith, ◌≢◌}
+use Rattle.key_effects.proofs.Common.{All, Contains, All-nil, All-cons, none-some, same_Some, AllPairs-nil, All-from_contains, Contains-nil}
+use Rattle.key_effects.proofs.Common.{Contains-first, Contains-cases, AllPairs-cons, KeyedCall, IsFormed, precedes, is_same_value, FitInTurn}
+use Rattle.key_effects.proofs.Common.{AreDistinct, AreKeyedCalls, HasKeyedOrder, HaveGrown, Choice, among, at_first, Agrees, GoesOn, StandAbove}
+use Rattle.key_effects.proofs.Common.{AliveMayDie, AboveIsNoYes, BelowIsNoNo}
 use Rattle.key_effects.proofs.ChoiceLemmas.{map_same}
 use Rattle.key_effects.proofs.DeadLemmas.{dead_stay_dead}
 use Rattle.key_effects.proofs.EffectLemmas.{same_values}
 
--- a get of key 0 that was told 5, where the keys hold nothing
+-- a get of key 0 that returned 5, while the keys hold nothing
 abbrev told_five : KeyedCall
 told_five = record {
   inv = 0;
@@ -27,7 +21,7 @@ told_five = record {
 abbrev nothing : ℕ → Option ℕ
 nothing key = None
 
--- it has no order
+-- this get has no order
 never : HasKeyedOrder nothing (told_five ∷ []) → ⊥
 never (order, is) = by_order order (is.complete told_five (Contains-first told_five []) refl) (is.fit 0) is.known
   where
@@ -53,7 +47,7 @@ apart = record {
   last = All-cons (λ a. precedes a a ≡ false) told_five [] refl (All-nil (λ a. precedes a a ≡ false));
 }
 
--- it may come after no events
+-- this get may come after no events
 comes : HaveGrown 0 [] (told_five ∷ [])
 comes = record {
   begun = All-nil (λ a. a.inv < 0);
@@ -65,7 +59,7 @@ comes = record {
   apart = apart;
 }
 
--- and stays
+-- the call may stay as it is after further events
 stays : HaveGrown 2 (told_five ∷ []) (told_five ∷ [])
 stays = record {
   begun = All-cons (λ a. a.inv < 2) told_five [] (omega arith) (All-nil (λ a. a.inv < 2));

@@ -18,7 +18,7 @@ only keys a = record {
 abbrev pub other_keys : Keys → Keys
 other_keys keys key = not (keys key)
 
--- where it fits, a call leaves the key as it is
+-- if it fits, a call leaves the key as it is
 abbrev pub IsQuiet : KeyedCall → ℕ → Type 0
 IsQuiet a key = (value : Option ℕ) → (a.effect key).fits value ≡ true → (a.effect key).leaves value ≡ value
 
@@ -47,8 +47,9 @@ pub record AreParts (parts : List Keys) (calls : List KeyedCall) : Type 0 where
   pub parted : All (λ keys. All (Parts keys calls) calls) parts
   pub elsewhere : (a : KeyedCall) (key : ℕ) → Contains calls a → All (λ keys. keys key ≡ false) parts → IsNoEffect (a.effect key)
 
--- a call is another at some keys: it has the same places, and the same effect there; elsewhere one has none, and the other leaves it that there
--- is nothing, as a scan does that was told of no key there
+-- at some keys a call is like another: it has the same places, and the same effect there. Elsewhere
+-- one has no effect, and the other leaves a key without a value as it is, as a scan does that
+-- reported no such key.
 pub record IsAlikeAt (keys : Keys) (a b : KeyedCall) : Type 0 where
   pub inv : b.inv ≡ a.inv
   pub res : b.res ≡ a.res

@@ -45,15 +45,12 @@ among listed w = (n : ℕ) × (listed n ≡ Some w)
 abbrev pub SomeGoesOn : Choices → List KeyedCall → Type 0
 SomeGoesOn choices calls = (w : Choice) × choices w × GoesOn w calls
 
--- choices stand above the calls: whatever events follow, where the calls have an order, some choice goes on to one. So if none does, there is
--- no order.
+-- choices are above the calls: whatever events follow, if the calls have an order, some choice goes
+-- on to one. So if none does, there is no order.
 abbrev pub StandAbove : (ℕ → Option ℕ) → ℕ → List KeyedCall → Choices → Type 0
 StandAbove held place calls choices = (more : List KeyedCall) → HaveGrown place calls more → HasKeyedOrder held more → SomeGoesOn choices more
 
--- choices stand below the calls: whatever events follow, where some choice goes on to an order, the calls have one
+-- choices are below the calls: whatever events follow, if some choice goes on to an order, the
+-- calls have one
 abbrev pub StandBelow : (ℕ → Option ℕ) → ℕ → List KeyedCall → Choices → Type 0
 StandBelow held place calls choices = (more : List KeyedCall) → HaveGrown place calls more → SomeGoesOn choices more → HasKeyedOrder held more
-
--- one choice is as good as another where it goes on whenever that does, whatever events follow
-abbrev pub IsAsGood : ℕ → List KeyedCall → Choice → Choice → Type 0
-IsAsGood place calls w better = (more : List KeyedCall) → HaveGrown place calls more → GoesOn w more → GoesOn better more

@@ -3,7 +3,7 @@ use Rattle.std.specs.Prelude.{◌≡◌, ◌⊎◌, ℕ, ◌<◌, ◌≤◌, tru
 use Rattle.key_effects.specs.KeyedCalls.{KeyedCall, Effect, IsFormed, is_completed}
 use Rattle.key_effects.specs.KeyedOrders.{AreDistinct, AreKeyedCalls}
 
--- an answer tells at which values a call was made, and not what it leaves
+-- an answer says at which values a call was made, and not what it leaves
 abbrev pub LeaveTheSame : Effect → Effect → Type 0
 LeaveTheSame e f = (value : Option ℕ) → f.leaves value ≡ e.leaves value
 

@@ -1,5 +1,6 @@
--- Calls as the keys see them. At each key a call may have been answered as it was where the key holds some values, or none, and leaves one
--- there. A scan is, at each key of its range, a read of what it was told of that key.
+-- Calls as the keys see them. At each key, a call with its answer fits some values that the key may
+-- hold, or that it holds none, and leaves one there. At each key of its range, a scan is a read of
+-- what it reported there.
 use Rattle.events.specs.declared.event.Reply.TheVariants as replies
 use Rattle.std.specs.Prelude.{◌≡◌, ℕ, ◌==◌, ◌&&◌, Bool, true, false, nat_lt, nat_le, if◌then◌else◌, Option, Some, None, is_some, is_none}
 use Rattle.events.specs.declared.event.Call.{Call}
@@ -61,7 +62,8 @@ point_effect call None = record { fits = λ value. true; leaves = λ value. valu
 point_effect call (Some response) =
     record { fits = is_answer call response.reply; leaves = λ value. value_behind_reply value call response.reply }
 
--- the effect of a scan at a key: where it was told pairs, and the key is in its range, a read of what they have there
+-- the effect of a scan at a key: if it reported pairs, and the key is in its range, a read of what
+-- they have there
 abbrev pub read_of : Option ℕ → Effect
 read_of told = record { fits = is_same_value told; leaves = λ value. value }
 
@@ -126,7 +128,8 @@ keyed a = record {
   effect = effect_at a.call a.response;
 }
 
--- a call with a response is completed; one precedes another where its response stands before the invocation of the other
+-- a call with a response is completed; one precedes another if its response comes before the
+-- invocation of the other
 abbrev pub is_completed : KeyedCall → Bool
 is_completed a = is_some a.res
 

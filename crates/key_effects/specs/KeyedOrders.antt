@@ -8,7 +8,7 @@ abbrev pub FitInTurn : ℕ → Option ℕ → List KeyedCall → Type 0
 FitInTurn key value [] = ⊤
 FitInTurn key value (a ∷ calls) = ((a.effect key).fits value ≡ true) × FitInTurn key ((a.effect key).leaves value) calls
 
--- and what they leave there
+-- what calls leave at a key
 abbrev pub left_by : ℕ → Option ℕ → List KeyedCall → Option ℕ
 left_by key value [] = value
 left_by key value (a ∷ calls) = left_by key ((a.effect key).leaves value) calls

@@ -1,5 +1,5 @@
 // Laws of calls as the keys see them. Each is the contract of a function that does nothing.
-ghost use Rattle.key_effects.specs.Laws.{AboveIsNoYes, AlikeCallsDecide, AliveMayDie, AsGoodChoicesStand, BelowIsNoNo, CallsGrow, ChoicesBegin, ChoicesJudge, ChoicesStay, CutsStandAbove, CutsStandBelow, DeadChoicesGo, DeadChoicesStayDead, EffectsDecide, GrowthGoesOn, OrdersAreKeyedOrders, PartsJudge, PendingCallsDisturb, ReadsMayBeTaken, SetsOfKeysJudge, SomeKeysRefute};
+ghost use Rattle.key_effects.specs.Laws.{AboveIsNoYes, AlikeCallsDecide, AliveMayDie, BelowIsNoNo, CallsGrow, ChoicesBegin, ChoicesJudge, ChoicesStay, DeadChoicesGo, DeadChoicesStayDead, EffectsDecide, GrowthGoesOn, OrdersAreKeyedOrders, PartsJudge, PendingCallsDisturb, SetsOfKeysJudge, SomeKeysRefute};
 
 /// The calls of events have an order exactly if two things hold: each scan has an answer that a
 /// scan may have, and the calls have an order as the keys see them.
@@ -17,13 +17,13 @@ pub fn growth_goes_on()
     ensures { GrowthGoesOn }
 {}
 
-/// Before any event, one choice stands above and below all events that may come. In it no call is
+/// Before any event, one choice is above and below all events that may come. In it no call is
 /// taken, and the keys hold what they hold at the start.
 pub fn choices_begin()
     ensures { ChoicesBegin }
 {}
 
-/// Choices that stand above or below the calls do so after further events too.
+/// Choices that are above or below the calls are so after further events too.
 pub fn choices_stay()
     ensures { ChoicesStay }
 {}
@@ -42,28 +42,6 @@ pub fn dead_choices_stay_dead()
 /// A choice above that goes on to no order now may be dropped.
 pub fn dead_choices_go()
     ensures { DeadChoicesGo }
-{}
-
-/// Choices above may be replaced by choices that are as good as they are. Choices below may be
-/// replaced by choices that they are as good as.
-pub fn as_good_choices_stand()
-    ensures { AsGoodChoicesStand }
-{}
-
-/// A read that was answered may be taken as soon as it fits. If nothing is left of the calls that
-/// precede it, the choice after it is no better than the one before.
-pub fn reads_may_be_taken()
-    ensures { ReadsMayBeTaken }
-{}
-
-/// At a past moment, choices that cover the cut may replace the choices above.
-pub fn cuts_stand_above()
-    ensures { CutsStandAbove }
-{}
-
-/// At a past moment, choices that are reached may replace the choices below.
-pub fn cuts_stand_below()
-    ensures { CutsStandBelow }
 {}
 
 /// Calls that have an order have one at any set of keys. So a set of keys without an order refutes.

@@ -1,19 +1,16 @@
-//! Calls as the keys see them, and what of a stream's calls may stay in memory: only laws.
-//!
-//! At each key a call fits some values and leaves one. A scan reads at each key of its range what
-//! it answered there. Calls in turn are legal exactly if they fit at each key.
-//!
-//! Calls that are dropped leave a set of choices. A choice says which calls took effect at which
-//! keys, what they found, and what the keys hold. Choices stand above the calls if they lose no
-//! order, and below the calls if they add none.
+//! Calls as the keys see them, and what of a stream's calls may stay in memory: only laws. At each
+//! key a call fits some values and leaves one. A scan reads at each key of its range what it
+//! answered there. Calls in turn are legal exactly if they fit at each key. Calls that are dropped
+//! leave a set of choices. A choice says which calls took effect at which keys, what they found,
+//! and what the keys hold. Choices are above the calls if they lose no order, and below the calls
+//! if they add none.
 #![tactic(auto)]
 
 mod laws;
 
 pub use laws::{
-    above_is_no_yes, alike_calls_decide, alive_may_die, as_good_choices_stand, below_is_no_no,
-    calls_grow, choices_begin, choices_judge, choices_stay, cuts_stand_above, cuts_stand_below,
-    dead_choices_go, dead_choices_stay_dead, effects_decide, growth_goes_on,
-    orders_are_keyed_orders, parts_judge, pending_calls_disturb, reads_may_be_taken,
+    above_is_no_yes, alike_calls_decide, alive_may_die, below_is_no_no, calls_grow, choices_begin,
+    choices_judge, choices_stay, dead_choices_go, dead_choices_stay_dead, effects_decide,
+    growth_goes_on, orders_are_keyed_orders, parts_judge, pending_calls_disturb,
     sets_of_keys_judge, some_keys_refute,
 };

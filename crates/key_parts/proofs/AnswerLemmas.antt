@@ -1,23 +1,10 @@
 -- What is left at some keys before any event; and as a call is answered that was not left, or is refused.
-use Rattle.std.proofs.Common.{◌≡◌, ℕ, ◌<◌, true, false, List, ◌∷◌, ◌++◌, inl, inr, refl, sym, ap, ◌∙◌, subst, ⊎_elim, arith}
-use Rattle.std.specs.Prelude.{◌≢◌, ◌⊎◌, All, AllPairs, Contains}
-use Rattle.std.proofs.lemmas.List.Elements.{All-nil, All-cons, All-tail, All-append, All-contains, Contains-append_cases}
-use Rattle.std.proofs.lemmas.List.Kept.{AllPairs-cons}
-use Rattle.list_laws.proofs.FilterLemmas.{AllPairs-weaker}
-use Rattle.list_laws.proofs.Lists.{AllPairs-nil, AllPairs-tail, AllPairs-append, AllPairs-front, AllPairs-back, AllPairs-across, All-front}
-use Rattle.list_laws.proofs.Lists.{All-back, All-from_contains, Contains-nil, Contains-around}
-use Rattle.events.specs.declared.operation.Operation.{Operation}
-use Rattle.map_object.specs.MapObject.{value_at}
-use Rattle.key_effects.specs.KeyedCalls.{KeyedCall, IsNoEffect, keyed}
-use Rattle.key_effects.specs.Forms.{HasForm, HaveForms}
-use Rattle.key_effects.specs.Choices.{Choice, at_first}
-use Rattle.key_effects.specs.Cuts.{Keys}
-use Rattle.key_effects.proofs.DeadLemmas.{bool_cases}
-use Rattle.key_effects.proofs.GrowLemmas.{formed}
-use Rattle.key_effects.proofs.RestLemmas.{none_or}
-use Rattle.key_parts.specs.Parts.{AgreesAt, left_at}
-use Rattle.key_parts.specs.Left.{IsNotTakenAt, answered}
-use Rattle.key_parts.specs.CallLaws.{NothingIsLeft, AnsweredReadsAreLeft, RefusedCallsAreNotLeft}
+use Rattle.key_parts.proofs.Common.{◌≡◌, ℕ, ◌<◌, true, false, List, ◌∷◌, ◌++◌, inl, inr, refl, sym, ap, ◌∙◌, subst, ⊎_elim, arith, ◌≢◌, ◌⊎◌, All}
+use Rattle.key_parts.proofs.Common.{AllPairs, Contains, All-nil, All-cons, All-tail, All-append, All-contains, Contains-append_cases, AllPairs-cons}
+use Rattle.key_parts.proofs.Common.{AllPairs-weaker, AllPairs-nil, AllPairs-tail, AllPairs-append, AllPairs-front, AllPairs-back, AllPairs-across}
+use Rattle.key_parts.proofs.Common.{All-front, All-back, All-from_contains, Contains-nil, Contains-around, Operation, value_at, KeyedCall, IsNoEffect}
+use Rattle.key_parts.proofs.Common.{keyed, HasForm, HaveForms, Choice, at_first, Keys, bool_cases, formed, none_or, AgreesAt, left_at, IsNotTakenAt}
+use Rattle.key_parts.proofs.Common.{answered, NothingIsLeft, AnsweredReadsAreLeft, RefusedCallsAreNotLeft}
 use Rattle.key_parts.proofs.PartLemmas.{none_left_out}
 use Rattle.key_parts.proofs.EventLemmas.{IsKnown, IsOf, left_instead, not_both, beside, middle, differ, own_alike, own_known}
 

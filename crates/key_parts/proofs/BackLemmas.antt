@@ -1,19 +1,10 @@
 -- Orders in which a call comes first at some keys: it is put before all that is left there.
-use Rattle.std.proofs.Common.{◌≡◌, ℕ, ◌<◌, ◌≤◌, Bool, true, false, not, ◌&&◌, ◌||◌, ◌==◌, cond, List, Option, Some, None, inl, inr, refl, sym, ap, ◌∙◌, subst, ⊎_elim, arith}
-use Rattle.std.specs.Prelude.{◌≢◌, ◌⊎◌, All, Contains}
-use Rattle.std.proofs.lemmas.Bool.{ltb-true, and_parts, and_from, or_left, or_right, not_from_false, false_from_ne_true, eqb-true, eq-eqb}
-use Rattle.std.proofs.lemmas.List.Elements.{All-contains}
-use Rattle.key_effects.specs.KeyedCalls.{KeyedCall, no_effect, IsNoEffect, IsFormed, ends_before}
-use Rattle.key_effects.specs.Growth.{IsLater, HaveGrown}
-use Rattle.key_effects.specs.Choices.{Choice, rest_of, Agrees}
-use Rattle.key_effects.specs.Cuts.{Keys, IsWithin, IsOutside}
-use Rattle.key_effects.specs.Apart.{other_keys}
-use Rattle.key_effects.proofs.CutLemmas.{outside_none, within_none}
-use Rattle.key_effects.proofs.DeadLemmas.{bool_cases}
-use Rattle.key_effects.proofs.RestLemmas.{none_or, refused_none}
+use Rattle.key_parts.proofs.Common.{◌≡◌, ℕ, ◌<◌, ◌≤◌, Bool, true, false, not, ◌&&◌, ◌||◌, ◌==◌, cond, List, Option, Some, None, inl, inr, refl, sym}
+use Rattle.key_parts.proofs.Common.{ap, ◌∙◌, subst, ⊎_elim, arith, ◌≢◌, ◌⊎◌, All, Contains, ltb-true, and_parts, and_from, or_left, or_right}
+use Rattle.key_parts.proofs.Common.{not_from_false, false_from_ne_true, eqb-true, eq-eqb, All-contains, KeyedCall, no_effect, IsNoEffect, IsFormed}
+use Rattle.key_parts.proofs.Common.{ends_before, IsLater, HaveGrown, Choice, rest_of, Agrees, Keys, IsWithin, IsOutside, other_keys, outside_none}
+use Rattle.key_parts.proofs.Common.{within_none, bool_cases, none_or, refused_none, IsAt, IsAfterCall, MayComeNext}
 use Rattle.key_effects.proofs.WalkLemmas.{within_later, outside_later}
-use Rattle.key_parts.specs.Parts.{IsAt}
-use Rattle.key_parts.specs.Steps.{IsAfterCall, MayComeNext}
 use Rattle.key_parts.proofs.FirstLemmas.{none_outside, accepted_now}
 use Rattle.key_parts.proofs.MaskLemmas.{masked_by, rest_masked, masked_same}
 use Rattle.key_parts.proofs.NextLemmas.{taken_by, or_none, IsTaken, rest_leaves, taken_none}
@@ -113,7 +104,7 @@ module _ (keys : Keys) (place limit : ℕ) (calls more : List KeyedCall) (past n
   pub holds_here : (key : ℕ) → keys key ≡ true → v.holds key ≡ ((rest_of w d).effect key).leaves (w.holds key)
   holds_here key is = at.same.holds key is ∙ rest_leaves keys place calls more past next w a d is_taken key is (fits_here key is)
 
-  -- by the first choice nothing is left of it
+  -- nothing is left of the call by the first choice
   pub none_back : (key : ℕ) → IsNoEffect ((rest_of v d).effect key)
   none_back key = subst (λ (z : KeyedCall). IsNoEffect (z.effect key)) (rest_back d) (by_key (bool_cases (keys key)))
     where
@@ -124,7 +115,7 @@ module _ (keys : Keys) (place limit : ℕ) (calls more : List KeyedCall) (past n
   other_name : (inv : ℕ) → inv ≢ a.inv → (inv == a.inv) ≡ false
   other_name inv other = false_from_ne_true (inv == a.inv) (λ is. other (eqb-true inv a.inv is))
 
-  -- of another call both leave the same
+  -- both choices leave the same of another call
   pub rest_other : (e : KeyedCall) → e.inv ≢ a.inv → rest_of w e ≡ rest_of v e
   rest_other e other = sym (masked_same (taken_by keys a) (rest_of w e) (λ key. none key)) ∙ rest_back e
     where

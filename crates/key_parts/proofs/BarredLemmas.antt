@@ -1,20 +1,10 @@
 -- A part takes a step at some of its keys, though calls that are left there have other keys of the part: they are barred there.
-use Rattle.std.proofs.Common.{◌≡◌, ℕ, ◌+◌, ◌<◌, true, false, not, ◌&&◌, List, ◌∷◌, ◌++◌, Some, sym, ap, ◌∙◌, subst, ⊎_elim, arith}
-use Rattle.std.specs.Prelude.{◌⊎◌, Contains}
-use Rattle.std.proofs.lemmas.Bool.{and_parts, and_from, not-true, not_from_false}
-use Rattle.std.proofs.lemmas.List.Elements.{All-head, All-contains, Contains-append_left, Contains-append_right, Contains-append_cases}
-use Rattle.list_laws.proofs.Lists.{Contains-first, Contains-later, Contains-cases}
-use Rattle.key_effects.specs.KeyedCalls.{KeyedCall, IsFormed, ends_before, precedes}
-use Rattle.key_effects.specs.Growth.{IsLater, HaveGrown}
-use Rattle.key_effects.specs.Choices.{Choice, rest_of, GoesOn}
-use Rattle.key_effects.specs.Cuts.{Keys, IsWithin}
-use Rattle.key_effects.proofs.CutLemmas.{outside_none}
-use Rattle.key_effects.proofs.DeadLemmas.{bool_cases}
-use Rattle.key_effects.proofs.OrderLemmas.{ends_at, ends_sooner}
-use Rattle.key_effects.proofs.RestLemmas.{later_stands}
-use Rattle.key_parts.specs.Parts.{Part, IsAt, IsOneOf, ShareKeys, choices_of, left_at}
-use Rattle.key_parts.specs.Steps.{IsLeftAt, NoneIsLeftAt, MayComeNext, IsAfterCall, AreKnownAt, AreOwnOrBarred}
-use Rattle.key_parts.specs.Laws.{UnbarredCallsComeNext}
+use Rattle.key_parts.proofs.Common.{◌≡◌, ℕ, ◌+◌, ◌<◌, true, false, not, ◌&&◌, List, ◌∷◌, ◌++◌, Some, sym, ap, ◌∙◌, subst, ⊎_elim, arith, ◌⊎◌}
+use Rattle.key_parts.proofs.Common.{Contains, and_parts, and_from, not-true, not_from_false, All-head, All-contains, Contains-append_left}
+use Rattle.key_parts.proofs.Common.{Contains-append_right, Contains-append_cases, Contains-first, Contains-later, Contains-cases, KeyedCall, IsFormed}
+use Rattle.key_parts.proofs.Common.{ends_before, precedes, IsLater, HaveGrown, Choice, rest_of, GoesOn, Keys, IsWithin, outside_none, bool_cases}
+use Rattle.key_parts.proofs.Common.{ends_at, ends_sooner, later_stands, Part, IsAt, IsOneOf, ShareKeys, choices_of, left_at, IsLeftAt, NoneIsLeftAt}
+use Rattle.key_parts.proofs.Common.{MayComeNext, IsAfterCall, AreKnownAt, AreOwnOrBarred, UnbarredCallsComeNext}
 use Rattle.key_parts.proofs.CallLemmas.{first_fits, first_goes_on, begun_first, goes_before}
 use Rattle.key_parts.proofs.FewerLemmas.{AreAmong, but_for, after_fewer, steps_forth, at_few}
 use Rattle.key_parts.proofs.FirstLemmas.{AtEnded, first_left, left_later, may_come}
@@ -60,7 +50,7 @@ module _ (keys some : Keys) (place answered : ℕ) (calls : List KeyedCall) (pas
       let fits : ((rest_of past a).effect key).fits (past.holds key) ≡ true = may.fits key is in cc)
       (at.own a a_in begun may.accepted may.is_left)
 
-  -- so it may come next at all keys
+  -- the call may come next at all keys
   module _ (w : Choice) (a d : KeyedCall) (same : IsAt keys past w) (a_in : Contains calls a) (formed : IsFormed d) (later : IsLater place a d)
       (d_accepted : d.refused ≡ false) (begun : a.inv < answered + 1) (may : MayComeNext some past calls a) where
     fits_all : (key : ℕ) → keys key ≡ true → ((rest_of past a).effect key).fits (past.holds key) ≡ true

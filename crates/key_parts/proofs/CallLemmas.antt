@@ -1,20 +1,12 @@
 -- A part takes a step: one more call is taken at its keys.
-use Rattle.std.proofs.Common.{◌≡◌, ℕ, ◌<◌, true, false, not, ◌&&◌, ◌==◌, List, [], ◌∷◌, ◌++◌, map, Option, inl, refl, sym, ap, ◌∙◌, subst, ⊎_elim}
-use Rattle.std.specs.Prelude.{◌≢◌, Contains}
-use Rattle.std.proofs.lemmas.Bool.{and_parts, false_from_ne_true, eqb-true}
-use Rattle.std.proofs.lemmas.List.Elements.{All-head, All-contains, Contains-append_left, Contains-append_right, Contains-append_cases}
-use Rattle.list_laws.proofs.Lists.{AllPairs-head, AllPairs-back, Contains-first, Contains-later, Contains-cases}
-use Rattle.key_effects.specs.KeyedCalls.{KeyedCall, IsNoEffect, ends_before, precedes}
-use Rattle.key_effects.specs.KeyedOrders.{FitInTurn, AreDistinct}
-use Rattle.key_effects.specs.Growth.{IsLater, HaveGrown}
-use Rattle.key_effects.specs.Choices.{Choice, rest_of, GoesOn, SomeGoesOn}
-use Rattle.key_effects.specs.Cuts.{Keys}
-use Rattle.key_effects.proofs.AfterLemmas.{none_left}
-use Rattle.key_effects.proofs.TurnLemmas.{fit-back}
-use Rattle.key_parts.specs.Parts.{Part, IsAt, IsOneOf, ShareKeys, choices_of}
-use Rattle.key_parts.specs.Steps.{IsLeftAt, MayComeNext, IsAfterCall, ArePartedBefore}
-use Rattle.key_parts.specs.Laws.{CallsComeNext, ReadsComeNext}
-use Rattle.key_parts.proofs.FewerLemmas.{AreAmong, AtSome, after_fewer, is_alone, steps_forth, steps_back, taken_then, takes_less, at_few, goes_on_before}
+use Rattle.key_parts.proofs.Common.{◌≡◌, ℕ, ◌<◌, true, false, not, ◌&&◌, ◌==◌, List, [], ◌∷◌, ◌++◌, map, Option, inl, refl, sym, ap, ◌∙◌, subst}
+use Rattle.key_parts.proofs.Common.{⊎_elim, ◌≢◌, Contains, and_parts, false_from_ne_true, eqb-true, All-head, All-contains, Contains-append_left}
+use Rattle.key_parts.proofs.Common.{Contains-append_right, Contains-append_cases, AllPairs-head, AllPairs-back, Contains-first, Contains-later}
+use Rattle.key_parts.proofs.Common.{Contains-cases, KeyedCall, IsNoEffect, ends_before, precedes, FitInTurn, AreDistinct, IsLater, HaveGrown, Choice}
+use Rattle.key_parts.proofs.Common.{rest_of, GoesOn, SomeGoesOn, Keys, none_left, fit-back, Part, IsAt, IsOneOf, ShareKeys, choices_of, IsLeftAt}
+use Rattle.key_parts.proofs.Common.{MayComeNext, IsAfterCall, ArePartedBefore, CallsComeNext, ReadsComeNext}
+use Rattle.key_parts.proofs.FewerLemmas.{AreAmong, AtSome, after_fewer, is_alone, steps_forth, steps_back, taken_then, takes_less, at_few}
+use Rattle.key_parts.proofs.FewerLemmas.{goes_on_before}
 use Rattle.key_parts.proofs.FirstLemmas.{begun_before, completed_stays, AtEnded, IsNotLeft, not_left_none, first_left, may_come}
 use Rattle.key_parts.proofs.MaskLemmas.{masked_by, first_masked}
 use Rattle.key_parts.proofs.NextLemmas.{taken_by, IsTaken, rest_leaves, taken_none, goes_on_next}
@@ -88,7 +80,7 @@ goes_before keys some place limit calls more past next rest a d at pasts nexts v
   goes_on_before keys some place limit calls more past next rest a d at pasts v shared v_is same goes_on,
 )
 
--- so by some call that may come next
+-- a choice that goes on does so by some call that may come next
 some_comes : (keys some : Keys) (place limit : ℕ) (calls more : List KeyedCall) (past w : Choice) (nexts : List Choice) (rest : List Part)
     (ended : KeyedCall) → AreAmong some keys → ArePartedBefore some limit (record { keys = keys; pasts = past ∷ [] } ∷ rest) calls
     → ((a : KeyedCall) → Contains calls a → MayComeNext some past calls a → (next : Choice) × Contains nexts next × IsAfterCall keys past a next)

@@ -1,34 +1,17 @@
 -- Operations that may come next: what they do to a map is what their calls do at the keys.
-use Rattle.std.proofs.Common.{◌≡◌, ℕ, ◌<◌, ◌==◌, Bool, true, false, nat_lt, not, ◌||◌, ◌&&◌, cond, List, Option, Some, None, inl, inr, refl, sym, ap, ◌∙◌, subst, ⊎_elim, arith}
-use Rattle.std.specs.Prelude.{◌⊎◌, All, Contains}
-use Rattle.std.proofs.lemmas.Bool.{ltb-true, ltb-false, eqb-true, eq-eqb, ne_eqb, not-true, and_parts, or_cases, cases_eq}
-use Rattle.std.proofs.lemmas.List.Elements.{All-contains}
-use Rattle.std.proofs.lemmas.List.Kept.{AllPairs-filter}
-use Rattle.list_laws.proofs.Lists.{All-from_contains, Contains-filter, Contains-from_filter}
-use Rattle.events.specs.declared.operation.Operation.{Operation}
-use Rattle.events.specs.Precedence as events
-use Rattle.map_object.specs.MapObject.{Contents, value_at}
-use Rattle.orders.specs.Orders.{IsLegalCall, after_call}
+use Rattle.key_parts.proofs.Common.{◌≡◌, ℕ, ◌<◌, ◌==◌, Bool, true, false, nat_lt, not, ◌||◌, ◌&&◌, cond, List, Option, Some, None, inl, inr, refl}
+use Rattle.key_parts.proofs.Common.{sym, ap, ◌∙◌, subst, ⊎_elim, arith, ◌⊎◌, All, Contains, ltb-true, ltb-false, eqb-true, eq-eqb, ne_eqb, not-true}
+use Rattle.key_parts.proofs.Common.{and_parts, or_cases, cases_eq, All-contains, AllPairs-filter, All-from_contains, Contains-filter}
+use Rattle.key_parts.proofs.Common.{Contains-from_filter, Operation, Contents, value_at, IsLegalCall, after_call, KeyedCall, Effect, IsFormed}
+use Rattle.key_parts.proofs.Common.{IsNoEffect, no_effect, ends_before, precedes, concerns_key, keyed, AreKeyedCalls, HasForm, Choice, rest_of, Keys}
+use Rattle.key_parts.proofs.Common.{IsWithin, IsAlikeAt, same_precedes, bool_cases, step_of, same_call, none_none, none_or, OperationsMayCome}
+use Rattle.key_parts.proofs.Common.{OperationsComeNext, AreLeftCalls, AreOfLeftCalls, AreAllLeft, HasSomeKeyIn, OperationMayCome, without_call}
+use Rattle.key_parts.proofs.Common.{HasKeysIn, HaveTheirKeys, AgreesAt, left_at, IsLeftAt, NoneIsLeftAt, MayComeNext, IsAfterCall}
 use Rattle.quiet_cuts.proofs.ValueLemmas.{rising_kept}
-use Rattle.key_effects.specs.KeyedCalls.{KeyedCall, Effect, IsFormed, IsNoEffect, no_effect, ends_before, precedes, concerns_key, keyed}
-use Rattle.key_effects.specs.KeyedOrders.{AreKeyedCalls}
-use Rattle.key_effects.specs.Forms.{HasForm}
-use Rattle.key_effects.specs.Choices.{Choice, rest_of}
-use Rattle.key_effects.specs.Cuts.{Keys, IsWithin}
-use Rattle.key_effects.specs.Apart.{IsAlikeAt}
-use Rattle.key_effects.proofs.BridgeLemmas.{same_precedes}
-use Rattle.key_effects.proofs.DeadLemmas.{bool_cases}
-use Rattle.key_effects.proofs.EffectLemmas.{step_of}
-use Rattle.key_effects.proofs.OrderLemmas.{same_call}
-use Rattle.key_effects.proofs.RestLemmas.{none_none, none_or}
-use Rattle.key_parts.specs.Laws.{OperationsMayCome, OperationsComeNext}
-use Rattle.key_parts.specs.Operations.{AreLeftCalls, AreOfLeftCalls, AreAllLeft, HasSomeKeyIn, OperationMayCome, without_call}
-use Rattle.key_parts.specs.Left.{HasKeysIn, HaveTheirKeys}
-use Rattle.key_parts.specs.Parts.{AgreesAt, left_at}
-use Rattle.key_parts.specs.Steps.{IsLeftAt, NoneIsLeftAt, MayComeNext, IsAfterCall}
 use Rattle.key_parts.proofs.DecideLemmas.{formed_rest}
 use Rattle.key_parts.proofs.PartLemmas.{none_left_out}
 use Rattle.key_parts.proofs.UniteLemmas.{outside}
+use Rattle.events.specs.Precedence as events
 
 -- a call that precedes another began before it
 began_before : (a b : KeyedCall) → precedes b b ≡ false → precedes b a ≡ true → b.inv < a.inv
@@ -85,7 +68,7 @@ module _ (keys some : Keys) (past : Choice) (calls : List KeyedCall) (left : Lis
   own_key : (key : ℕ) → (rest_of past a).concerns key ≡ true → concerns_key o.call key ≡ true
   own_key key there = own o a o_in a_in (sym alike.inv) key (and_parts (not (past.taken a.inv key)) (a.concerns key) there).1
 
-  -- so the call is left at some of the keys alone where the operation has no others
+  -- the call is left only at some of the keys, if the operation has no others
   left_within : HasKeysIn some o → IsWithin some (left_at keys past a)
   left_within inside key out = ⊎_elim
       (λ there.
@@ -177,7 +160,7 @@ as_before true same concerned other = refl
 as_before false true concerned other = cc
 as_before false false concerned other = refl
 
--- and where it is the same one, at each key that it concerns
+-- whether a call is taken after itself: at each key that it concerns
 taken_now : (taken same concerned : Bool) → same ≡ true → concerned ≡ true → (taken || (same && concerned)) ≡ true
 taken_now true same concerned here there = refl
 taken_now false true concerned here there = there
@@ -190,7 +173,7 @@ taken_none false e is = cc
 
 module _ (keys : Keys) (past : Choice) (calls : List KeyedCall) (a : KeyedCall) (next : Choice) (apart : AreKeyedCalls calls)
     (a_in : Contains calls a) (after : IsAfterCall keys past a next) where
-  -- of another call as much is left as before
+  -- as much of another call is left as before
   other_taken : (b : KeyedCall) → (b.inv ≡ a.inv → ⊥) → (key : ℕ) → keys key ≡ true → next.taken b.inv key ≡ past.taken b.inv key
   other_taken b other key is =
       after.taken b.inv key is ∙ as_before (past.taken b.inv key) (b.inv == a.inv) (a.concerns key) (ne_eqb b.inv a.inv other)
@@ -220,7 +203,7 @@ module _ (keys : Keys) (past : Choice) (calls : List KeyedCall) (a : KeyedCall) 
     leaves_none = alike.leaves_none;
   }
 
-  -- and of the call itself nothing
+  -- nothing is left of the call itself
   itself_taken : (key : ℕ) → keys key ≡ true → a.concerns key ≡ true → next.taken a.inv key ≡ true
   itself_taken key is concerned =
       after.taken a.inv key is ∙ taken_now (past.taken a.inv key) (a.inv == a.inv) (a.concerns key) (eq-eqb a.inv a.inv refl) concerned

@@ -1,22 +1,14 @@
 -- The parts decide: each has a past that goes on at its keys exactly where the calls have an order.
-use Rattle.std.proofs.Common.{◌≡◌, ℕ, ◌<◌, Bool, true, false, not, ◌&&◌, cond, List, [], ◌∷◌, map, Option, inl, inr, refl, sym, ap, ◌∙◌, subst, ⊎_elim}
-use Rattle.std.specs.Prelude.{◌⊎◌, ◌↔◌, All, AllPairs, Contains, filter}
-use Rattle.std.proofs.lemmas.List.Elements.{All-nil, All-cons, All-head, All-tail, All-contains, All-map}
-use Rattle.std.proofs.lemmas.List.Kept.{AllPairs-filter}
-use Rattle.list_laws.proofs.FilterLemmas.{AllPairs-map, Contains-map, Contains-from_map}
-use Rattle.list_laws.proofs.Lists.{AllPairs-head, AllPairs-tail, All-from_contains, Contains-nil, Contains-cases, Contains-from_filter}
-use Rattle.key_effects.specs.KeyedCalls.{KeyedCall, Effect, IsNoEffect, IsFormed, no_effect}
-use Rattle.key_effects.specs.KeyedOrders.{AreKeyedCalls, HasKeyedOrder}
-use Rattle.key_effects.specs.Growth.{HaveGrown}
-use Rattle.key_effects.specs.Choices.{Choice, at_first, rest_of, Agrees}
-use Rattle.key_effects.specs.Cuts.{Keys, IsWithin}
-use Rattle.key_effects.specs.Apart.{only, AreApart, AreParts, Parts}
-use Rattle.key_effects.proofs.DeadLemmas.{bool_cases}
+use Rattle.key_parts.proofs.Common.{◌≡◌, ℕ, ◌<◌, Bool, true, false, not, ◌&&◌, cond, List, [], ◌∷◌, map, Option, inl, inr, refl, sym, ap, ◌∙◌, subst}
+use Rattle.key_parts.proofs.Common.{⊎_elim, ◌⊎◌, ◌↔◌, All, AllPairs, Contains, filter, All-nil, All-cons, All-head, All-tail, All-contains, All-map}
+use Rattle.key_parts.proofs.Common.{AllPairs-filter, AllPairs-map, Contains-map, Contains-from_map, AllPairs-head, AllPairs-tail, All-from_contains}
+use Rattle.key_parts.proofs.Common.{Contains-nil, Contains-cases, Contains-from_filter, KeyedCall, Effect, IsNoEffect, IsFormed, no_effect}
+use Rattle.key_parts.proofs.Common.{AreKeyedCalls, HasKeyedOrder, HaveGrown, Choice, at_first, rest_of, Agrees, Keys, IsWithin, only, AreApart}
+use Rattle.key_parts.proofs.Common.{AreParts, Parts, bool_cases, none_none, none_or, refused_none, PartsDecide, Part, IsAt, IsOneOf, choices_of}
+use Rattle.key_parts.proofs.Common.{ShareKeys, left_at, AgreesAt, GoesOnAt, SomePastGoesOn, IsOfOnePart, AreOfOnePart}
 use Rattle.key_effects.proofs.PartLemmas.{none_at, parts_judge}
-use Rattle.key_effects.proofs.RestLemmas.{none_none, none_or, refused_none}
-use Rattle.key_parts.specs.Laws.{PartsDecide}
-use Rattle.key_parts.specs.Parts.{Part, IsAt, IsOneOf, choices_of, ShareKeys, left_at, AgreesAt, GoesOnAt, SomePastGoesOn, IsOfOnePart, AreOfOnePart}
-use Rattle.key_parts.proofs.PartLemmas.{all_keys, at_back, at_next, goes_on_there, instead, instead_here, instead_there, same_goes_on_there, stand_below}
+use Rattle.key_parts.proofs.PartLemmas.{all_keys, at_back, at_next, goes_on_there, instead, instead_here, instead_there, same_goes_on_there}
+use Rattle.key_parts.proofs.PartLemmas.{stand_below}
 use Rattle.key_parts.proofs.SomeLemmas.{keyed_left, keyed_some, some_decide}
 
 -- ---- one choice of a past for each part
@@ -94,7 +86,7 @@ accepted_decide held keys w calls apart rising formed =
 
 -- ---- the parts are parts of the calls
 
--- of two of a list, they are one, or stand in the relation, this way or the other
+-- two members of a list are one, or are in the relation, this way or the other
 pair_cases : (parts : List Part) (one other : Part) → AllPairs (λ a b. AreApart a.keys b.keys) parts → Contains parts one → Contains parts other
     → (one ≡ other) ⊎ (AreApart one.keys other.keys ⊎ AreApart other.keys one.keys)
 pair_cases [] one other apart one_in other_in = absurd (Contains-nil one one_in)

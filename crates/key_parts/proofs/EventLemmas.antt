@@ -1,36 +1,18 @@
--- What is left at some keys as a call begins, or is answered. `left_from_each`: it is known by each call and each operation alone. `known_of`,
--- `known_on`: what is known of a call stays known. `left_as_before`: nothing changes where the calls that change are idle at the keys.
--- `left_instead`: one call stands in the place of another.
-use Rattle.std.proofs.Common.{◌≡◌, ℕ, ◌<◌, ◌≤◌, Bool, true, false, not, ◌&&◌, List, [], ◌∷◌, ◌++◌, Option, Some, None, inl, inr, refl, sym, ap}
-use Rattle.std.proofs.Common.{◌∙◌, subst, ⊎_elim, arith}
-use Rattle.std.specs.Prelude.{◌≢◌, ◌⊎◌, All, AllPairs, Contains}
-use Rattle.std.proofs.lemmas.List.Elements.{All-nil, All-cons, All-head, All-tail, All-append, All-contains}
-use Rattle.std.proofs.lemmas.List.Elements.{Contains-append_left, Contains-append_right, Contains-append_cases}
-use Rattle.std.proofs.lemmas.List.Kept.{AllPairs-cons}
-use Rattle.list_laws.proofs.FilterLemmas.{AllPairs-weaker}
-use Rattle.list_laws.proofs.Lists.{AllPairs-nil, AllPairs-head, AllPairs-tail, AllPairs-append, AllPairs-front, AllPairs-back, AllPairs-across}
-use Rattle.list_laws.proofs.Lists.{All-front, All-back, All-from_contains}
-use Rattle.list_laws.proofs.Lists.{Contains-nil, Contains-first, Contains-later, Contains-cases, Contains-around}
-use Rattle.events.specs.declared.event.Call.{Call}
-use Rattle.events.specs.declared.event.Call.TheVariants.{Get, Insert, Remove, Scan, Replace}
-use Rattle.events.specs.declared.operation.Operation.{Operation}
+-- What is left at some keys as a call begins, or is answered. `left_from_each`: it is known by each
+-- call and each operation alone. `known_of`, `known_on`: what is known of a call stays known.
+-- `left_as_before`: nothing changes where the calls that change are idle at the keys.
+-- `left_instead`: one call replaces another.
+use Rattle.key_parts.proofs.Common.{◌≡◌, ℕ, ◌<◌, ◌≤◌, Bool, true, false, not, ◌&&◌, List, [], ◌∷◌, ◌++◌, Option, Some, None, inl, inr, refl, sym, ap}
+use Rattle.key_parts.proofs.Common.{◌∙◌, subst, ⊎_elim, arith, ◌≢◌, ◌⊎◌, All, AllPairs, Contains, All-nil, All-cons, All-head, All-tail, All-append}
+use Rattle.key_parts.proofs.Common.{All-contains, Contains-append_left, Contains-append_right, Contains-append_cases, AllPairs-cons, AllPairs-weaker}
+use Rattle.key_parts.proofs.Common.{AllPairs-nil, AllPairs-head, AllPairs-tail, AllPairs-append, AllPairs-front, AllPairs-back, AllPairs-across}
+use Rattle.key_parts.proofs.Common.{All-front, All-back, All-from_contains, Contains-nil, Contains-first, Contains-later, Contains-cases}
+use Rattle.key_parts.proofs.Common.{Contains-around, Call, Get, Insert, Remove, Scan, Replace, Operation, Contents, KeyedCall, IsNoEffect, IsFormed}
+use Rattle.key_parts.proofs.Common.{is_refused, is_refusal, concerns_key, effect_at, keyed, AreKeyedCalls, HasForm, HaveForms, Choice, rest_of, Keys}
+use Rattle.key_parts.proofs.Common.{IsRead, IsAlikeAt, outside_none, bool_cases, formed, open_fits, none_or, AgreesAt, left_at, IsLeftAt}
+use Rattle.key_parts.proofs.Common.{NoneIsLeftAt, AreOfLeftCalls, IsLeft, HasKeysIn, HasNoKeyIn, IsNotTakenAt, IsTakenAt, answered, BegunCallsAreLeft}
+use Rattle.key_parts.proofs.Common.{OtherCallsBegin, AnsweredCallsAreLeft, TakenCallsAreAnswered, OtherCallsAreAnswered}
 use Rattle.events.specs.declared.operation.Response.{Response}
-use Rattle.map_object.specs.MapObject.{Contents}
-use Rattle.key_effects.specs.KeyedCalls.{KeyedCall, IsNoEffect, IsFormed, is_refused, is_refusal, concerns_key, effect_at, keyed}
-use Rattle.key_effects.specs.KeyedOrders.{AreKeyedCalls}
-use Rattle.key_effects.specs.Forms.{HasForm, HaveForms}
-use Rattle.key_effects.specs.Choices.{Choice, rest_of}
-use Rattle.key_effects.specs.Cuts.{Keys}
-use Rattle.key_effects.specs.Apart.{IsRead, IsAlikeAt}
-use Rattle.key_effects.proofs.CutLemmas.{outside_none}
-use Rattle.key_effects.proofs.DeadLemmas.{bool_cases}
-use Rattle.key_effects.proofs.GrowLemmas.{formed, open_fits}
-use Rattle.key_effects.proofs.RestLemmas.{none_or}
-use Rattle.key_parts.specs.Parts.{AgreesAt, left_at}
-use Rattle.key_parts.specs.Steps.{IsLeftAt, NoneIsLeftAt}
-use Rattle.key_parts.specs.Operations.{AreOfLeftCalls}
-use Rattle.key_parts.specs.Left.{IsLeft, HasKeysIn, HasNoKeyIn, IsNotTakenAt, IsTakenAt, answered}
-use Rattle.key_parts.specs.CallLaws.{BegunCallsAreLeft, OtherCallsBegin, AnsweredCallsAreLeft, TakenCallsAreAnswered, OtherCallsAreAnswered}
 use Rattle.key_parts.proofs.PartLemmas.{none_left_out}
 
 pub not_both : (b : Bool) → b ≡ true → b ≡ false → ⊥
@@ -38,7 +20,7 @@ not_both b is never = cc
 
 -- ---- lists
 
--- what is beside one is in the whole
+-- what is before or after one element is in the whole
 pub beside : {X : Type 0} (front : List X) (x : X) (back : List X) (z : X) → Contains (front ++ back) z → Contains (front ++ x ∷ back) z
 beside front x back z h =
     ⊎_elim (λ first. Contains-append_left front (x ∷ back) z first)
@@ -72,7 +54,7 @@ differ name front x back distinct z z_in same =
 abbrev pub IsShown : Keys → Choice → List Operation → KeyedCall → Type 0
 IsShown keys past left a = (o : Operation) × Contains left o × IsAlikeAt keys (left_at keys past a) (keyed o)
 
--- and the other way round
+-- a call is there of which something is left that is alike to an operation
 abbrev pub IsOwned : Keys → Choice → List KeyedCall → Operation → Type 0
 IsOwned keys past calls o =
     (a : KeyedCall) × Contains calls a × (a.refused ≡ false) × IsLeftAt keys past a × IsAlikeAt keys (left_at keys past a) (keyed o)
@@ -127,7 +109,7 @@ left_from_each keys past limit calls more pairs left nexts rising forms known ow
 abbrev pub IsOf : Keys → Choice → KeyedCall → Operation → Type 0
 IsOf keys past b o = (b.refused ≡ false) × IsLeftAt keys past b × IsAlikeAt keys (left_at keys past b) (keyed o)
 
--- one call stands in the place of another: its operations are new, and all others are old
+-- one call replaces another: its operations are new, and all others are old
 pub left_instead : (keys : Keys) (past : Choice) (limit : ℕ) (front back : List KeyedCall) (pairs : Contents) (a b : KeyedCall)
     (left nexts : List Operation) → AllPairs (λ o p. o.inv < p.inv) nexts → HaveForms nexts → IsKnown keys past limit nexts b
     → ((c : KeyedCall) (o : Operation) → Contains (front ++ back) c → Contains left o → IsAlikeAt keys (left_at keys past c) (keyed o)
@@ -162,7 +144,7 @@ pub record IsIdle (keys : Keys) (past : Choice) (limit : ℕ) (a : KeyedCall) : 
 not_left : (keys : Keys) (past : Choice) (a : KeyedCall) → NoneIsLeftAt keys past a → IsLeftAt keys past a → ⊥
 not_left keys past a none (key, is, some) = not_both ((rest_of past a).concerns key) some (none key is)
 
--- where such calls come, and calls go of which nothing is left, the same is left
+-- what is left stays the same if idle calls come, and calls of which nothing is left go
 pub left_as_before : (keys : Keys) (past : Choice) (limit : ℕ) (calls more : List KeyedCall) (pairs : Contents) (left : List Operation)
     → ((a : KeyedCall) → Contains more a → Contains calls a ⊎ IsIdle keys past limit a)
     → ((a : KeyedCall) → Contains calls a → Contains more a ⊎ NoneIsLeftAt keys past a)
@@ -180,7 +162,7 @@ left_as_before keys past limit calls more pairs left from to is =
     ⊎_elim (λ here. (a, here, accepted, some, alike)) (λ none. absurd (not_left keys past a none some)) (to a a_in))
     is
 
--- where nothing is left of a call, it has no effect
+-- if nothing is left of a call, it has no effect
 none_left : (keys : Keys) (past : Choice) (a : KeyedCall) → IsFormed a → NoneIsLeftAt keys past a → (key : ℕ)
     → IsNoEffect ((left_at keys past a).effect key)
 none_left keys past a formed none key = by_key (bool_cases (keys key))
@@ -214,7 +196,7 @@ taken_none keys past o taken key is = by_concern (bool_cases (concerns_key o.cal
 
 -- ---- a call that is answered, and idle
 
--- one call is another now, and both are idle at the keys
+-- one call has been replaced by another, and both are idle at the keys
 change_idle : (keys : Keys) (past : Choice) (limit : ℕ) (front back : List KeyedCall) (pairs : Contents) (left : List Operation) (a b : KeyedCall)
     → NoneIsLeftAt keys past a → IsIdle keys past limit b → IsLeft keys past limit (front ++ a ∷ back) pairs left
     → IsLeft keys past limit (front ++ b ∷ back) pairs left

@@ -1,27 +1,18 @@
 -- Steps at some of a part's keys: at its others nothing is left of the call, and they stay what they are.
-use Rattle.std.proofs.Common.{◌≡◌, ℕ, ◌<◌, Bool, true, false, not, ◌||◌, ◌&&◌, ◌==◌, cond, List, [], ◌∷◌, inl, inr, refl, sym, ◌∙◌, subst, ⊎_elim}
-use Rattle.std.specs.Prelude.{◌⊎◌, Contains}
-use Rattle.std.proofs.lemmas.Bool.{and_parts, and_from, or_left, or_right, not-true, eqb-true, eq-eqb}
-use Rattle.std.proofs.lemmas.List.Elements.{All-contains}
-use Rattle.list_laws.proofs.Lists.{Contains-first}
-use Rattle.key_effects.specs.KeyedCalls.{KeyedCall, IsFormed, IsNoEffect}
-use Rattle.key_effects.specs.Growth.{IsLater, HaveGrown}
-use Rattle.key_effects.specs.Choices.{Choice, rest_of, GoesOn, Agrees}
-use Rattle.key_effects.specs.Cuts.{Keys, IsWithin, IsOutside}
-use Rattle.key_effects.specs.Apart.{other_keys}
-use Rattle.key_effects.proofs.CutLemmas.{outside_none}
-use Rattle.key_effects.proofs.DeadLemmas.{bool_cases}
-use Rattle.key_effects.proofs.RestLemmas.{later_stands}
-use Rattle.key_parts.specs.Parts.{Part, IsAt, ShareKeys, AreSomeOf, choices_of}
-use Rattle.key_parts.specs.Steps.{NoneIsLeftAt, MayComeNext, IsAfterCall, ArePartedBefore}
+use Rattle.key_parts.proofs.Common.{◌≡◌, ℕ, ◌<◌, Bool, true, false, not, ◌||◌, ◌&&◌, ◌==◌, cond, List, [], ◌∷◌, inl, inr, refl, sym, ◌∙◌, subst}
+use Rattle.key_parts.proofs.Common.{⊎_elim, ◌⊎◌, Contains, and_parts, and_from, or_left, or_right, not-true, eqb-true, eq-eqb, All-contains}
+use Rattle.key_parts.proofs.Common.{Contains-first, KeyedCall, IsFormed, IsNoEffect, IsLater, HaveGrown, Choice, rest_of, GoesOn, Agrees, Keys}
+use Rattle.key_parts.proofs.Common.{IsWithin, IsOutside, other_keys, outside_none, bool_cases, later_stands, Part, IsAt, ShareKeys, AreSomeOf}
+use Rattle.key_parts.proofs.Common.{choices_of, NoneIsLeftAt, MayComeNext, IsAfterCall, ArePartedBefore}
 use Rattle.key_parts.proofs.FirstLemmas.{left_later}
 use Rattle.key_parts.proofs.InsertLemmas.{goes_back}
-use Rattle.key_parts.proofs.PartLemmas.{at_back, at_next, at_fewer, at_both, instead, instead_here, instead_there, with_past, with_instead, TakesNoMore}
+use Rattle.key_parts.proofs.PartLemmas.{at_back, at_next, at_fewer, at_both, instead, instead_here, instead_there, with_past, with_instead}
+use Rattle.key_parts.proofs.PartLemmas.{TakesNoMore}
 
 abbrev pub AreAmong : Keys → Keys → Type 0
 AreAmong some keys = (key : ℕ) → some key ≡ true → keys key ≡ true
 
--- the keys but for some
+-- the keys without some
 abbrev pub but_for : Keys → Keys → Keys
 but_for some keys key = keys key && not (some key)
 
@@ -50,7 +41,7 @@ after_fewer keys some past a next inside after = record {
   found = λ key is untaken there. after.found key (inside key is) untaken there;
 }
 
--- where nothing of a call is left, what a past comes to by it is the past
+-- if nothing of a call is left, what a past comes to by it is the past
 pub after_none : (keys : Keys) (place : ℕ) (past : Choice) (a d : KeyedCall) (next : Choice) → IsFormed d → IsLater place a d → d.refused ≡ false
     → NoneIsLeftAt keys past a → IsAfterCall keys past a next → IsAt keys past next
 after_none keys place past a d next formed later accepted none after = record {
@@ -118,7 +109,7 @@ pub record AtSome (keys some : Keys) (place limit : ℕ) (calls more : List Keye
 
 module _ (keys some : Keys) (place limit : ℕ) (calls more : List KeyedCall) (past next : Choice) (rest : List Part) (a d : KeyedCall)
     (at : AtSome keys some place limit calls more past next rest a d) where
-  -- it is left at these keys alone
+  -- the call is left only at these keys
   pub within_some : (w : Choice) → choices_of (record { keys = keys; pasts = past ∷ [] } ∷ rest) w → IsAt keys past w
       → IsWithin some (rest_of w a)
   within_some w w_is same =
@@ -131,7 +122,7 @@ module _ (keys some : Keys) (place limit : ℕ) (calls more : List KeyedCall) (p
           subst (λ (t : Bool). (not t && a.concerns key) ≡ false) (same.taken a.inv key (at.inside key is)) (outside key is) in
           let here : (not (past.taken a.inv key) && a.concerns key) ≡ true = left in cc
 
-  -- so nothing of it is left at the others
+  -- nothing of the call is left at the others
   pub is_alone : (w : Choice) → choices_of (record { keys = keys; pasts = past ∷ [] } ∷ rest) w → IsAt keys past w → d.refused ≡ false
       → IsAlone keys some place past next a d
   is_alone w w_is same accepted = record {
@@ -193,7 +184,7 @@ module _ (keys some : Keys) (place limit : ℕ) (calls more : List KeyedCall) (p
 
 -- ---- some of the calls, with all that a choice took which took the step
 
--- it took the call where that is left
+-- a choice after a call has taken the call at the keys at which it was left
 pub taken_after : (keys : Keys) (past : Choice) (a : KeyedCall) (next v : Choice) → IsAfterCall keys past a next → IsAt keys next v → (key : ℕ)
     → keys key ≡ true → (rest_of past a).concerns key ≡ true → v.taken a.inv key ≡ true
 taken_after keys past a next v after same key is left =
@@ -202,7 +193,7 @@ taken_after keys past a next v after same key is left =
     ∙ or_right (past.taken a.inv key) ((a.inv == a.inv) && a.concerns key)
     (and_from (a.inv == a.inv) (a.concerns key) (eq-eqb a.inv a.inv refl) there)
 
--- and one that has the past instead took nothing more
+-- a choice after a call took all that it would have taken with the past before the call
 pub takes_less : (keys some : Keys) (past : Choice) (a : KeyedCall) (next v : Choice) → AreAmong some keys → IsAfterCall keys past a next
     → IsAt keys next v → TakesNoMore v (instead some past v)
 takes_less keys some past a next v inside after same inv key = by_key (bool_cases (some key))

@@ -1,21 +1,11 @@
 -- The first call of an order of which something is left at some keys.
-use Rattle.std.proofs.Common.{◌≡◌, ℕ, ◌<◌, ◌≤◌, Bool, true, false, not, ◌&&◌, cond, List, [], ◌∷◌, ◌++◌, map, Option, Some, None, inl, inr, refl, sym, ap, subst, ⊎_elim, arith}
-use Rattle.std.specs.Prelude.{◌⊎◌, Contains, is_some}
-use Rattle.std.proofs.lemmas.Bool.{ltb-true, ltb-false}
-use Rattle.std.proofs.lemmas.List.Elements.{All-contains, Contains-append_cases}
-use Rattle.list_laws.proofs.FilterLemmas.{Contains-map, Contains-from_map}
-use Rattle.list_laws.proofs.Lists.{AllPairs-head, AllPairs-tail, AllPairs-back, Contains-nil, Contains-first, Contains-later, Contains-cases}
-use Rattle.key_effects.specs.KeyedCalls.{KeyedCall, no_effect, IsNoEffect, IsFormed, ends_before, precedes, is_completed}
-use Rattle.key_effects.specs.KeyedOrders.{KeepPrecedence, IsKeyedOrder}
-use Rattle.key_effects.specs.Growth.{IsLater, HaveGrown}
-use Rattle.key_effects.specs.Choices.{Choice, rest_of}
-use Rattle.key_effects.specs.Cuts.{Keys, IsOutside}
-use Rattle.key_effects.proofs.CutLemmas.{outside_none}
-use Rattle.key_effects.proofs.DeadLemmas.{bool_cases, response_of}
-use Rattle.key_effects.proofs.OrderLemmas.{same_call, ends_at}
-use Rattle.key_effects.proofs.RestLemmas.{refused_none, later_stands}
-use Rattle.key_parts.specs.Parts.{IsAt}
-use Rattle.key_parts.specs.Steps.{IsLeftAt, NoneIsLeftAt, AreKnownAt, MayComeNext}
+use Rattle.key_parts.proofs.Common.{◌≡◌, ℕ, ◌<◌, ◌≤◌, Bool, true, false, not, ◌&&◌, cond, List, [], ◌∷◌, ◌++◌, map, Option, Some, None, inl, inr}
+use Rattle.key_parts.proofs.Common.{refl, sym, ap, subst, ⊎_elim, arith, ◌⊎◌, Contains, is_some, ltb-true, ltb-false, All-contains}
+use Rattle.key_parts.proofs.Common.{Contains-append_cases, Contains-map, Contains-from_map, AllPairs-head, AllPairs-tail, AllPairs-back, Contains-nil}
+use Rattle.key_parts.proofs.Common.{Contains-first, Contains-later, Contains-cases, KeyedCall, no_effect, IsNoEffect, IsFormed, ends_before, precedes}
+use Rattle.key_parts.proofs.Common.{is_completed, KeepPrecedence, IsKeyedOrder, IsLater, HaveGrown, Choice, rest_of, Keys, IsOutside, outside_none}
+use Rattle.key_parts.proofs.Common.{bool_cases, response_of, same_call, ends_at, refused_none, later_stands, IsAt, IsLeftAt, NoneIsLeftAt, AreKnownAt}
+use Rattle.key_parts.proofs.Common.{MayComeNext}
 
 -- the first of one kind, where each up to some call is of that kind or of another
 pub find_first : (P Q : KeyedCall → Type 0) (xs : List KeyedCall) (e : KeyedCall) → Contains xs e → KeepPrecedence xs → precedes e e ≡ false
@@ -45,7 +35,7 @@ find_first P Q (x ∷ xs) e e_in keep alone never each =
     before (inl same) = subst (λ (z : KeyedCall). precedes e z ≡ false) (sym same) alone
     before (inr later) = All-contains (λ y. precedes y x ≡ false) xs e (AllPairs-head (λ y z. precedes z y ≡ false) x xs keep) later
 
--- where nothing of a call is left at some keys, a choice that is the same there leaves nothing
+-- if nothing of a call is left at some keys, a choice that is the same there leaves nothing
 pub none_outside : (keys : Keys) (past w : Choice) (d : KeyedCall) → IsAt keys past w → NoneIsLeftAt keys past d → IsOutside keys (rest_of w d)
 none_outside keys past w d same none key is =
     subst (λ (t : Bool). (not t && d.concerns key) ≡ false) (sym (same.taken d.inv key is)) (none key is)
@@ -161,7 +151,7 @@ module _ (keys : Keys) (place limit : ℕ) (calls more order : List KeyedCall) (
   module _ (front back : List KeyedCall) (a d : KeyedCall) (parts : order ≡ front ++ rest_of w d ∷ back) (a_in : Contains calls a)
       (d_in : Contains more d) (later : IsLater place a d) (accepted : d.refused ≡ false) (is_left : IsLeftAt keys past a)
       (passed : (y : KeyedCall) → Contains front y → IsNotLeft keys more past w y) where
-    -- what precedes it stands before it
+    -- what precedes it comes before it
     precedes_first : (b : KeyedCall) → Contains calls b → precedes b a ≡ true → (b.refused ≡ true) ⊎ NoneIsLeftAt keys past b
     precedes_first b b_in before =
         let in_more : Contains more b = ended_stays place calls more b a.inv at.grown b_in before in

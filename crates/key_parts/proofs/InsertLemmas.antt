@@ -1,20 +1,14 @@
 -- The order that is made: what began before the call and has no effect at the keys, the call, what else began before it, and the others.
-use Rattle.std.proofs.Common.{◌≡◌, ℕ, ◌<◌, ◌≤◌, Bool, true, false, not, ◌==◌, List, ◌∷◌, ◌++◌, map, Option, inl, inr, refl, sym, ap, ◌∙◌, subst, ⊎_elim, arith}
-use Rattle.std.specs.Prelude.{◌≢◌, ◌⊎◌, All, Contains, filter}
-use Rattle.std.proofs.lemmas.Bool.{not-true, not-false, not_from_true, not_from_false, false_from_ne_true, eqb-true, eq-eqb}
-use Rattle.std.proofs.lemmas.List.Elements.{All-contains, Contains-append_left, Contains-append_right, Contains-append_cases}
-use Rattle.std.proofs.lemmas.List.Kept.{AllPairs-filter}
-use Rattle.list_laws.proofs.FilterLemmas.{Contains-map, Contains-from_map}
-use Rattle.list_laws.proofs.Lists.{All-from_contains, AllPairs-front, AllPairs-back, AllPairs-across, Contains-first, Contains-later, Contains-cases, Contains-filter, Contains-from_filter}
-use Rattle.key_effects.specs.KeyedCalls.{KeyedCall, IsNoEffect, ends_before, precedes, is_completed}
-use Rattle.key_effects.specs.KeyedOrders.{FitInTurn, left_by, AreDistinct, KeepPrecedence, IsKeyedOrder}
-use Rattle.key_effects.specs.Choices.{Choice, rest_of, Agrees, GoesOn}
-use Rattle.key_effects.specs.Cuts.{Keys}
-use Rattle.key_effects.proofs.AfterLemmas.{none_left}
-use Rattle.key_effects.proofs.DeadLemmas.{bool_cases}
-use Rattle.key_effects.proofs.OrderLemmas.{same_call, ends_sooner, IsSplitAt, split_at, ended_early}
-use Rattle.key_effects.proofs.TurnLemmas.{fit-front, fit-back, fit-append}
-use Rattle.key_parts.proofs.BackLemmas.{AtBack, IsApartFrom, IsOpenWithin, none_elsewhere, fits_here, holds_here, none_back, rest_other, agrees_back, early_cases}
+use Rattle.key_parts.proofs.Common.{◌≡◌, ℕ, ◌<◌, ◌≤◌, Bool, true, false, not, ◌==◌, List, ◌∷◌, ◌++◌, map, Option, inl, inr, refl, sym, ap, ◌∙◌, subst}
+use Rattle.key_parts.proofs.Common.{⊎_elim, arith, ◌≢◌, ◌⊎◌, All, Contains, filter, not-true, not-false, not_from_true, not_from_false}
+use Rattle.key_parts.proofs.Common.{false_from_ne_true, eqb-true, eq-eqb, All-contains, Contains-append_left, Contains-append_right}
+use Rattle.key_parts.proofs.Common.{Contains-append_cases, AllPairs-filter, Contains-map, Contains-from_map, All-from_contains, AllPairs-front}
+use Rattle.key_parts.proofs.Common.{AllPairs-back, AllPairs-across, Contains-first, Contains-later, Contains-cases, Contains-filter}
+use Rattle.key_parts.proofs.Common.{Contains-from_filter, KeyedCall, IsNoEffect, ends_before, precedes, is_completed, FitInTurn, left_by, AreDistinct}
+use Rattle.key_parts.proofs.Common.{KeepPrecedence, IsKeyedOrder, Choice, rest_of, Agrees, GoesOn, Keys, none_left, bool_cases, same_call}
+use Rattle.key_parts.proofs.Common.{ends_sooner, IsSplitAt, split_at, ended_early, fit-front, fit-back, fit-append}
+use Rattle.key_parts.proofs.BackLemmas.{AtBack, IsApartFrom, IsOpenWithin, none_elsewhere, fits_here, holds_here, none_back, rest_other, agrees_back}
+use Rattle.key_parts.proofs.BackLemmas.{early_cases}
 use Rattle.key_parts.proofs.PartLemmas.{fit_none}
 use Rattle.key_parts.proofs.SiftLemmas.{choose, filter_turn, inserted}
 
@@ -125,7 +119,7 @@ module _ (keys : Keys) (place limit : ℕ) (calls more : List KeyedCall) (past n
       not_early x x_in same =
           let first : x.inv < a.inv = begun x x_in in let is : x.inv ≡ a.inv = same ∙ at.later.inv in omega (arith, first, is)
 
-  -- and precedence
+  -- a call that has not ended by a place precedes no call that began by it
   sooner_never : (x y : KeyedCall) (inv : ℕ) → x.inv ≤ inv → ends_before y.res inv ≡ false → precedes y x ≡ false
   sooner_never x y inv less open_there =
       false_from_ne_true (precedes y x) (λ before. let never : ends_before y.res inv ≡ true = ends_sooner y.res x.inv inv less before in cc)
@@ -157,7 +151,7 @@ module _ (keys : Keys) (place limit : ℕ) (calls more : List KeyedCall) (past n
           across_names z z (ended_early a.inv order early late z made.split made.is.precedence (alone z (in_late z z_in)) before (in_late z z_in))
           z_in refl
 
-  -- and each fits at each key
+  -- each call fits at each key
   whole : (key : ℕ) → FitInTurn key (v.holds key) (early ++ late)
   whole key = subst (λ (xs : List KeyedCall). FitInTurn key (v.holds key) xs) made.split.parts (made.is.fit key)
 
@@ -252,7 +246,7 @@ module _ (keys : Keys) (place limit : ℕ) (calls more : List KeyedCall) (past n
       of_early : (z : KeyedCall) → Contains early z → Contains (map (rest_of w) more) z
       of_early z z_in = other_known z (in_early z z_in) (λ same. let first : z.inv < a.inv = begun z z_in in omega (arith, first, same))
 
--- so the choice goes on that has not taken the call
+-- a choice that has not taken the call goes on
 pub goes_back : (keys : Keys) (place limit : ℕ) (calls more : List KeyedCall) (past next w v : Choice) (a d : KeyedCall)
     → AtBack keys place limit calls more past next w v a d → GoesOn v more → GoesOn w more
 goes_back keys place limit calls more past next w v a d at goes_on =

@@ -1,16 +1,9 @@
--- Of a call of a history it is known whether something is left of it at some keys: it concerns keys up to one.
-use Rattle.std.proofs.Common.{◌≡◌, ℕ, zero, suc, ◌+◌, ◌<◌, Bool, true, false, not, nat_le, ◌&&◌, inl, inr, subst, ⊎_elim, arith, sym}
-use Rattle.std.specs.Prelude.{◌⊎◌, ◌≤◌}
-use Rattle.std.proofs.lemmas.Bool.{and_parts, and_from, false_from_ne_true, eqb-true, leb-true}
-use Rattle.list_laws.proofs.FilterLemmas.{Contains-from_map}
-use Rattle.events.specs.declared.event.Call.{Call}
-use Rattle.events.specs.declared.event.Call.TheVariants.{Get, Insert, Remove, Scan, Replace}
-use Rattle.key_effects.specs.KeyedCalls.{KeyedCall, concerns_key, keyed}
-use Rattle.key_effects.specs.Choices.{Choice}
-use Rattle.key_effects.specs.Cuts.{Keys}
-use Rattle.key_effects.proofs.DeadLemmas.{bool_cases}
-use Rattle.key_parts.specs.Laws.{CallsAreKnown}
-use Rattle.key_parts.specs.Steps.{IsLeftAt, NoneIsLeftAt}
+-- For a call of a history it is known whether something is left of it at some keys: there is a key
+-- above all that it concerns.
+use Rattle.key_parts.proofs.Common.{◌≡◌, ℕ, zero, suc, ◌+◌, ◌<◌, Bool, true, false, not, nat_le, ◌&&◌, inl, inr, subst, ⊎_elim, arith, sym, ◌⊎◌}
+use Rattle.key_parts.proofs.Common.{and_parts, and_from, false_from_ne_true, eqb-true, leb-true, Contains-from_map, Call, Get, Insert, Remove, Scan}
+use Rattle.key_parts.proofs.Common.{Replace, KeyedCall, concerns_key, keyed, Choice, Keys, bool_cases, CallsAreKnown, IsLeftAt, NoneIsLeftAt}
+use Rattle.std.specs.Prelude.{◌≤◌}
 
 up_to : (key n : ℕ) → key < suc n → (key ≡ n) ⊎ (key < n)
 up_to key n less = grind (arith, less)
@@ -27,7 +20,7 @@ search_below f (suc n) = by_last (bool_cases (f n)) (search_below f n)
     by_last (inr out) (inr none) = inr (λ key less.
         ⊎_elim (λ same. subst (λ (k : ℕ). f k ≡ false) (sym same) out) (λ before. none key before) (up_to key n less))
 
--- so it is known of a call that concerns no key from some on
+-- it is known whether something is left of a call that concerns no key from some on
 known_below : (keys : Keys) (past : Choice) (a : KeyedCall) (n : ℕ) → ((key : ℕ) → a.concerns key ≡ true → key < n)
     → IsLeftAt keys past a ⊎ NoneIsLeftAt keys past a
 known_below keys past a n below =

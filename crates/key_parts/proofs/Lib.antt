@@ -1,3 +1,4 @@
+mod Common
 pub mod PartLemmas
 pub mod StepLemmas
 pub mod WiderLemmas

@@ -1,15 +1,9 @@
 -- What is left of calls where more is taken.
-use Rattle.std.proofs.Common.{◌≡◌, ℕ, Bool, true, false, not, ◌&&◌, ◌||◌, cond, List, [], ◌∷◌, ◌++◌, map, Option, inl, inr, refl, sym, ap, ◌∙◌, subst, ⊎_elim}
-use Rattle.std.specs.Prelude.{◌≢◌, ◌⊎◌, Contains}
-use Rattle.list_laws.proofs.FilterLemmas.{Contains-map, Contains-from_map, AllPairs-map}
-use Rattle.list_laws.proofs.Lists.{Contains-first, Contains-later}
+use Rattle.key_parts.proofs.Common.{◌≡◌, ℕ, Bool, true, false, not, ◌&&◌, ◌||◌, cond, List, [], ◌∷◌, ◌++◌, map, Option, inl, inr, refl, sym, ap, ◌∙◌}
+use Rattle.key_parts.proofs.Common.{subst, ⊎_elim, ◌≢◌, ◌⊎◌, Contains, Contains-map, Contains-from_map, AllPairs-map, Contains-first, Contains-later}
+use Rattle.key_parts.proofs.Common.{KeyedCall, Effect, no_effect, IsNoEffect, precedes, is_completed, FitInTurn, IsKeyedOrder, Choice, rest_of}
+use Rattle.key_parts.proofs.Common.{IsQuiet, bool_cases, none_or}
 use mathlib.Core.Path.{fun_ext}
-use Rattle.key_effects.specs.KeyedCalls.{KeyedCall, Effect, no_effect, IsNoEffect, precedes, is_completed}
-use Rattle.key_effects.specs.KeyedOrders.{FitInTurn, IsKeyedOrder}
-use Rattle.key_effects.specs.Choices.{Choice, rest_of}
-use Rattle.key_effects.specs.Apart.{IsQuiet}
-use Rattle.key_effects.proofs.DeadLemmas.{bool_cases}
-use Rattle.key_effects.proofs.RestLemmas.{none_or}
 
 -- what is left of a call where more is taken
 abbrev pub masked_by : (ℕ → ℕ → Bool) → KeyedCall → KeyedCall
@@ -44,7 +38,7 @@ rest_masked w next m d taken =
     made : (ℕ → Bool) → (ℕ → Effect) → KeyedCall
     made c e = record { inv = d.inv; res = d.res; refused = d.refused; concerns = c; effect = e }
 
--- where nothing more is taken, a call is what it was
+-- if nothing more is taken, a call is what it was
 pub masked_same : (m : ℕ → ℕ → Bool) (x : KeyedCall) → ((key : ℕ) → m x.inv key ≡ false) → masked_by m x ≡ x
 masked_same m x out =
     ap (λ (c : ℕ → Bool). made c (λ (key : ℕ). cond (m x.inv key) no_effect (x.effect key))) (fun_ext (λ (key : ℕ). rw (out key) refl))
@@ -75,7 +69,7 @@ order_masked w next m more order taken is fit = record {
   fit = fit;
 }
 
--- where those of which more is taken are quiet at a key, calls in turn fit as they did
+-- if those of which more is taken are quiet at a key, calls in turn fit as they did
 pub quiet_masked : (m : ℕ → ℕ → Bool) (key : ℕ) (xs : List KeyedCall) (value : Option ℕ)
     → ((x : KeyedCall) → Contains xs x → (m x.inv key ≡ false) ⊎ IsQuiet x key) → FitInTurn key value xs
     → FitInTurn key value (map (masked_by m) xs)

@@ -1,19 +1,8 @@
 -- Orders that go on by a call that is taken at some keys.
-use Rattle.std.proofs.Common.{◌≡◌, ℕ, Bool, true, false, ◌&&◌, ◌||◌, ◌==◌, cond, List, map, Option, inl, inr, refl, sym, ap, ◌∙◌, subst}
-use Rattle.std.specs.Prelude.{◌⊎◌, Contains}
-use Rattle.std.proofs.lemmas.Bool.{and_parts, eqb-true, eq-eqb}
-use Rattle.std.proofs.lemmas.List.Elements.{All-contains}
-use Rattle.list_laws.proofs.Lists.{All-from_contains}
-use Rattle.key_effects.specs.KeyedCalls.{KeyedCall, no_effect, IsNoEffect, IsFormed}
-use Rattle.key_effects.specs.KeyedOrders.{FitInTurn}
-use Rattle.key_effects.specs.Growth.{IsLater, HaveGrown}
-use Rattle.key_effects.specs.Choices.{Choice, rest_of, Agrees, GoesOn}
-use Rattle.key_effects.specs.Cuts.{Keys}
-use Rattle.key_effects.proofs.DeadLemmas.{bool_cases}
-use Rattle.key_effects.proofs.OrderLemmas.{same_call}
-use Rattle.key_effects.proofs.RestLemmas.{none_none, later_stands}
-use Rattle.key_parts.specs.Parts.{IsAt}
-use Rattle.key_parts.specs.Steps.{IsAfterCall}
+use Rattle.key_parts.proofs.Common.{◌≡◌, ℕ, Bool, true, false, ◌&&◌, ◌||◌, ◌==◌, cond, List, map, Option, inl, inr, refl, sym, ap, ◌∙◌, subst, ◌⊎◌}
+use Rattle.key_parts.proofs.Common.{Contains, and_parts, eqb-true, eq-eqb, All-contains, All-from_contains, KeyedCall, no_effect, IsNoEffect}
+use Rattle.key_parts.proofs.Common.{IsFormed, FitInTurn, IsLater, HaveGrown, Choice, rest_of, Agrees, GoesOn, Keys, bool_cases, same_call, none_none}
+use Rattle.key_parts.proofs.Common.{later_stands, IsAt, IsAfterCall}
 use Rattle.key_parts.proofs.MaskLemmas.{masked_by, order_masked, quiet_masked}
 use Rattle.key_parts.proofs.PartLemmas.{instead}
 
@@ -125,7 +114,7 @@ module _ (keys : Keys) (place : ℕ) (calls more : List KeyedCall) (past next w 
           let e_fits : (e.effect key).fits (w.holds key) ≡ true = rw untaken at rest_fits in
           subst (λ (v : Option ℕ). (e.effect key).fits v ≡ true) (sym (found_now key untaken is one there)) e_fits
 
-  -- so the choice goes on, where the order does at the keys
+  -- the choice goes on, if the order does at the keys
   pub goes_on_next : (goes_on : GoesOn w more) → ((key : ℕ) → keys key ≡ true → ((rest_of w d).effect key).fits (w.holds key) ≡ true)
       → ((key : ℕ) → keys key ≡ true → FitInTurn key (next.holds key) (map (masked_by (taken_by keys a)) goes_on.1.0))
       → GoesOn (instead keys next w) more

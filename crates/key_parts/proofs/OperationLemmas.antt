@@ -1,23 +1,10 @@
 -- What is left at some keys, as calls of a map that has these keys alone.
-use Rattle.std.proofs.Common.{◌≡◌, ℕ, ◌<◌, Bool, true, List, map, inl, inr, sym, ap, ◌∙◌, subst, ⊎_elim, arith}
-use Rattle.std.specs.Prelude.{◌≢◌, ◌⊎◌, ◌↔◌, AllPairs, Contains, filter}
-use Rattle.list_laws.proofs.FilterLemmas.{AllPairs-map, AllPairs-weaker, Contains-map, Contains-from_map}
-use Rattle.list_laws.proofs.Lists.{Contains-filter, Contains-from_filter}
-use Rattle.events.specs.declared.operation.Operation.{Operation}
-use Rattle.map_object.specs.MapObject.{Contents, value_at}
-use Rattle.orders.specs.Orders.{calls_at}
-use Rattle.key_effects.specs.KeyedCalls.{KeyedCall, IsNoEffect, keyed}
-use Rattle.key_effects.specs.KeyedOrders.{AreKeyedCalls, HasKeyedOrder}
-use Rattle.key_effects.specs.Choices.{Choice}
-use Rattle.key_effects.specs.Cuts.{Keys, has_call}
-use Rattle.key_effects.specs.Apart.{IsAlikeAt, AreAlike}
-use Rattle.key_effects.proofs.AfterLemmas.{named_in, from_named}
+use Rattle.key_parts.proofs.Common.{◌≡◌, ℕ, ◌<◌, Bool, true, List, map, inl, inr, sym, ap, ◌∙◌, subst, ⊎_elim, arith, ◌≢◌, ◌⊎◌, ◌↔◌, AllPairs}
+use Rattle.key_parts.proofs.Common.{Contains, filter, AllPairs-map, AllPairs-weaker, Contains-map, Contains-from_map, Contains-filter}
+use Rattle.key_parts.proofs.Common.{Contains-from_filter, Operation, Contents, value_at, calls_at, KeyedCall, IsNoEffect, keyed, AreKeyedCalls}
+use Rattle.key_parts.proofs.Common.{HasKeyedOrder, Choice, Keys, has_call, IsAlikeAt, AreAlike, named_in, from_named, keyed_order, plain_order}
+use Rattle.key_parts.proofs.Common.{same_call, OperationsDecide, AreLeftCalls, left_at}
 use Rattle.key_effects.proofs.AlikeLemmas.{alike_decide}
-use Rattle.key_effects.proofs.BridgeLemmas.{keyed_order, plain_order}
-use Rattle.key_effects.proofs.OrderLemmas.{same_call}
-use Rattle.key_parts.specs.Laws.{OperationsDecide}
-use Rattle.key_parts.specs.Operations.{AreLeftCalls}
-use Rattle.key_parts.specs.Parts.{left_at}
 use Rattle.key_parts.proofs.SomeLemmas.{keyed_left, keyed_some, some_decide}
 
 -- whether one of the operations is of this name

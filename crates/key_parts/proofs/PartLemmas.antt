@@ -1,27 +1,19 @@
--- Choices at some keys. `at_self`, `at_back`, `at_next`: being the same at some keys is an equivalence. `at_fewer`, `at_both`: at fewer keys,
--- and at those of two sets. `instead`: a choice that is another at some keys. `goes_on_there`: a choice that goes on to an order goes on to one
--- at some keys, and so does what it is there. `same_goes_on`: what is the same at all keys goes on too. `keys_shared`, `with_past`,
--- `with_instead`, `with_other`: a part with other pasts. `stand_below`: choices that are reached stand below the calls. `few_are`, `few_grown`: the
--- calls that some grew from. `part_steps`: parts stand where one of them took a step.
-use Rattle.std.proofs.Common.{◌≡◌, ℕ, ◌<◌, Bool, true, false, not, ◌||◌, ◌&&◌, cond, List, [], ◌∷◌, map, Option, inl, inr, refl, sym, ap, ◌∙◌, subst, ⊎_elim}
-use Rattle.std.specs.Prelude.{◌≢◌, ◌⊎◌, Contains, filter}
-use Rattle.std.proofs.lemmas.List.Elements.{All-cons, All-tail, All-contains}
-use Rattle.std.proofs.lemmas.List.Kept.{AllPairs-cons, AllPairs-filter}
-use Rattle.list_laws.proofs.FilterLemmas.{Contains-from_map}
-use Rattle.list_laws.proofs.Lists.{AllPairs-head, AllPairs-tail, All-from_contains, Contains-first, Contains-later, Contains-cases, Contains-filter, Contains-from_filter}
+-- Choices at some keys. `at_self`, `at_back`, `at_next`: being the same at some keys is an
+-- equivalence. `at_fewer`, `at_both`: at fewer keys, and at those of two sets. `instead`: a choice
+-- that is another at some keys. `goes_on_there`: a choice that goes on to an order goes on to one
+-- at some keys, and so does what it is there. `same_goes_on`: what is the same at all keys goes on
+-- too. `keys_shared`, `with_past`, `with_instead`, `with_other`: a part with other pasts.
+-- `stand_below`: choices that are reached are below the calls. `few_are`, `few_grown`: the calls
+-- that some grew from. `part_steps`: parts represent the calls if one of them took a step.
+use Rattle.key_parts.proofs.Common.{◌≡◌, ℕ, ◌<◌, Bool, true, false, not, ◌||◌, ◌&&◌, cond, List, [], ◌∷◌, map, Option, inl, inr, refl, sym, ap, ◌∙◌}
+use Rattle.key_parts.proofs.Common.{subst, ⊎_elim, ◌≢◌, ◌⊎◌, Contains, filter, All-cons, All-tail, All-contains, AllPairs-cons, AllPairs-filter}
+use Rattle.key_parts.proofs.Common.{Contains-from_map, AllPairs-head, AllPairs-tail, All-from_contains, Contains-first, Contains-later}
+use Rattle.key_parts.proofs.Common.{Contains-cases, Contains-filter, Contains-from_filter, KeyedCall, Effect, no_effect, IsFormed, IsNoEffect}
+use Rattle.key_parts.proofs.Common.{precedes, AreDistinct, FitInTurn, HasKeyedOrder, HaveGrown, Choice, Agrees, rest_of, GoesOn, SomeGoesOn}
+use Rattle.key_parts.proofs.Common.{StandBelow, Keys, has_call, only, other_keys, AreApart, named_in, from_named, bool_cases, same_call, none_none}
+use Rattle.key_parts.proofs.Common.{Part, IsAt, IsOneOf, choices_of, ShareKeys, AreSomeOf, StandFor, left_at, AgreesAt, GoesOnAt}
 use mathlib.Core.Path.{fun_ext}
-use Rattle.key_effects.specs.KeyedCalls.{KeyedCall, Effect, no_effect, IsFormed, IsNoEffect, precedes}
-use Rattle.key_effects.specs.KeyedOrders.{AreDistinct, FitInTurn, HasKeyedOrder}
-use Rattle.key_effects.specs.Growth.{HaveGrown}
-use Rattle.key_effects.specs.Choices.{Choice, Agrees, rest_of, GoesOn, SomeGoesOn, StandBelow}
-use Rattle.key_effects.specs.Cuts.{Keys, has_call}
-use Rattle.key_effects.specs.Apart.{only, other_keys, AreApart}
 use Rattle.key_effects.proofs.ApartLemmas.{some_refute}
-use Rattle.key_effects.proofs.AfterLemmas.{named_in, from_named}
-use Rattle.key_effects.proofs.DeadLemmas.{bool_cases}
-use Rattle.key_effects.proofs.OrderLemmas.{same_call}
-use Rattle.key_effects.proofs.RestLemmas.{none_none}
-use Rattle.key_parts.specs.Parts.{Part, IsAt, IsOneOf, choices_of, ShareKeys, AreSomeOf, StandFor, left_at, AgreesAt, GoesOnAt}
 
 -- ---- choices that are the same at some keys
 
@@ -107,7 +99,7 @@ effect_same : (k t s : Bool) (e : Effect) → (k ≡ true → t ≡ s)
 effect_same true t s e same = rw (same refl) refl
 effect_same false t s e same = refl
 
--- it is the same by choices that are the same there
+-- choices that are the same at some keys leave the same there
 pub left_same : (keys : Keys) (past w : Choice) (a : KeyedCall) → IsAt keys past w → left_at keys w a ≡ left_at keys past a
 unfolding made
 left_same keys past w a same =
@@ -139,7 +131,7 @@ fit_none key (a ∷ order) none value = (
   fit_none key order (λ b b_in. none b (Contains-later a order b b_in)) ((a.effect key).leaves value),
 )
 
--- so what other keys hold does not matter
+-- what other keys hold does not matter
 pub other_holds : (keys : Keys) (w : Choice) (calls : List KeyedCall) (held other : ℕ → Option ℕ)
     → ((key : ℕ) → keys key ≡ true → held key ≡ other key) → HasKeyedOrder held (map (left_at keys w) calls)
     → HasKeyedOrder other (map (left_at keys w) calls)
@@ -269,7 +261,7 @@ with_instead keys pasts nexts rest next w shared next_in is =
     with_past keys pasts nexts rest next w (instead keys next w) shared next_in is (instead_here keys next w)
     (instead_there keys (other_keys keys) next w (λ key here. rw here refl))
 
--- and one that has another past of the first
+-- a choice of parts in which the first has another past
 pub with_other : (keys : Keys) (pasts nexts : List Choice) (rest : List Part) (w past : Choice)
     → choices_of (record { keys = keys; pasts = pasts } ∷ rest) w → Contains nexts past → IsAt keys past w
     → choices_of (record { keys = keys; pasts = nexts } ∷ rest) w

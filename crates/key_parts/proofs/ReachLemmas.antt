@@ -1,23 +1,16 @@
 -- Choices that are reached. A pending call that was taken is answered with what it found, and after all calls a read of all keys follows that finds
 -- what these hold: the choice goes on to an order of these, and so they have one.
-use Rattle.std.proofs.Common.{◌≡◌, ℕ, suc, ◌<◌, ◌≤◌, Bool, true, false, not, ◌&&◌, nat_lt, cond, List, [], ◌∷◌, ◌++◌, map, Option, Some, None, inl, inr, refl, sym, ap, ◌∙◌, subst, ⊎_elim, is_some, arith}
-use Rattle.std.specs.Prelude.{◌≢◌, ◌⊎◌, All, Contains}
-use Rattle.std.proofs.lemmas.Bool.{ltb-true, lt-ltb, false_from_ne_true}
-use Rattle.std.proofs.lemmas.List.Elements.{All-nil, All-cons, All-contains, Contains-append_left, Contains-append_right, Contains-append_cases}
-use Rattle.std.proofs.lemmas.List.Kept.{AllPairs-cons}
-use Rattle.list_laws.proofs.FilterLemmas.{AllPairs-map, AllPairs-from_map, AllPairs-weaker, Contains-map, Contains-from_map}
-use Rattle.list_laws.proofs.Lists.{AllPairs-nil, AllPairs-head, AllPairs-back, AllPairs-front, AllPairs-across, AllPairs-append, All-from_contains, Contains-nil, Contains-first, Contains-later, Contains-cases, Contains-split}
+use Rattle.key_parts.proofs.Common.{◌≡◌, ℕ, suc, ◌<◌, ◌≤◌, Bool, true, false, not, ◌&&◌, nat_lt, cond, List, [], ◌∷◌, ◌++◌, map, Option, Some, None}
+use Rattle.key_parts.proofs.Common.{inl, inr, refl, sym, ap, ◌∙◌, subst, ⊎_elim, arith, ◌≢◌, ◌⊎◌, All, Contains, ltb-true, lt-ltb, false_from_ne_true}
+use Rattle.key_parts.proofs.Common.{All-nil, All-cons, All-contains, Contains-append_left, Contains-append_right, Contains-append_cases}
+use Rattle.key_parts.proofs.Common.{AllPairs-cons, AllPairs-map, AllPairs-from_map, AllPairs-weaker, Contains-map, Contains-from_map, AllPairs-nil}
+use Rattle.key_parts.proofs.Common.{AllPairs-head, AllPairs-back, AllPairs-front, AllPairs-across, AllPairs-append, All-from_contains, Contains-nil}
+use Rattle.key_parts.proofs.Common.{Contains-first, Contains-later, Contains-cases, Contains-split, KeyedCall, Effect, IsFormed, IsNoEffect}
+use Rattle.key_parts.proofs.Common.{no_effect, read_of, is_same_value, is_completed, ends_before, precedes, FitInTurn, left_by, AreDistinct}
+use Rattle.key_parts.proofs.Common.{AreKeyedCalls, KeepPrecedence, IsKeyedOrder, HasKeyedOrder, HaveGrown, IsLater, Choice, Agrees, GoesOn, rest_of}
+use Rattle.key_parts.proofs.Common.{bool_cases, same_values, same_call, ends_sooner, none_none, fit-back, fit-front, AreSomeOf}
+use Rattle.std.proofs.Common.{is_some}
 use mathlib.Core.Path.{fun_ext}
-use Rattle.key_effects.specs.KeyedCalls.{KeyedCall, Effect, IsFormed, IsNoEffect, no_effect, read_of, is_same_value, is_completed, ends_before, precedes}
-use Rattle.key_effects.specs.KeyedOrders.{FitInTurn, left_by, AreDistinct, AreKeyedCalls, KeepPrecedence, IsKeyedOrder, HasKeyedOrder}
-use Rattle.key_effects.specs.Growth.{HaveGrown, IsLater}
-use Rattle.key_effects.specs.Choices.{Choice, Agrees, GoesOn, rest_of}
-use Rattle.key_effects.proofs.DeadLemmas.{bool_cases}
-use Rattle.key_effects.proofs.EffectLemmas.{same_values}
-use Rattle.key_effects.proofs.OrderLemmas.{same_call, ends_sooner}
-use Rattle.key_effects.proofs.RestLemmas.{none_none}
-use Rattle.key_effects.proofs.TurnLemmas.{fit-back, fit-front}
-use Rattle.key_parts.specs.Parts.{AreSomeOf}
 use Rattle.key_parts.specs.Reached.{Lead, IsOpen, AreAllTaken, ChoicesAreReached}
 
 -- ---- a call with what it found as its answer
@@ -56,7 +49,7 @@ module _ (place : ℕ) (w : Choice) where
     effect = λ key. found_effect (is_found a key) (w.found a.inv key) (a.effect key);
   }
 
-  -- and a read of all keys, after all calls, of what they hold
+  -- a read of all keys, after all calls, of what they hold
   abbrev last_read : KeyedCall
   last_read = record {
     inv = suc place;
@@ -114,7 +107,7 @@ module _ (place : ℕ) (w : Choice) where
     begun : (a : KeyedCall) → Contains calls a → a.inv < place
     begun a a_in = All-contains (λ z. z.inv < place) calls a grown.begun a_in
 
-    -- it is answered later, if it is pending
+    -- a pending call is answered later
     found_later : (a : KeyedCall) → Contains calls a → IsLater place a (as_found a)
     found_later a a_in = record {
       inv = refl;
@@ -148,7 +141,7 @@ module _ (place : ℕ) (w : Choice) where
         formed : IsFormed a
         formed = All-contains IsFormed calls a grown.formed a_in
 
-    -- it precedes what comes after all calls, and not itself
+    -- each call precedes what comes after all calls, and not itself
     found_last : (a : KeyedCall) → Contains calls a → precedes (as_found a) last_read ≡ true
     found_last a a_in = by_res a.res refl
       where

@@ -1,21 +1,9 @@
 -- A read that was answered is taken out of an order: `read_comes`, where it fits what the keys hold. `read_fits` and `read_quiet`: what is left of
 -- it by a choice fits, and is quiet.
-use Rattle.std.proofs.Common.{◌≡◌, ℕ, Bool, true, false, ◌&&◌, ◌==◌, cond, List, ◌∷◌, map, Option, inl, inr, refl, sym, ap, ◌∙◌, subst, ⊎_elim}
-use Rattle.std.specs.Prelude.{◌⊎◌, Contains}
-use Rattle.std.proofs.lemmas.Bool.{and_parts, eqb-true}
-use Rattle.std.proofs.lemmas.List.Elements.{All-head}
-use Rattle.list_laws.proofs.FilterLemmas.{Contains-from_map}
-use Rattle.list_laws.proofs.Lists.{Contains-first, Contains-later, Contains-cases}
-use Rattle.key_effects.specs.KeyedCalls.{KeyedCall, is_completed, no_effect}
-use Rattle.key_effects.specs.KeyedOrders.{FitInTurn}
-use Rattle.key_effects.specs.Growth.{HaveGrown}
-use Rattle.key_effects.specs.Choices.{Choice, rest_of, GoesOn, SomeGoesOn}
-use Rattle.key_effects.specs.Cuts.{Keys}
-use Rattle.key_effects.specs.Apart.{IsQuiet}
-use Rattle.key_effects.proofs.DeadLemmas.{bool_cases}
-use Rattle.key_effects.proofs.OrderLemmas.{same_call}
-use Rattle.key_parts.specs.Parts.{Part, IsAt, IsOneOf, ShareKeys, choices_of}
-use Rattle.key_parts.specs.Steps.{IsAfterCall, IsReadAt}
+use Rattle.key_parts.proofs.Common.{◌≡◌, ℕ, Bool, true, false, ◌&&◌, ◌==◌, cond, List, ◌∷◌, map, Option, inl, inr, refl, sym, ap, ◌∙◌, subst, ⊎_elim}
+use Rattle.key_parts.proofs.Common.{◌⊎◌, Contains, and_parts, eqb-true, All-head, Contains-from_map, Contains-first, Contains-later, Contains-cases}
+use Rattle.key_parts.proofs.Common.{KeyedCall, is_completed, no_effect, FitInTurn, HaveGrown, Choice, rest_of, GoesOn, SomeGoesOn, Keys, IsQuiet}
+use Rattle.key_parts.proofs.Common.{bool_cases, same_call, Part, IsAt, IsOneOf, ShareKeys, choices_of, IsAfterCall, IsReadAt}
 use Rattle.key_parts.proofs.FirstLemmas.{completed_stays}
 use Rattle.key_parts.proofs.MaskLemmas.{masked_by, quiet_masked}
 use Rattle.key_parts.proofs.NextLemmas.{taken_by, IsTaken, rest_leaves, goes_on_next}
@@ -64,7 +52,7 @@ module _ (keys : Keys) (place : ℕ) (calls more : List KeyedCall) (past next w 
           let one : e ≡ b = same_call more e b grown.apart.distinct e_in b_in (ap (λ (z : KeyedCall). z.inv) e_is ∙ eqb-true x.inv b.inv named) in
           inr (subst (λ (z : KeyedCall). IsQuiet z key) (ap (λ (z : KeyedCall). rest_of w z) (sym one) ∙ e_is) (read_quiet key is))
 
--- so a choice goes on that has taken it
+-- a choice that has taken the read goes on
 pub read_comes : (place : ℕ) (calls : List KeyedCall) (keys : Keys) (past next : Choice) (others : List Choice) (rest : List Part) (b : KeyedCall)
     → Contains calls b → is_completed b ≡ true → b.refused ≡ false → IsReadAt keys past b
     → ((key : ℕ) → keys key ≡ true → ((rest_of past b).effect key).fits (past.holds key) ≡ true) → IsAfterCall keys past b next

@@ -1,26 +1,15 @@
 -- A read that was answered, taken at keys at rest, and a call without effect, taken at any time. `at_taken`: two choices that differ by it.
 -- `read_back`, `none_back`: one goes on where the other does, which has taken it.
-use Rattle.std.proofs.Common.{◌≡◌, ℕ, ◌==◌, ◌<◌, Bool, true, false, not, ◌&&◌, ◌||◌, cond, List, [], ◌∷◌, ◌++◌, map, Option, inl, inr, refl, sym, ap, ◌∙◌, subst, ⊎_elim, arith}
-use Rattle.std.specs.Prelude.{◌≢◌, ◌⊎◌, All, Contains}
-use Rattle.std.proofs.lemmas.Bool.{eqb-true, eq-eqb, and_parts, or_left, or_right}
-use Rattle.std.proofs.lemmas.List.Elements.{All-head, All-contains, Contains-append_left}
-use Rattle.list_laws.proofs.FilterLemmas.{AllPairs-map, Contains-map, Contains-from_map}
-use Rattle.list_laws.proofs.Lists.{AllPairs-across, AllPairs-back, AllPairs-head, All-from_contains, Contains-first, Contains-later, Contains-cases, Contains-split}
+use Rattle.key_parts.proofs.Common.{◌≡◌, ℕ, ◌==◌, ◌<◌, Bool, true, false, not, ◌&&◌, ◌||◌, cond, List, [], ◌∷◌, ◌++◌, map, Option, inl, inr, refl}
+use Rattle.key_parts.proofs.Common.{sym, ap, ◌∙◌, subst, ⊎_elim, arith, ◌≢◌, ◌⊎◌, All, Contains, eqb-true, eq-eqb, and_parts, or_left, or_right}
+use Rattle.key_parts.proofs.Common.{All-head, All-contains, Contains-append_left, AllPairs-map, Contains-map, Contains-from_map, AllPairs-across}
+use Rattle.key_parts.proofs.Common.{AllPairs-back, AllPairs-head, All-from_contains, Contains-first, Contains-later, Contains-cases, Contains-split}
+use Rattle.key_parts.proofs.Common.{KeyedCall, Effect, IsNoEffect, IsFormed, no_effect, is_completed, ends_before, precedes, FitInTurn, AreDistinct}
+use Rattle.key_parts.proofs.Common.{KeepPrecedence, IsKeyedOrder, AreKeyedCalls, LeaveTheSame, IsAnsweredAs, IsLater, HaveGrown, Choice, rest_of}
+use Rattle.key_parts.proofs.Common.{Agrees, GoesOn, SomeGoesOn, Keys, has_call, other_keys, AreApart, IsQuiet, named_in, from_named, bool_cases}
+use Rattle.key_parts.proofs.Common.{response_of, same_call, ends_at, none_none, refused_none, ReadsAreTakenAtRest, CallsWithoutEffectAreTaken, Part}
+use Rattle.key_parts.proofs.Common.{IsAt, IsOneOf, AreSomeOf, choices_of, StandFor, IsAfterCall, IsReadAt, IsAtRest}
 use mathlib.Core.Path.{fun_ext}
-use Rattle.key_effects.specs.KeyedCalls.{KeyedCall, Effect, IsNoEffect, IsFormed, no_effect, is_completed, ends_before, precedes}
-use Rattle.key_effects.specs.KeyedOrders.{FitInTurn, AreDistinct, KeepPrecedence, IsKeyedOrder, AreKeyedCalls}
-use Rattle.key_effects.specs.Growth.{LeaveTheSame, IsAnsweredAs, IsLater, HaveGrown}
-use Rattle.key_effects.specs.Choices.{Choice, rest_of, Agrees, GoesOn, SomeGoesOn}
-use Rattle.key_effects.specs.Cuts.{Keys, has_call}
-use Rattle.key_effects.specs.Apart.{other_keys, AreApart, IsQuiet}
-use Rattle.key_effects.proofs.AfterLemmas.{named_in, from_named}
-use Rattle.key_effects.proofs.DeadLemmas.{bool_cases, response_of}
-use Rattle.key_effects.proofs.OrderLemmas.{same_call, ends_at}
-use Rattle.key_effects.proofs.RestLemmas.{none_none, refused_none}
-use Rattle.key_parts.specs.Laws.{ReadsAreTakenAtRest}
-use Rattle.key_parts.specs.CallLaws.{CallsWithoutEffectAreTaken}
-use Rattle.key_parts.specs.Parts.{Part, IsAt, IsOneOf, AreSomeOf, choices_of, StandFor}
-use Rattle.key_parts.specs.Steps.{IsAfterCall, IsReadAt, IsAtRest}
 use Rattle.key_parts.proofs.PartLemmas.{at_back, instead, instead_here, instead_there, keys_shared, with_instead, with_other, TakesNoMore, part_steps}
 use Rattle.key_parts.proofs.FewerLemmas.{takes_less}
 use Rattle.key_parts.proofs.FirstLemmas.{completed_stays}
@@ -231,7 +220,7 @@ module _ (keys : Keys) (more : List KeyedCall) (w v : Choice) (b : KeyedCall) (a
       by_taken : (t : Bool) → t ≡ true → IsNoEffect (cond t no_effect (b.effect key))
       by_taken t taken = rw taken none_none
 
-  -- and at others the same
+  -- at other keys the second choice leaves the same
   same_out : (order : List KeyedCall) → IsKeyedOrder v.holds (map (rest_of v) more) order → (key : ℕ) → keys key ≡ false → (x : KeyedCall)
       → Contains order x → (given_back w b x).effect key ≡ x.effect key
   same_out order is key out x x_in = by_name (bool_cases (x.inv == b.inv))
@@ -244,7 +233,7 @@ module _ (keys : Keys) (more : List KeyedCall) (w v : Choice) (b : KeyedCall) (a
           rw named (ap (λ (t : Bool). cond t no_effect (b.effect key)) (sym same)
           ∙ ap (λ (z : KeyedCall). z.effect key) (the_read order is x x_in named))
 
-  -- it may where it has no effect at the keys
+  -- the choice may go on if the read has no effect at the keys
   none_back : ((key : ℕ) → keys key ≡ true → IsNoEffect ((rest_of w b).effect key)) → GoesOn v more → GoesOn w more
   none_back none some =
       goes_back some (λ key. none_moved key (given_back w b) some.1.0 (w.holds key) (λ x x_in. each x key x_in (bool_cases (keys key)))
@@ -350,7 +339,7 @@ quiet_on false false e f still same quiet value fits =
 none_quiet : (e : Effect) → IsNoEffect e → (value : Option ℕ) → e.fits value ≡ true → e.leaves value ≡ value
 none_quiet e none value fits = none.leaves value
 
--- where keys are at rest, all that the read does not precede is quiet there
+-- if keys are at rest, all that the read does not precede is quiet there
 at_rest : (place : ℕ) (calls more : List KeyedCall) (keys : Keys) (past next v : Choice) (b : KeyedCall) → HaveGrown place calls more
     → Contains calls b → is_completed b ≡ true → IsAtRest keys past calls b → IsAfterCall keys past b next → IsAt keys next v
     → (d : KeyedCall) (key : ℕ) → Contains more d → concerned keys b key ≡ true → precedes b d ≡ false → IsQuiet (rest_of v d) key

@@ -1,15 +1,10 @@
 -- Calls in turn, parted into two lists, and with one more between them.
-use Rattle.std.proofs.Common.{◌≡◌, ℕ, Bool, true, false, ◌==◌, cond, List, [], ◌∷◌, ◌++◌, Option, inl, inr, refl, sym, ap, ◌∙◌, subst, ⊎_elim}
-use Rattle.std.specs.Prelude.{◌≢◌, ◌⊎◌, All, AllPairs, Contains, filter}
-use Rattle.std.proofs.lemmas.Bool.{eqb-true, eq-eqb}
-use Rattle.std.proofs.lemmas.List.Elements.{All-contains, Contains-append_cases}
-use Rattle.std.proofs.lemmas.List.Kept.{AllPairs-cons}
-use Rattle.list_laws.proofs.Lists.{All-from_contains, AllPairs-head, AllPairs-tail, AllPairs-append, Contains-nil, Contains-first, Contains-later, Contains-cases}
-use Rattle.key_effects.specs.KeyedCalls.{KeyedCall, IsNoEffect}
-use Rattle.key_effects.specs.KeyedOrders.{FitInTurn, left_by, AreDistinct}
-use Rattle.key_effects.proofs.DeadLemmas.{bool_cases}
+use Rattle.key_parts.proofs.Common.{◌≡◌, ℕ, Bool, true, false, ◌==◌, cond, List, [], ◌∷◌, ◌++◌, Option, inl, inr, refl, sym, ap, ◌∙◌, subst, ⊎_elim}
+use Rattle.key_parts.proofs.Common.{◌≢◌, ◌⊎◌, All, AllPairs, Contains, filter, eqb-true, eq-eqb, All-contains, Contains-append_cases, AllPairs-cons}
+use Rattle.key_parts.proofs.Common.{All-from_contains, AllPairs-head, AllPairs-tail, AllPairs-append, Contains-nil, Contains-first, Contains-later}
+use Rattle.key_parts.proofs.Common.{Contains-cases, KeyedCall, IsNoEffect, FitInTurn, left_by, AreDistinct, bool_cases}
 
--- where each call is of one kind or of another, some test of its name says of which
+-- if each call is of one kind or of another, some test of its name says of which
 pub choose : (P Q : KeyedCall → Type 0) (xs : List KeyedCall) → AreDistinct xs → ((x : KeyedCall) → Contains xs x → P x ⊎ Q x)
     → (p : ℕ → Bool) × ((x : KeyedCall) → Contains xs x → ((p x.inv ≡ true) × P x) ⊎ ((p x.inv ≡ false) × Q x))
 choose P Q [] distinct each = (λ n. false, λ x x_in. absurd (Contains-nil x x_in))

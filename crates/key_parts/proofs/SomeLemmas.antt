@@ -1,16 +1,8 @@
 -- Some of the calls, and what is left of them: `some_decide`, where the others have no effect.
-use Rattle.std.proofs.Common.{◌≡◌, ℕ, ◌<◌, Bool, true, false, List, map, Option, inl, inr, ⊎_elim}
-use Rattle.std.specs.Prelude.{◌≢◌, ◌⊎◌, ◌↔◌, AllPairs, Contains, filter}
-use Rattle.std.proofs.lemmas.List.Elements.{All-contains, All-map}
-use Rattle.std.proofs.lemmas.List.Kept.{AllPairs-filter}
-use Rattle.list_laws.proofs.FilterLemmas.{AllPairs-map}
-use Rattle.list_laws.proofs.Lists.{All-from_contains, Contains-filter, Contains-from_filter}
-use Rattle.key_effects.specs.KeyedCalls.{KeyedCall, IsNoEffect, precedes}
-use Rattle.key_effects.specs.KeyedOrders.{AreKeyedCalls, HasKeyedOrder}
-use Rattle.key_effects.specs.Choices.{Choice}
-use Rattle.key_effects.specs.Cuts.{Keys}
+use Rattle.key_parts.proofs.Common.{◌≡◌, ℕ, ◌<◌, Bool, true, false, List, map, Option, inl, inr, ⊎_elim, ◌≢◌, ◌⊎◌, ◌↔◌, AllPairs, Contains, filter}
+use Rattle.key_parts.proofs.Common.{All-contains, All-map, AllPairs-filter, AllPairs-map, All-from_contains, Contains-filter, Contains-from_filter}
+use Rattle.key_parts.proofs.Common.{KeyedCall, IsNoEffect, precedes, AreKeyedCalls, HasKeyedOrder, Choice, Keys, left_at}
 use Rattle.key_effects.proofs.NoneLemmas.{effects_decide}
-use Rattle.key_parts.specs.Parts.{left_at}
 
 pub keyed_left : (keys : Keys) (w : Choice) (calls : List KeyedCall) → AreKeyedCalls calls → AreKeyedCalls (map (left_at keys w) calls)
 keyed_left keys w calls apart = record {

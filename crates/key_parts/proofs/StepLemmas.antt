@@ -1,19 +1,13 @@
 -- Laws of parts that look at no order.
-use Rattle.std.proofs.Common.{◌≡◌, ℕ, Bool, true, false, ◌||◌, List, [], ◌∷◌, refl, sym, ◌∙◌, subst, ⊎_elim}
-use Rattle.std.specs.Prelude.{◌⊎◌, AllPairs, Contains}
-use Rattle.std.proofs.lemmas.List.Elements.{All-nil, All-cons, All-head, All-tail, All-contains}
-use Rattle.std.proofs.lemmas.List.Kept.{AllPairs-cons}
-use Rattle.list_laws.proofs.Lists.{AllPairs-nil, AllPairs-head, AllPairs-tail, All-from_contains, Contains-nil, Contains-first, Contains-later, Contains-cases}
-use Rattle.key_effects.specs.Choices.{Choice, at_first, GoesOn}
-use Rattle.key_effects.specs.Cuts.{Keys}
-use Rattle.key_effects.specs.Apart.{AreApart}
+use Rattle.key_parts.proofs.Common.{◌≡◌, ℕ, Bool, true, false, ◌||◌, List, [], ◌∷◌, refl, sym, ◌∙◌, subst, ⊎_elim, ◌⊎◌, AllPairs, Contains, All-nil}
+use Rattle.key_parts.proofs.Common.{All-cons, All-head, All-tail, All-contains, AllPairs-cons, AllPairs-nil, AllPairs-head, AllPairs-tail}
+use Rattle.key_parts.proofs.Common.{All-from_contains, Contains-nil, Contains-first, Contains-later, Contains-cases, Choice, at_first, GoesOn, Keys}
+use Rattle.key_parts.proofs.Common.{AreApart, dead_stay_dead, Part, IsAt, IsOneOf, choices_of, ShareKeys, AreJoined, PartsBegin, PartsStay}
+use Rattle.key_parts.proofs.Common.{PartsInAnyOrder, PartsUnite, DeadPastsGo}
 use Rattle.key_effects.proofs.ChoiceLemmas.{begin}
-use Rattle.key_effects.proofs.DeadLemmas.{dead_stay_dead}
 use Rattle.key_effects.proofs.GrowthLemmas.{growth_on}
-use Rattle.key_parts.specs.Parts.{Part, IsAt, IsOneOf, choices_of, ShareKeys}
-use Rattle.key_parts.specs.Steps.{AreJoined}
-use Rattle.key_parts.specs.Laws.{PartsBegin, PartsStay, PartsInAnyOrder, PartsUnite, DeadPastsGo}
-use Rattle.key_parts.proofs.PartLemmas.{all_keys, at_self, at_back, at_next, at_fewer, at_both, or_cases, same_goes_on, goes_on_there, few_grown, part_steps}
+use Rattle.key_parts.proofs.PartLemmas.{all_keys, at_self, at_back, at_next, at_fewer, at_both, or_cases, same_goes_on, goes_on_there, few_grown}
+use Rattle.key_parts.proofs.PartLemmas.{part_steps}
 
 pub parts_begin : PartsBegin
 parts_begin held = record {

@@ -1,25 +1,11 @@
 -- What is left at two sets of keys: at both together, and at one of them. `alike_moved`: an operation that is alike to what is left of a call at
 -- some keys is so at others.
-use Rattle.std.proofs.Common.{◌≡◌, ℕ, ◌==◌, ◌<◌, Bool, true, false, not, ◌&&◌, ◌||◌, cond, List, [], ◌∷◌, Option, Some, None, inl, inr, refl, sym}
-use Rattle.std.proofs.Common.{ap, ◌∙◌, subst, ⊎_elim, arith}
-use Rattle.std.specs.Prelude.{◌⊎◌, All, AllPairs, Contains}
-use Rattle.std.proofs.lemmas.Bool.{and_parts, eqb-true}
-use Rattle.std.proofs.lemmas.List.Elements.{All-contains}
-use Rattle.std.proofs.lemmas.List.Kept.{AllPairs-filter}
-use Rattle.list_laws.proofs.Lists.{AllPairs-head, AllPairs-tail, All-from_contains, Contains-nil, Contains-cases}
-use Rattle.events.specs.declared.operation.Operation.{Operation}
-use Rattle.map_object.specs.MapObject.{Contents, value_at}
-use Rattle.key_effects.specs.KeyedCalls.{KeyedCall, Effect, IsNoEffect, no_effect, concerns_key, keyed}
-use Rattle.key_effects.specs.Forms.{HasForm}
-use Rattle.key_effects.specs.Choices.{Choice, rest_of}
-use Rattle.key_effects.specs.Cuts.{Keys}
-use Rattle.key_effects.specs.Apart.{AreApart, IsAlikeAt}
-use Rattle.key_effects.proofs.DeadLemmas.{bool_cases}
-use Rattle.key_effects.proofs.GrowLemmas.{formed}
-use Rattle.key_parts.specs.Parts.{IsAt, AgreesAt, left_at}
-use Rattle.key_parts.specs.Steps.{IsLeftAt}
-use Rattle.key_parts.specs.Left.{IsLeft, HasKeysIn, HaveTheirKeys, AreTogether, pairs_at}
-use Rattle.key_parts.specs.CallLaws.{LeftCallsUnite, LeftCallsPart}
+use Rattle.key_parts.proofs.Common.{◌≡◌, ℕ, ◌==◌, ◌<◌, Bool, true, false, not, ◌&&◌, ◌||◌, cond, List, [], ◌∷◌, Option, Some, None, inl, inr, refl}
+use Rattle.key_parts.proofs.Common.{sym, ap, ◌∙◌, subst, ⊎_elim, arith, ◌⊎◌, All, AllPairs, Contains, and_parts, eqb-true, All-contains}
+use Rattle.key_parts.proofs.Common.{AllPairs-filter, AllPairs-head, AllPairs-tail, All-from_contains, Contains-nil, Contains-cases, Operation}
+use Rattle.key_parts.proofs.Common.{Contents, value_at, KeyedCall, Effect, IsNoEffect, no_effect, concerns_key, keyed, HasForm, Choice, rest_of, Keys}
+use Rattle.key_parts.proofs.Common.{AreApart, IsAlikeAt, bool_cases, formed, IsAt, AgreesAt, left_at, IsLeftAt, IsLeft, HasKeysIn, HaveTheirKeys}
+use Rattle.key_parts.proofs.Common.{AreTogether, pairs_at, LeftCallsUnite, LeftCallsPart}
 use Rattle.key_parts.proofs.PartLemmas.{none_left_out, or_cases}
 
 -- ---- one operation
@@ -32,7 +18,7 @@ outside keys o inside key out = (formed o).elsewhere key (by_concern (bool_cases
     by_concern (inl concerned) = let never : keys key ≡ true = inside key concerned in cc
     by_concern (inr not_so) = not_so
 
--- of operations with rising names one has a name
+-- among operations with rising names, only one has a name
 one_of_name : (all : List Operation) (o q : Operation) → AllPairs (λ x y. x.inv < y.inv) all → Contains all o → Contains all q → o.inv ≡ q.inv
     → o ≡ q
 one_of_name [] o q rising o_in q_in same = absurd (Contains-nil o o_in)
@@ -57,7 +43,7 @@ effect_here : (s t k l : Bool) (e : Effect) → s ≡ true → t ≡ true → k 
     → cond s (cond k no_effect e) no_effect ≡ cond t (cond l no_effect e) no_effect
 effect_here s t k l e is also same = rw is (rw also (ap (λ (b : Bool). cond b no_effect e) same))
 
--- it has no effect where what is left of its call has none
+-- an operation has no effect if what is left of its call has none
 no_effect_back : (keys : Keys) (past : Choice) (a : KeyedCall) (o : Operation) → IsAlikeAt keys (left_at keys past a) (keyed o) → (key : ℕ)
     → keys key ≡ true → IsNoEffect ((keyed o).effect key) → IsNoEffect ((rest_of past a).effect key)
 no_effect_back keys past a o alike key is none = record {
@@ -173,7 +159,7 @@ module _ (keys others : Keys) (past other w : Choice) (limit : ℕ) (calls : Lis
       (λ key is. or_second (keys key) (others key) is) there here (All-contains (HasKeysIn others) other_left o other_inside o_in) together.rising
       (together.second o o_in) together.first (first.alike.there a a_in) alike
 
-  -- of what is left at neither set nothing is left at both
+  -- what is left at neither set is not left at both
   none_wide : (a : KeyedCall) → ((key : ℕ) → IsNoEffect ((left_at keys past a).effect key))
       → ((key : ℕ) → IsNoEffect ((left_at others other a).effect key)) → (key : ℕ) → IsNoEffect ((left_at wide w a).effect key)
   none_wide a none other_none key = by_key (bool_cases (keys key || others key))

@@ -1,24 +1,14 @@
 -- Small calls that refute what goes further than the laws. Calls of keys 0 and 1, which hold nothing at first.
-use Rattle.std.proofs.Common.{◌≡◌, ℕ, ◌<◌, ◌≤◌, ◌==◌, ◌&&◌, ◌||◌, Bool, true, false, not, cond, List, [], ◌∷◌, ◌++◌, map, Option, Some, None, inl, inr, refl, sym, ap, ◌∙◌, subst, ⊎_elim, arith}
-use Rattle.std.specs.Prelude.{◌≢◌, ◌⊎◌, All, AllPairs, Contains}
-use Rattle.std.proofs.lemmas.Bool.{eqb-true}
+use Rattle.key_parts.proofs.Common.{◌≡◌, ℕ, ◌<◌, ◌≤◌, ◌==◌, ◌&&◌, ◌||◌, Bool, true, false, not, cond, List, [], ◌∷◌, ◌++◌, map, Option, Some, None}
+use Rattle.key_parts.proofs.Common.{inl, inr, refl, sym, ap, ◌∙◌, subst, ⊎_elim, arith, ◌≢◌, ◌⊎◌, All, AllPairs, Contains, eqb-true, All-nil}
+use Rattle.key_parts.proofs.Common.{All-cons, All-head, All-contains, Contains-append_cases, Contains-append_left, AllPairs-cons, Contains-map}
+use Rattle.key_parts.proofs.Common.{Contains-from_map, AllPairs-nil, AllPairs-head, AllPairs-back, AllPairs-across, All-from_contains, Contains-nil}
+use Rattle.key_parts.proofs.Common.{Contains-first, Contains-later, Contains-cases, Contains-split, KeyedCall, Effect, no_effect, IsNoEffect}
+use Rattle.key_parts.proofs.Common.{IsFormed, precedes, is_completed, is_same_value, read_of, FitInTurn, left_by, KeepPrecedence, HasKeyedOrder}
+use Rattle.key_parts.proofs.Common.{AreKeyedCalls, IsLater, HaveGrown, Choice, at_first, rest_of, Agrees, GoesOn, Keys, bool_cases, same_values}
+use Rattle.key_parts.proofs.Common.{none_none, fit-back, Part, IsAt, IsOneOf, choices_of, StandFor, left_at, AgreesAt, SomePastGoesOn, IsLeftAt}
+use Rattle.key_parts.proofs.Common.{NoneIsLeftAt, MayComeNext, IsAfterCall, PartsMayBeTied, PastsMayStay, TiedCallsMayWait, EarlyReadsGain}
 use Rattle.std.proofs.lemmas.Option.{none-some, same_Some}
-use Rattle.std.proofs.lemmas.List.Elements.{All-nil, All-cons, All-head, All-contains, Contains-append_cases, Contains-append_left}
-use Rattle.std.proofs.lemmas.List.Kept.{AllPairs-cons}
-use Rattle.list_laws.proofs.FilterLemmas.{Contains-map, Contains-from_map}
-use Rattle.list_laws.proofs.Lists.{AllPairs-nil, AllPairs-head, AllPairs-back, AllPairs-across, All-from_contains, Contains-nil, Contains-first, Contains-later, Contains-cases, Contains-split}
-use Rattle.key_effects.specs.KeyedCalls.{KeyedCall, Effect, no_effect, IsNoEffect, IsFormed, precedes, is_completed, is_same_value, read_of}
-use Rattle.key_effects.specs.KeyedOrders.{FitInTurn, left_by, KeepPrecedence, HasKeyedOrder, AreKeyedCalls}
-use Rattle.key_effects.specs.Growth.{IsLater, HaveGrown}
-use Rattle.key_effects.specs.Choices.{Choice, at_first, rest_of, Agrees, GoesOn}
-use Rattle.key_effects.specs.Cuts.{Keys}
-use Rattle.key_effects.proofs.DeadLemmas.{bool_cases}
-use Rattle.key_effects.proofs.EffectLemmas.{same_values}
-use Rattle.key_effects.proofs.RestLemmas.{none_none}
-use Rattle.key_effects.proofs.TurnLemmas.{fit-back}
-use Rattle.key_parts.specs.Parts.{Part, IsAt, IsOneOf, choices_of, StandFor, left_at, AgreesAt, SomePastGoesOn}
-use Rattle.key_parts.specs.Steps.{IsLeftAt, NoneIsLeftAt, MayComeNext, IsAfterCall}
-use Rattle.key_parts.specs.Laws.{PartsMayBeTied, PastsMayStay, TiedCallsMayWait, EarlyReadsGain}
 use Rattle.key_parts.proofs.PartLemmas.{all_keys, at_self, at_back, same_goes_on, fit_none, none_left_out, stand_below}
 use Rattle.key_parts.proofs.StepLemmas.{parts_begin, parts_stay, parts_unite}
 
@@ -59,7 +49,7 @@ grown_first calls formed apart = record {
   apart = apart;
 }
 
--- so the part of all keys, of one past, stands for them
+-- the part of all keys, with one past, represents them
 stands_first : (place : ℕ) (calls : List KeyedCall) → All IsFormed calls → AreKeyedCalls calls
     → StandFor nothing place calls (first_part all_keys ∷ [])
 stands_first place calls formed apart =
@@ -202,7 +192,7 @@ order_of_get = (
   },
 )
 
--- where 5 is there, what is left has no order
+-- if 5 is there, what is left has no order
 never_after : HasKeyedOrder with_five.holds (map (rest_of with_five) (pending ∷ get ∷ [])) → ⊥
 never_after (order, is) =
     by_order order (is.complete found (Contains-later (rest_of with_five pending) (found ∷ []) found (Contains-first found [])) refl)
@@ -275,7 +265,7 @@ stays_five P key (x ∷ xs) stays known =
     ap (λ (v : Option ℕ). left_by key v xs) (stays x (known x (Contains-first x xs)))
     ∙ stays_five P key xs stays (λ y y_in. known y (Contains-later x xs y y_in))
 
--- so it is there after a call that puts it there
+-- the value is there after a call that puts it there
 five_after : (P : KeyedCall → Type 0) (key : ℕ) (xs : List KeyedCall) (x : KeyedCall)
     → ((y : KeyedCall) → P y → (y.effect key).leaves (Some 5) ≡ Some 5) → ((y : KeyedCall) → Contains xs y → P y) → Contains xs x
     → ((value : Option ℕ) → (x.effect key).leaves value ≡ Some 5) → (value : Option ℕ) → left_by key value xs ≡ Some 5
@@ -335,7 +325,7 @@ after_none = record {
   found = λ key is taken concerned. refl;
 }
 
--- it goes on to an order, where the get was taken before the insert
+-- the choice goes on to an order, in which the get was taken before the insert
 goes_on_early : GoesOn with_none (put ∷ get ∷ [])
 goes_on_early = (
   All-cons (Agrees with_none) put (get ∷ []) (record { accepted = λ key taken. refl; fits = λ key taken. cc })
@@ -407,7 +397,7 @@ first_in = Contains-later scan (first ∷ second ∷ []) first (Contains-first f
 second_in : Contains tied second
 second_in = Contains-later scan (first ∷ second ∷ []) second (Contains-later first (second ∷ []) second (Contains-first second []))
 
--- what is so of each of three calls, and of each two, is so of all
+-- what holds of each of three calls, and of each two, holds of all
 all_three : (P : KeyedCall → Type 0) (a b c : KeyedCall) → P a → P b → P c → All P (a ∷ b ∷ c ∷ [])
 all_three P a b c p q r = All-cons P a (b ∷ c ∷ []) p (All-cons P b (c ∷ []) q (All-cons P c [] r (All-nil P)))
 
@@ -439,7 +429,7 @@ grown_tied = grown_same 6 tied (all_three (λ a. a.inv < 6) scan first second (o
     (λ e. let r : 2 ≡ res = same_Some 2 res e in omega arith) (λ e. let r : 4 ≡ res = same_Some 4 res e in omega arith) a a_in is)
     formed_tied keyed_tied
 
--- they have no order: the second must come before the scan, and the first after it
+-- the three calls have no order: the second must come before the scan, and the first after it
 never_tied : HasKeyedOrder nothing tied → ⊥
 never_tied (order, is) =
     let (before, after, parts) = Contains-split order scan (is.complete scan scan_in refl) in
@@ -482,7 +472,7 @@ never_tied (order, is) =
         five : left_by 1 None before ≡ Some 5
         five = told_before 1 (Some 5) before after scan (λ value. refl) (subst (λ (xs : List KeyedCall). FitInTurn 1 None xs) parts (is.fit 1))
 
--- but each of two parts has one: key 0, and the other keys
+-- each of two parts has an order: key 0, and the other keys
 abbrev zero_keys : Keys
 zero_keys key = 0 == key
 
@@ -547,7 +537,7 @@ order_of_rest = (
     by_key key (inr is) (inl one) = subst (λ (k : ℕ). FitInTurn k None turned) (eqb-true 1 key one) (refl, (refl, (refl, tt)))
     by_key key (inr is) (inr not_one) = (rw is refl, (rw (is, not_one) refl, (rw (is, not_one) refl, tt)))
 
--- and these parts stand for the calls, as one part of all keys does
+-- these parts represent the calls, as one part of all keys does
 two_parts : StandFor nothing 6 tied (first_part zero_keys ∷ first_part rest_keys ∷ [])
 two_parts =
     (parts_unite nothing 6 tied (first_part zero_keys) (first_part rest_keys)

@@ -68,7 +68,7 @@ OtherCallsAreAnswered =
     → IsLeft keys past limit (front ++ keyed o ∷ back) pairs left
     → IsLeft keys past limit (front ++ keyed (answered response o) ∷ back) pairs left
 
--- a call that is refused is left no more; nor is one that was not among what is left
+-- a call that is refused is no longer left; a call that was not left stays so
 abbrev pub RefusedCallsAreNotLeft : Type 0
 RefusedCallsAreNotLeft =
     (keys : Keys) (past : Choice) (limit : ℕ) (front back : List KeyedCall) (pairs : Contents) (before after : List Operation) (o : Operation)
@@ -97,7 +97,7 @@ LeftCallsUnite =
     → IsLeft keys a limit calls pairs left → IsLeft others b limit calls other_pairs other_left
     → IsLeft (λ key. keys key || others key) c limit calls both all
 
--- and falls apart where each call that is left has keys of one of both alone
+-- what is left splits in two if each call that is left has keys of only one of two sets
 abbrev pub LeftCallsPart : Type 0
 LeftCallsPart =
     (keys others : Keys) (past : Choice) (limit : ℕ) (calls : List KeyedCall) (pairs : Contents) (left some : List Operation)

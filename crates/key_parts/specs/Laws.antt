@@ -19,7 +19,7 @@ use Rattle.key_parts.specs.Wider.{AnyPartsDecide, PendingCallsMustCome, TiedCall
 abbrev pub PartsBegin : Type 0
 PartsBegin = (held : ℕ → Option ℕ) → StandFor held 0 [] (record { keys = λ key. true; pasts = at_first held ∷ [] } ∷ [])
 
--- parts that stand for the calls do so with further events
+-- parts that represent the calls do so with further events
 abbrev pub PartsStay : Type 0
 PartsStay =
     (held : ℕ → Option ℕ) (place next : ℕ) (calls more : List KeyedCall) (parts : List Part) → place ≤ next → HaveGrown place calls more
@@ -48,8 +48,8 @@ DeadPastsGo =
     → StandFor held place calls (record { keys = keys; pasts = pasts } ∷ rest)
     → StandFor held place calls (record { keys = keys; pasts = left } ∷ rest)
 
--- where some call that was answered must still come at some of a part's keys, a past becomes those that it comes to by each call that may come
--- next there: these began before that answer
+-- Suppose that some call that was answered must still come at some of a part's keys. Then a past
+-- becomes the pasts after each call that may come next there; these calls began before that answer.
 abbrev pub CallsComeNext : Type 0
 CallsComeNext =
     (held : ℕ → Option ℕ) (place limit : ℕ) (calls : List KeyedCall) (keys some : Keys) (past : Choice) (others nexts : List Choice)
@@ -64,8 +64,10 @@ CallsComeNext =
     → StandFor held place calls (record { keys = keys; pasts = past ∷ others } ∷ rest)
     → StandFor held place calls (record { keys = keys; pasts = nexts ++ others } ∷ rest)
 
--- where that call is the first that ended of those left at the part's keys, a call may be left at these keys and at others of the part if it is barred
--- at these; then the past becomes those by each call that is left at some of these keys and may come next at all keys of the part
+-- Suppose that this call is the first that ended of those left at the part's keys. Then a call may
+-- be left at these keys and at others of the part, if it is barred at these. The past becomes the
+-- pasts after each call that is left at some of these keys and may come next at all keys of the
+-- part.
 abbrev pub UnbarredCallsComeNext : Type 0
 UnbarredCallsComeNext =
     (held : ℕ → Option ℕ) (place answered : ℕ) (calls : List KeyedCall) (keys some : Keys) (past : Choice) (others nexts : List Choice)
@@ -82,11 +84,12 @@ UnbarredCallsComeNext =
     → StandFor held place calls (record { keys = keys; pasts = past ∷ others } ∷ rest)
     → StandFor held place calls (record { keys = keys; pasts = nexts ++ others } ∷ rest)
 
--- of calls of a history it is known whether something is left of them
+-- for the calls of a history it is known whether something is left of them
 abbrev pub CallsAreKnown : Type 0
 CallsAreKnown = (keys : Keys) (place : ℕ) (past : Choice) (calls : List Operation) → AreKnownAt keys place past (map keyed calls)
 
--- a read that was answered, and may come next at some of a part's keys, may be taken at once, and no other call in its stead
+-- a read that was answered, and may come next at some of a part's keys, may be taken at once, and
+-- no other call instead
 abbrev pub ReadsComeNext : Type 0
 ReadsComeNext =
     (held : ℕ → Option ℕ) (place limit : ℕ) (calls : List KeyedCall) (keys some : Keys) (past next : Choice) (others : List Choice)
@@ -119,24 +122,27 @@ OperationsDecide =
     → AllPairs (λ a b. a.inv < b.inv) calls → AreLeftCalls keys past calls pairs left
     → HasKeyedOrder past.holds (map (left_at keys past) calls) ↔ IsLinearizable pairs left
 
--- but where a call is left at the keys of two parts, each may have a past that goes on, and the calls no order
+-- If a call is left at the keys of two parts, each part may have a past that goes on, although the
+-- calls have no order.
 abbrev pub PartsMayBeTied : Type 0
 PartsMayBeTied = AnyPartsDecide → ⊥
 
--- where no call that is left was answered, none need come, and a past that goes may be lost
+-- if no call that is left was answered, none need come, and a past that goes may be lost
 abbrev pub PastsMayStay : Type 0
 PastsMayStay = PendingCallsMustCome → ⊥
 
--- where a call is left at some keys and at others, it may have to wait for calls at the others, and a past that goes may be lost
+-- if a call is left at some keys and at others, it may have to wait for calls at the others, and a
+-- past that goes may be lost
 abbrev pub TiedCallsMayWait : Type 0
 TiedCallsMayWait = TiedCallsComeNext → ⊥
 
--- and a read that is taken too early may gain an order
+-- a read that is taken too early may gain an order
 abbrev pub EarlyReadsGain : Type 0
 EarlyReadsGain = ReadsAreTakenAtOnce → ⊥
 
--- of the calls that began before a place, those that may come next at some of the keys are those whose operations may, where these operations
--- have no other keys; so at the others nothing is left of such a call
+-- Of the calls that began before a place, those that may come next at some of the keys are those
+-- whose operations may, if these operations have no other keys. So at the other keys nothing is
+-- left of such a call.
 abbrev pub OperationsMayCome : Type 0
 OperationsMayCome =
     (keys some : Keys) (past : Choice) (limit : ℕ) (calls : List KeyedCall) (pairs : Contents) (left : List Operation)
@@ -149,8 +155,8 @@ OperationsMayCome =
     → (a : KeyedCall) × Contains calls a × IsAlikeAt keys (left_at keys past a) (keyed o) × IsWithin some (left_at keys past a)
     × MayComeNext some past calls a)
 
--- an operation whose call may come next at some of the keys, and is left at these alone, leads to what is left after its call: the map after it,
--- and the other operations
+-- An operation whose call may come next at some of the keys, and is left only at these, leads to
+-- what is left after its call: the map after it, and the other operations.
 abbrev pub OperationsComeNext : Type 0
 OperationsComeNext =
     (keys some : Keys) (past : Choice) (limit : ℕ) (calls : List KeyedCall) (pairs : Contents) (left : List Operation) (a : KeyedCall)

@@ -12,8 +12,8 @@ use Rattle.key_effects.specs.Apart.{IsAlikeAt}
 use Rattle.key_parts.specs.Parts.{left_at}
 use Rattle.key_parts.specs.Steps.{IsLeftAt}
 
--- the map holds what the keys hold, and nothing else; the operations are alike at the keys to what is left there of calls, but for such as
--- have no effect
+-- The map holds what the keys hold, and nothing else. The operations are alike at the keys to what
+-- is left there of calls, except of calls that have no effect.
 pub record AreLeftCalls (keys : Keys) (past : Choice) (calls : List KeyedCall) (pairs : Contents) (left : List Operation) : Type 0 where
   pub rises : IsRising pairs
   pub same : (key : ℕ) → keys key ≡ true → value_at pairs key ≡ past.holds key
@@ -31,7 +31,7 @@ AreOfLeftCalls keys past calls left =
     (o : Operation) → Contains left o
     → (a : KeyedCall) × Contains calls a × (a.refused ≡ false) × IsLeftAt keys past a × IsAlikeAt keys (left_at keys past a) (keyed o)
 
--- of the calls that began before a place, and were not refused, all that is left is among the operations
+-- the operations have all that is left of the calls that began before a place and were not refused
 abbrev pub AreAllLeft : Keys → Choice → ℕ → List KeyedCall → List Operation → Type 0
 AreAllLeft keys past limit calls left =
     (a : KeyedCall) → Contains calls a → a.inv < limit → a.refused ≡ false → IsLeftAt keys past a

@@ -38,14 +38,16 @@ pub record AreSomeOf (w : Choice) (calls some : List KeyedCall) : Type 0 where
   pub taken : (a : KeyedCall) (key : ℕ) → Contains calls a → w.taken a.inv key ≡ true → Contains some a
   pub distinct : AreDistinct some
 
--- each of some choices is reached: whatever events follow, and whichever calls are left out that it did not take, where it goes on to an order of the
--- others, these have one. So it does where all are left out that it did not take: these calls have an order that leads to it.
+-- Each of some choices is reached. Whatever events follow, take all calls that the choice took, and
+-- any others. If the choice goes on to an order of these calls, they have an order. So the calls
+-- that it took, without any others, have an order that leads to it.
 abbrev pub AreReached : (ℕ → Option ℕ) → ℕ → List KeyedCall → Choices → Type 0
 AreReached held place calls choices =
     (more some : List KeyedCall) (w : Choice) → HaveGrown place calls more → choices w → AreSomeOf w more some → GoesOn w some
     → HasKeyedOrder held some
 
--- parts stand for the calls so far, whatever events follow: their choices stand above the calls, and each of them is reached
+-- parts represent the calls so far, whatever events follow: their choices are above the calls, and
+-- each of them is reached
 pub record StandFor (held : ℕ → Option ℕ) (place : ℕ) (calls : List KeyedCall) (parts : List Part) : Type 0 where
   pub shared : ShareKeys parts
   pub above : StandAbove held place calls (choices_of parts)
@@ -67,7 +69,8 @@ GoesOnAt keys past calls = All (AgreesAt keys past) calls × HasKeyedOrder past.
 abbrev pub SomePastGoesOn : List KeyedCall → Part → Type 0
 SomePastGoesOn calls part = (past : Choice) × Contains part.pasts past × GoesOnAt part.keys past calls
 
--- as far as it is left, a call concerns keys of one part alone; but for such as were refused, and reads that are pending
+-- As far as it is left, a call concerns keys of only one part. Calls that were refused and pending
+-- reads are excepted.
 abbrev pub IsOfOnePart : List Part → Choice → KeyedCall → Type 0
 IsOfOnePart parts w a =
     (a.refused ≡ true)

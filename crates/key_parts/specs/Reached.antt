@@ -6,8 +6,9 @@ use Rattle.key_effects.specs.Growth.{HaveGrown}
 use Rattle.key_effects.specs.Choices.{Choice, Agrees, rest_of}
 use Rattle.key_parts.specs.Parts.{Part, AreSomeOf, choices_of, StandFor}
 
--- some calls lead to a choice, where the keys hold these values at first: they have an order with all of them, in which the pending ones find what
--- the choice says that they found, and which leaves what it holds
+-- Some calls lead to a choice, from the values that the keys hold at first. They have an order with
+-- all of them. In it the pending ones find what the choice says that they found, and it leaves what
+-- the choice holds.
 pub record Lead (held : ℕ → Option ℕ) (some : List KeyedCall) (w : Choice) : Type 0 where
   pub order : List KeyedCall
   pub is_order : IsKeyedOrder held some order
@@ -29,7 +30,7 @@ pub record AreAllTaken (calls some : List KeyedCall) (w : Choice) : Type 0 where
   pub none : (a : KeyedCall) (key : ℕ) → Contains some a → IsNoEffect ((rest_of w a).effect key)
   pub known : (inv key : ℕ) → w.taken inv key ≡ true → (a : KeyedCall) × Contains calls a × (a.inv ≡ inv) × (a.concerns key ≡ true)
 
--- each choice of parts that stand for the calls is reached: those lead to it that it took
+-- each choice of parts that represent the calls is reached: the calls that it took lead to it
 abbrev pub ChoicesAreReached : Type 0
 ChoicesAreReached =
     (held : ℕ → Option ℕ) (place : ℕ) (calls some : List KeyedCall) (parts : List Part) (w : Choice) → HaveGrown place calls calls

@@ -13,8 +13,8 @@ IsLeftAt keys past a = (key : ℕ) × (keys key ≡ true) × ((rest_of past a).c
 abbrev pub NoneIsLeftAt : Keys → Choice → KeyedCall → Type 0
 NoneIsLeftAt keys past a = (key : ℕ) → keys key ≡ true → (rest_of past a).concerns key ≡ false
 
--- at these keys a call may come next: something of it is left there, it was not refused, it fits what the keys hold, and of no call that
--- precedes it is anything left there
+-- At these keys a call may come next: something of it is left there, it was not refused, and it
+-- fits what the keys hold. Nothing is left there of a call that precedes it.
 pub record MayComeNext (keys : Keys) (past : Choice) (calls : List KeyedCall) (a : KeyedCall) : Type 0 where
   pub is_left : IsLeftAt keys past a
   pub accepted : a.refused ≡ false
@@ -28,7 +28,8 @@ pub record IsAfterCall (keys : Keys) (past : Choice) (a : KeyedCall) (next : Cho
   pub found_before : (inv key : ℕ) → keys key ≡ true → past.taken inv key ≡ true → next.found inv key ≡ past.found inv key
   pub found : (key : ℕ) → keys key ≡ true → past.taken a.inv key ≡ false → a.concerns key ≡ true → next.found a.inv key ≡ past.holds key
 
--- of calls that began before a place, and were not refused, it is known whether something is left of them at these keys
+-- for the calls that began before a place, and were not refused, it is known whether something is
+-- left of them at these keys
 abbrev pub AreKnownAt : Keys → ℕ → Choice → List KeyedCall → Type 0
 AreKnownAt keys place past calls =
     (a : KeyedCall) → Contains calls a → a.inv < place → a.refused ≡ false → IsLeftAt keys past a ⊎ NoneIsLeftAt keys past a
@@ -43,8 +44,8 @@ ArePartedBefore keys place parts calls =
 abbrev pub IsBarredAt : Keys → Choice → KeyedCall → Type 0
 IsBarredAt keys past a = (key : ℕ) × (keys key ≡ true) × (((rest_of past a).effect key).fits (past.holds key) ≡ false)
 
--- calls that began before a place, were not refused, and are left at some of a part's keys, are left at no others of the part, or are barred at
--- some of these
+-- Take the calls that began before a place, were not refused, and are left at some of a part's
+-- keys. They are left at no others of the part, or are barred at some of these.
 abbrev pub AreOwnOrBarred : Keys → Keys → ℕ → Choice → List KeyedCall → Type 0
 AreOwnOrBarred keys some place past calls =
     (b : KeyedCall) → Contains calls b → b.inv < place → b.refused ≡ false → IsLeftAt some past b

@@ -10,7 +10,7 @@ use Rattle.outcomes.specs.Outcomes.{IsReadOutcome}
 use Rattle.answer_hints.specs.Outcomes.{IsHintedRead}
 use Rattle.line_outcomes.specs.Outcomes.{IsAskedOutcome, IsFaultOutcome, IsWordsOutcome}
 
--- of a subcommand that reads a text
+-- the outcome of a subcommand that reads a text
 pub read-words : (L : Line → Change → RunOutcome → Type 0) (A : List ℕ → Answer → List ℕ → Type 0) (R : List ℕ → List ℕ → List ℕ → Type 0)
     (words : List Text) (source : Change) (outcome : RunOutcome)
     → (IsReadOutcome A R source outcome → IsAskedOutcome L words source outcome) → IsReadOutcome A R source outcome
@@ -24,7 +24,7 @@ read-words L A R words source (Words text) ask (inl unread) = absurd unread
 read-words L A R words source (Words text) ask (inr read) = absurd read.1
 read-words L A R words source Failed ask comes = ask comes
 
--- of one whose answers may have hints
+-- the outcome of a subcommand whose answers may have hints
 pub hinted-words : (L : Line → Change → RunOutcome → Type 0) (A : List ℕ → Answer → List ℕ → List ℕ → Type 0)
     (R : List ℕ → List ℕ → List ℕ → Type 0) (words : List Text) (source : Change) (outcome : RunOutcome)
     → (IsHintedRead A R source outcome → IsAskedOutcome L words source outcome) → IsHintedRead A R source outcome
@@ -38,7 +38,7 @@ hinted-words L A R words source (Words text) ask (inl unread) = absurd unread
 hinted-words L A R words source (Words text) ask (inr read) = absurd read.1
 hinted-words L A R words source Failed ask comes = ask comes
 
--- of words that ask for no line
+-- the outcome of words that ask for no line
 pub fault-words : (L : Line → Change → RunOutcome → Type 0) (words : List Text) (source : Change) (outcome : RunOutcome)
     → IsFaultOutcome words outcome → IsSound source → IsWordsOutcome L words source outcome
 fault-words L words source (Answered answer bytes) fault sound = absurd fault

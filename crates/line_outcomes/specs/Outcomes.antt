@@ -9,8 +9,7 @@ use Rattle.outcomes.specs.declared.outcome.RunOutcome.{RunOutcome}
 use Rattle.outcomes.specs.declared.outcome.RunOutcome.TheVariants.{Memory, Words}
 use Rattle.outcomes.specs.Ends.{Change, IsSound, IsUnused}
 
--- the outcome of words that ask for no line: they have a fault, with this text; or memory was
--- wanting
+-- the outcome of words that ask for no line: they have a fault, with this text; or memory ran out
 abbrev pub IsFaultOutcome : List Text → RunOutcome → Type 0
 IsFaultOutcome words (Words text) = IsFaultAt words (words_faults.Line text)
 IsFaultOutcome words Memory = ⊤
@@ -24,15 +23,15 @@ pub record IsAskedOutcome (IsLineOutcome : Line → Change → RunOutcome → Ty
   pub asked : IsLineOf words line
   pub comes : IsLineOutcome line source outcome
 
--- the outcome of a run with these words: what they ask for, or the fault that they have; want of
--- memory may come in reading them, or in doing what they ask
+-- the outcome of a run with these words: what they ask for, or the fault that they have; memory may
+-- run out in reading them, or in doing what they ask
 abbrev pub IsWordsOutcome : (Line → Change → RunOutcome → Type 0) → List Text → Change → RunOutcome → Type 0
 IsWordsOutcome IsLineOutcome words source (Words text) = IsFaultAt words (words_faults.Line text) × IsSound source
 IsWordsOutcome IsLineOutcome words source Memory = IsSound source
 IsWordsOutcome IsLineOutcome words source outcome = IsAskedOutcome IsLineOutcome words source outcome
 
--- the outcome of a line that a part of the program does not do: it is told this, or memory was
--- wanting
+-- the outcome of a line that a part of the program does not do: it prints this text, or memory ran
+-- out
 abbrev pub IsElsewhereOutcome : List ℕ → RunOutcome → Type 0
 IsElsewhereOutcome told (Words text) = string_bytes text ≡ told
 IsElsewhereOutcome told Memory = ⊤
@@ -48,8 +47,8 @@ pub record AsksElsewhere (IsElsewhere : Line → Type 0) (told : List ℕ) (word
   pub comes : IsElsewhereOutcome told outcome
   pub unused : IsUnused source
 
--- the outcome of a run of a part of the program with these words: what they ask for, or the fault
--- that they have, or that they ask for what the part does not do
+-- The outcome of a run of a part of the program with these words: what they ask for; or the fault
+-- that they have; or that they ask for what the part does not do.
 abbrev pub IsPartOutcome : (Line → Change → RunOutcome → Type 0) → (Line → Type 0) → List ℕ → List Text → Change → RunOutcome → Type 0
 IsPartOutcome IsLineOutcome IsElsewhere told words source outcome =
     IsWordsOutcome IsLineOutcome words source outcome ⊎ AsksElsewhere IsElsewhere told words source outcome

@@ -1,8 +1,6 @@
-//! From the words of the command line to the line that they ask for, or to how the run comes out
-//! without one.
-//!
-//! What a program does for a line is its own; that it comes out as the words ask for is said here
-//! once, over what a line asks.
+//! From the words of the command line to the line that they ask for, or to the outcome without one.
+//! What a program does for a line is its own. Only here is it said, over what a line asks for, that
+//! the outcome is what the words ask for.
 #![tactic(auto)]
 
 mod asking;

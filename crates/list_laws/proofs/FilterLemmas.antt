@@ -184,7 +184,7 @@ AllPairs-from_map R f (x ∷ xs) h =
     (λ z is. All-contains (R (f x)) (map f xs) (f z) (AllPairs-head R (f x) (map f xs) h) (Contains-map f xs z is)))
     (AllPairs-from_map R f xs (AllPairs-tail R (f x) (map f xs) h))
 
--- two lists that are kept alike behind one element are kept alike
+-- two lists that are kept alike after one element are kept alike
 pub filter_rest : {X : Type 0} (b : Bool) (x : X) (xs ys : List X) → cond b (x ∷ xs) xs ≡ cond b (x ∷ ys) ys → xs ≡ ys
 filter_rest true x xs ys h = cc
 filter_rest false x xs ys h = h

@@ -84,11 +84,11 @@ Contains-cases y xs x (suc k, within, is) = inr (k, omega arith, is)
 pub All-from_contains : {X : Type 0} (P : X → Type 0) (xs : List X) → ((x : X) → Contains xs x → P x) → All P xs
 All-from_contains P xs h k d within = h (get_or xs k d) (Contains-get_or xs k d within)
 
--- what stands at a place of a list is in it
+-- what is at a place of a list is in it
 pub Contains-at : {X : Type 0} (xs : List X) (i : ℕ) (x : X) → slice_get xs i ≡ Some x → Contains xs x
 Contains-at xs i x h = (i, slice_get_within xs i x h, get_or_from_slice_get xs i x x h)
 
--- what is in a list stands at a place of it
+-- what is in a list is at a place of it
 pub place_of-Contains : {X : Type 0} (xs : List X) (x : X) → Contains xs x → (i : ℕ) × (slice_get xs i ≡ Some x)
 place_of-Contains xs x h = (h.0, slice_get-get_or xs h.0 x h.1 ∙ ap Some h.2)
 
@@ -123,11 +123,11 @@ slice_get-take (suc i) [] j h = refl
 slice_get-take (suc i) (x ∷ xs) zero h = refl
 slice_get-take (suc i) (x ∷ xs) (suc j) h = slice_get-take i xs j (omega arith)
 
--- what stands before a place of a list is in the part before it
+-- what comes before a place of a list is in the part before it
 pub Contains-take : {X : Type 0} (xs : List X) (i j : ℕ) (x : X) → j < i → slice_get xs j ≡ Some x → Contains (take i xs) x
 Contains-take xs i j x before h = Contains-at (take i xs) j x (slice_get-take i xs j before ∙ h)
 
--- what is in the part before a place stands at an earlier one
+-- what is in the part before a place is at an earlier one
 pub place_before-Contains : {X : Type 0} (xs : List X) (i : ℕ) (x : X) → Contains (take i xs) x → (j : ℕ) × (j < i)
     × (slice_get xs j ≡ Some x)
 place_before-Contains xs i x h =
@@ -135,7 +135,7 @@ place_before-Contains xs i x h =
     let before : at.0 < i = omega (arith, slice_get_within (take i xs) at.0 x at.1, length-take i xs) in
     (at.0, before, sym (slice_get-take i xs at.0 before) ∙ at.1)
 
--- what stands at an earlier place is related to what stands at a later one
+-- what is at an earlier place is related to what is at a later one
 pub AllPairs-at : {X : Type 0} (R : X → X → Type 0) (xs : List X) (i j : ℕ) (x y : X) → AllPairs R xs → i < j → slice_get xs i ≡ Some x
     → slice_get xs j ≡ Some y → R x y
 AllPairs-at R xs i j x y h before first second =
@@ -143,17 +143,17 @@ AllPairs-at R xs i j x y h before first second =
     subst (λ z. R x z) (get_or_from_slice_get xs j y x second)
     (subst (λ z. R z (get_or xs j x)) (get_or_from_slice_get xs i x x first) (h i j x before within))
 
--- a relation of what stands at each two places is one of all pairs
+-- a relation of what is at each two places is one of all pairs
 pub AllPairs-from_at : {X : Type 0} (R : X → X → Type 0) (xs : List X)
     → ((i j : ℕ) (x y : X) → i < j → slice_get xs i ≡ Some x → slice_get xs j ≡ Some y → R x y) → AllPairs R xs
 AllPairs-from_at R xs h i j d before within =
     h i j (get_or xs i d) (get_or xs j d) before (slice_get-get_or xs i d (omega arith)) (slice_get-get_or xs j d within)
 
--- what holds of all elements holds of what stands at a place
+-- what holds of all elements holds of what is at a place
 pub All-at : {X : Type 0} (P : X → Type 0) (xs : List X) (i : ℕ) (x : X) → All P xs → slice_get xs i ≡ Some x → P x
 All-at P xs i x h here = subst P (get_or_from_slice_get xs i x x here) (h i x (slice_get_within xs i x here))
 
--- the element after a front stands at the front's length
+-- the element after a front is at the front's length
 pub slice_get-middle : {X : Type 0} (xs : List X) (y : X) (ys : List X) → slice_get (xs ++ y ∷ ys) (length xs) ≡ Some y
 slice_get-middle [] y ys = refl
 slice_get-middle (x ∷ xs) y ys = slice_get-middle xs y ys

@@ -101,7 +101,7 @@ greatest_is key (z ∷ w ∷ xs) x h =
     ⊎_elim (λ less. (y, Contains-later z (w ∷ xs) y is, omega arith)) (λ more. (z, Contains-first z (w ∷ xs), omega arith))
     (cases_lt (key z) (key y))
 
--- of two numbers that differ, neither is the other
+-- if two numbers differ, neither is the other
 differ : (m n : ℕ) → m < n → ((m == n) ≡ false) × ((n == m) ≡ false)
 differ m n less = (ne_eqb m n (λ same. omega arith), ne_eqb n m (λ same. omega arith))
 

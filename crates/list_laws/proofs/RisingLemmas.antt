@@ -25,7 +25,7 @@ members_after x xs ys low same n h =
     ⊎_elim (λ is. absurd (omega (arith, is, All-contains (λ n. x < n) xs n low h))) (λ later. later)
     (Contains-cases x ys n (same n (Contains-later x xs n h)))
 
--- of two lists whose numbers rise, each member of the one a member of the other, both are the same
+-- two rising lists of numbers with the same members are the same
 unique_by_pairs : (xs ys : List ℕ) → AllPairs (λ m n. m < n) xs → AllPairs (λ m n. m < n) ys → ((n : ℕ) → Contains xs n → Contains ys n)
     → ((n : ℕ) → Contains ys n → Contains xs n) → xs ≡ ys
 unique_by_pairs [] [] up_x up_y to from = refl

@@ -13,7 +13,7 @@ zip_left R (z ∷ xs) [] i x h is = absurd h
 zip_left R (z ∷ xs) (y ∷ ys) zero x h is = (y, refl, subst (λ w. R w y) (same_Some z x is) h.0)
 zip_left R (z ∷ xs) (y ∷ ys) (suc i) x h is = zip_left R xs ys i x h.1 is
 
--- and the other way round
+-- each element of the second of two lists has the one of the first at its place
 pub zip_right : {A B : Type 0} (R : A → B → Type 0) (xs : List A) (ys : List B) (i : ℕ) (y : B) → AllZip R xs ys
     → slice_get ys i ≡ Some y → (x : A)
     × (slice_get xs i ≡ Some x) × R x y

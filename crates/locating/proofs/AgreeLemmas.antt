@@ -1,15 +1,7 @@
 -- Locations of one history agree.
-use Rattle.std.proofs.Common.{◌≡◌, ℕ, ◌≤◌, ⊎_elim, sym, subst}
-use Rattle.std.proofs.lemmas.Bool.{cases_lt}
-use Rattle.events.specs.HistoryView.{HistoryView}
-use Rattle.events.specs.Histories.{IsHistory}
-use Rattle.orders.specs.Orders.{IsLinearizableHistory}
-use Rattle.prefixes.specs.Laws.{AnswersHaveOneCall, OneEventGoesWrong}
-use Rattle.prefixes.specs.Prefixes.{GoesWrongAt, IsAnswerOf, prefix_of}
-use Rattle.locating.specs.Laws.{Said, SaysYes, SaysNo, SaysUndecided, said_by, DoNotContradict, LocationsAgree}
-use Rattle.locating.specs.Locations.{IsLocated}
-use Rattle.locating.specs.declared.location.Location.{Location}
-use Rattle.locating.specs.declared.location.Location.TheVariants.{Yes, No, Lost, Undecided}
+use Rattle.locating.proofs.Common.{◌≡◌, ℕ, ◌≤◌, ⊎_elim, sym, subst, cases_lt, HistoryView, IsHistory, IsLinearizableHistory, AnswersHaveOneCall}
+use Rattle.locating.proofs.Common.{OneEventGoesWrong, GoesWrongAt, IsAnswerOf, prefix_of, Said, SaysYes, SaysNo, SaysUndecided, said_by}
+use Rattle.locating.proofs.Common.{DoNotContradict, LocationsAgree, IsLocated, Location, Yes, No, Lost, Undecided}
 
 module _ (one_event : OneEventGoesWrong) (one_call : AnswersHaveOneCall) (history : HistoryView) where
   -- no more events have an order than those before the one at which the history goes wrong

@@ -1,27 +1,13 @@
 -- Bisection finds one thing in a history, and the judge's verdicts on the same events have one word.
-use Rattle.std.proofs.Common.{◌≡◌, ℕ, ◌<◌, List, [], ◌∷◌, length, take, Option, Some}
-use Rattle.std.proofs.Common.{inl, inr, refl, sym, subst, arith}
-use Rattle.std.specs.Prelude.{IsSomeAnd}
-use Rattle.std.proofs.lemmas.List.{take_all}
-use Rattle.std.proofs.lemmas.Option.{none-some}
+use Rattle.locating.proofs.Common.{◌≡◌, ℕ, ◌<◌, List, [], ◌∷◌, length, take, Option, Some, inl, inr, refl, sym, subst, arith, IsSomeAnd, take_all}
+use Rattle.locating.proofs.Common.{none-some, IsSomeAnd-within, Event, Operation, HistoryView, IsHistory, operations, Contents, IsLinearizable}
+use Rattle.locating.proofs.Common.{IsLinearizableHistory, PrefixesAreHistories, prefix_of, IsAnswerOf, OneExactVerdict, found, spent, upper, lower}
+use Rattle.locating.proofs.Common.{IsYes, IsNo, IsUndecided, IsJudged, IsJudgedWhole, IsBisected, IsLeftOpen, IsRefutedWith, IsLostBetween}
 use Rattle.std.proofs.lemmas.List.Elements.{All-nil}
-use Rattle.list_laws.proofs.NumberLemmas.{IsSomeAnd-within}
-use Rattle.events.specs.declared.event.Event.{Event}
-use Rattle.events.specs.declared.operation.Operation.{Operation}
-use Rattle.events.specs.HistoryView.{HistoryView}
-use Rattle.events.specs.Histories.{IsHistory}
-use Rattle.events.specs.Operations.{operations}
-use Rattle.map_object.specs.MapObject.{Contents}
-use Rattle.orders.specs.Orders.{IsLinearizable, IsLinearizableHistory}
-use Rattle.prefixes.specs.Laws.{PrefixesAreHistories}
-use Rattle.prefixes.specs.Prefixes.{prefix_of, IsAnswerOf}
 use Rattle.judge.specs.declared.verdict.Verdict.{Verdict}
 use Rattle.judge.specs.declared.verdict.Verdict.TheVariants.{Yes, No, Undecided}
 use Rattle.judge.specs.Exact.{AreSameVerdict, IsExactVerdict}
-use Rattle.judge.specs.Laws.{OneExactVerdict}
 use Rattle.judge.specs.Shown.{IsShown}
-use Rattle.locating.specs.Bisections.{found, spent, upper, lower}
-use Rattle.locating.specs.Bisections.{IsYes, IsNo, IsUndecided, IsJudged, IsJudgedWhole, IsBisected, IsLeftOpen, IsRefutedWith, IsLostBetween}
 
 -- all first events of a history are its events
 pub whole_events : (history : HistoryView) → take (length history.events) history.events ≡ history.events

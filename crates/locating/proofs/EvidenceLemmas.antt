@@ -1,15 +1,9 @@
 -- What shows a location.
-use Rattle.std.proofs.Common.{◌≡◌, ℕ, ◌+◌, suc, List, [], ◌∷◌, ◌++◌, length, take, Some, subst}
-use Rattle.events.specs.declared.event.Event.{Event}
-use Rattle.events.specs.declared.event.Event.TheVariants.{Answer}
-use Rattle.events.specs.HistoryView.{HistoryView}
-use Rattle.losses.specs.declared.loss.Loss.{Loss}
+use Rattle.locating.proofs.Common.{◌≡◌, ℕ, ◌+◌, suc, List, [], ◌∷◌, ◌++◌, length, take, Some, subst, Event, Answer, HistoryView, Loss, OwnPart}
+use Rattle.locating.proofs.Common.{own_part, IsLostAt, IsLossEvidence, IsOwnEvidence, ShowsNoneUpTo}
 use Rattle.losses.specs.Laws.{IsOwnPartOf, OwnPartsHaveNoOrder}
-use Rattle.losses.specs.OwnParts.{OwnPart, own_part}
-use Rattle.locating.specs.Locations.{IsLostAt}
 use Rattle.locating.specs.declared.evidence.Evidence.{Evidence}
 use Rattle.locating.specs.declared.evidence.Evidence.TheVariants.{OfEvents, OfPart, Missing}
-use Rattle.locating.specs.Evidences.{IsLossEvidence, IsOwnEvidence, ShowsNoneUpTo}
 use Rattle.locating.proofs.FormLemmas.{kept_of_own}
 use Rattle.locating.proofs.PassLemmas.{next}
 

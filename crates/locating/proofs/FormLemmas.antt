@@ -1,20 +1,11 @@
 -- Whether some map answers a call so depends on comparisons of numbers only: it does, unless that is refuted.
 use Rattle.events.specs.declared.event.Reply.TheVariants as replies
-use Rattle.std.proofs.Common.{◌≡◌, ℕ, ◌<◌, ◌≤◌, ⊎_elim, List, Some, All, ap, arith, sym, ◌∙◌}
-use Rattle.std.proofs.lemmas.Bool.{cases_lt}
-use Rattle.std.proofs.lemmas.Option.{none-some}
-use Rattle.events.specs.declared.event.Call.{Call}
-use Rattle.events.specs.declared.event.Call.TheVariants.{Get, Insert, Remove, Scan, Replace}
-use Rattle.events.specs.declared.event.Event.{Event}
-use Rattle.events.specs.declared.event.Reply.{Reply}
-use Rattle.map_object.specs.MapObject.{Contents}
+use Rattle.locating.proofs.Common.{◌≡◌, ℕ, ◌<◌, ◌≤◌, ⊎_elim, List, Some, All, ap, arith, sym, ◌∙◌, cases_lt, none-some, Call, Get, Insert, Remove}
+use Rattle.locating.proofs.Common.{Scan, Replace, Event, Reply, Contents, Loss, OwnPart, own_part, part_of, IsKeptWith, IsLost}
 use Rattle.key_effects.specs.Forms.{ArePairsOf, IsScanReply}
 use Rattle.part_pasts.specs.Pasts.{IsDead}
 use Rattle.parts.specs.Keeping.{pasts_of}
-use Rattle.losses.specs.declared.loss.Loss.{Loss}
-use Rattle.losses.specs.OwnParts.{OwnPart, own_part, part_of}
 use Rattle.monitor.specs.Calls.{MayReply}
-use Rattle.monitor.specs.Outcomes.{IsKeptWith, IsLost}
 
 less : (a b : ℕ) → ((a < b → ⊥) → ⊥) → a < b
 less a b is = ⊎_elim (λ h. h) (λ not_less. absurd (is (λ h. omega arith))) (cases_lt a b)

@@ -1,6 +1,9 @@
+mod Common
 mod AgreeLemmas
 mod BisectionLemmas
 mod EvidenceLemmas
 mod FormLemmas
 mod OneLemmas
+mod OrderLemmas
 mod PassLemmas
+mod ReportLemmas

@@ -1,15 +1,7 @@
 -- If the judge's verdicts say where a history goes wrong, its locations at that budget have one report.
-use Rattle.std.proofs.Common.{◌≡◌, ℕ, refl, sym, ◌∙◌, inl, inr}
-use Rattle.events.specs.HistoryView.{HistoryView}
-use Rattle.events.specs.Histories.{IsHistory}
-use Rattle.prefixes.specs.Laws.{PrefixesAreHistories}
-use Rattle.judge.specs.Laws.{OneExactVerdict}
-use Rattle.locating.specs.Bisections.{IsJudgedWhole, IsYes}
-use Rattle.locating.specs.Laws.{LocationsAgree, OneLocationWhereJudged}
-use Rattle.locating.specs.Locations.{IsDecidedByJudge, IsFoundAt, IsLocated}
-use Rattle.locating.specs.Reports.{location_data, no_data}
-use Rattle.locating.specs.declared.location.Location.{Location}
-use Rattle.locating.specs.declared.location.Location.TheVariants.{Yes, No, Lost, Undecided}
+use Rattle.locating.proofs.Common.{◌≡◌, ℕ, refl, sym, ◌∙◌, inl, inr, HistoryView, IsHistory, PrefixesAreHistories, OneExactVerdict, IsJudgedWhole}
+use Rattle.locating.proofs.Common.{IsYes, LocationsAgree, OneLocationWhereJudged, IsDecidedByJudge, IsFoundAt, IsLocated, location_data, no_data}
+use Rattle.locating.proofs.Common.{Location, Yes, No, Lost, Undecided}
 use Rattle.locating.proofs.BisectionLemmas.{not_yes_and_no, open_but_yes, open_but_found}
 
 module _ (one_verdict : OneExactVerdict) (prefixes : PrefixesAreHistories) (agree : LocationsAgree) (budget : ℕ) (history : HistoryView)

@@ -1,39 +1,23 @@
 -- What an event of a history makes of a monitor that has taken the events before it: it is not refused, and if the monitor ends, the history is
 -- located.
-use Rattle.std.proofs.Common.{◌≡◌, ℕ, suc, ◌+◌, ◌*◌, ◌<◌, ◌≤◌, Bool, true, false, not, ◌||◌, cond, List, [], ◌∷◌, ◌++◌, length, take, drop, Some, None}
-use Rattle.std.proofs.Common.{refl, sym, ap, ◌∙◌, subst, arith}
-use Rattle.std.specs.Prelude.{slice_get}
+use Rattle.locating.proofs.Common.{◌≡◌, ℕ, suc, ◌+◌, ◌*◌, ◌<◌, ◌≤◌, Bool, true, false, not, ◌||◌, cond, List, [], ◌∷◌, ◌++◌, length, take, drop, Some}
+use Rattle.locating.proofs.Common.{None, refl, sym, ap, ◌∙◌, subst, arith, slice_get, leb-true, le-ltb, lt-leb, take-append-drop, take_more}
+use Rattle.locating.proofs.Common.{length-take-le, slice_get_within, get_or_from_slice_get, Call, Get, Insert, Remove, Scan, Replace, Event, Invoke}
+use Rattle.locating.proofs.Common.{Answer, Reply, AreHistoryEvents, IsHistory, call_count, has_range, is_shaped, is_small, HistoryView, operations}
+use Rattle.locating.proofs.Common.{IsLinearizable, HistoriesHaveFewEvents, GoesWrongAt, IsAnswerOf, Loss, IsFollowing, IsLost, IsSpent, IsAnswered}
+use Rattle.locating.proofs.Common.{IsLeftOpen, IsAnswerFollowed, IsLostAt, IsUndecidedAt}
 use Rattle.std.proofs.Math.Seq.{drop-cons}
-use Rattle.std.proofs.lemmas.Bool.{leb-true, le-ltb, lt-leb}
-use Rattle.std.proofs.lemmas.List.{take-append-drop, take_more, length-take-le}
-use Rattle.std.proofs.lemmas.Option.{slice_get_within, get_or_from_slice_get}
-use Rattle.events.specs.declared.event.Call.{Call}
-use Rattle.events.specs.declared.event.Call.TheVariants.{Get, Insert, Remove, Scan, Replace}
-use Rattle.events.specs.declared.event.Event.{Event}
-use Rattle.events.specs.declared.event.Event.TheVariants.{Invoke, Answer}
-use Rattle.events.specs.declared.event.Reply.{Reply}
 use Rattle.events.specs.declared.fault.HistoryFault.{HistoryFault}
-use Rattle.events.specs.declared.fault.HistoryFault.TheVariants as faults
 use Rattle.events.specs.Events.{process_of}
-use Rattle.events.specs.Histories.{AreHistoryEvents, IsHistory, call_count, has_range, is_shaped, is_small}
 use Rattle.events.specs.HistoryFaults.{has_open_call, is_call_too_many, is_out_of_turn}
-use Rattle.events.specs.HistoryView.{HistoryView}
 use Rattle.events.specs.Keys.{low_key, high_key}
 use Rattle.events.specs.Limits.{call_limit}
-use Rattle.events.specs.Operations.{operations}
 use Rattle.events.proofs.HistoryLemmas.{AreHistoryEvents-next}
-use Rattle.orders.specs.Orders.{IsLinearizable}
-use Rattle.prefixes.specs.Laws.{HistoriesHaveFewEvents}
-use Rattle.prefixes.specs.Prefixes.{GoesWrongAt, IsAnswerOf}
-use Rattle.losses.specs.declared.loss.Loss.{Loss}
 use Rattle.monitor.specs.Faults.{event_limit, invocation_fault, answer_fault}
-use Rattle.monitor.specs.Following.{IsFollowing}
 use Rattle.monitor.specs.MonitorView.{MonitorView}
-use Rattle.monitor.specs.Outcomes.{IsLost, IsSpent, IsAnswered}
 use Rattle.monitor.specs.declared.answered.Answered.{Answered}
 use Rattle.monitor.specs.declared.answered.Answered.TheVariants.{Lost, Spent}
-use Rattle.locating.specs.Bisections.{IsLeftOpen}
-use Rattle.locating.specs.Locations.{IsAnswerFollowed, IsLostAt, IsUndecidedAt}
+use Rattle.events.specs.declared.fault.HistoryFault.TheVariants as faults
 
 -- an event without a fault has its range, and comes in turn
 two_tests : (s m c t : Bool) (x y z : HistoryFault)

@@ -1,9 +1,10 @@
 -- Laws of locations.
-use Rattle.std.specs.Prelude.{◌≡◌, ℕ, ◌≤◌, ⊤}
+use Rattle.std.specs.Prelude.{◌≡◌, ℕ, ◌≤◌, ⊤, true, List, Option, is_some}
 use Rattle.events.specs.HistoryView.{HistoryView}
 use Rattle.events.specs.Histories.{IsHistory}
 use Rattle.locating.specs.declared.location.Location.{Location}
 use Rattle.locating.specs.declared.location.Location.TheVariants.{Yes, No, Lost, Undecided}
+use Rattle.locating.specs.FirstOrders.{IsFoundBefore}
 use Rattle.locating.specs.Locations.{IsDecidedByJudge, IsLocated}
 use Rattle.locating.specs.Reports.{location_data}
 
@@ -42,3 +43,8 @@ abbrev pub OneLocationWhereJudged : Type 0
 OneLocationWhereJudged = (budget : ℕ) (history : HistoryView) (a b : Location) → IsHistory history → IsDecidedByJudge budget history
     → IsLocated budget history a
     → IsLocated budget history b → location_data a ≡ location_data b
+
+-- if the judge's verdicts at a budget say where a history goes wrong, an order of the events before is found
+abbrev pub OrdersAreFoundWhereJudged : Type 0
+OrdersAreFoundWhereJudged = (budget : ℕ) (history : HistoryView) (location : Location) (found : Option (List ℕ)) → IsHistory history
+    → IsLocated budget history location → IsFoundBefore budget history location found → IsDecidedByJudge budget history → is_some found ≡ true

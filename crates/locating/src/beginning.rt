@@ -16,6 +16,30 @@ pub fn history_up_to(alloc: Global, history: &History, event: usize) -> Result<H
     History::with_calls(alloc, start, events)
 }
 
+/// Returns a copy of the history of the first events, so many of them, from the same starting pairs.
+pub(crate) fn first_events(
+    alloc: Global,
+    history: &History,
+    count: usize,
+) -> Result<History, Memory>
+    ensures { IfOk result (λ h. h ≡ prefix_of history.now count) }
+{
+    prefixes_are_histories();
+    let start = Vec::from_slice(alloc, history.start())?;
+    let events = events_before(alloc, history.events(), count)?;
+    History::with_calls(alloc, start, events)
+}
+
+/// Returns copies of the events before the one at this place.
+fn events_before(alloc: Global, events: &[Event], place: usize) -> Result<Vec<Event>, Memory>
+    ensures { IfOk result (λ copies. copies.items ≡ take place events.now) }
+{
+    if events.len() <= place {
+        return copies_of(alloc, events);
+    }
+    copies_of(alloc, &events[..place])
+}
+
 /// Returns copies of the events up to the one at this place.
 fn events_up_to(alloc: Global, events: &[Event], place: usize) -> Result<Vec<Event>, Memory>
     ensures { IfOk result (λ copies. copies.items ≡ take (place + 1) events.now) }

@@ -1,5 +1,5 @@
 // Laws of locations. Each is the contract of a function that does nothing.
-ghost use Rattle.locating.specs.Laws.{LocationsAgree, OneLocationWhereJudged};
+ghost use Rattle.locating.specs.Laws.{LocationsAgree, OneLocationWhereJudged, OrdersAreFoundWhereJudged};
 
 use judge::one_exact_verdict;
 use prefixes::{answers_have_one_call, one_event_goes_wrong, prefixes_are_histories};
@@ -20,5 +20,15 @@ pub fn one_location_where_judged()
 {
     locations_agree();
     one_exact_verdict();
+    prefixes_are_histories();
+}
+
+/// If the judge's verdicts on first events at a budget say where a history goes wrong, an order of
+/// the events before is found at that budget.
+pub fn orders_are_found_where_judged()
+    ensures { OrdersAreFoundWhereJudged }
+{
+    one_exact_verdict();
+    one_event_goes_wrong();
     prefixes_are_histories();
 }

@@ -17,13 +17,15 @@ mod judging;
 mod laws;
 mod lines;
 mod location;
+mod ordering;
 mod passing;
 mod showing;
 
 pub use beginning::history_up_to;
 pub use evidence::Evidence;
 pub use judging::{locate, locate_from};
-pub use laws::{locations_agree, one_location_where_judged};
-pub use lines::location_line;
-pub use location::Location;
+pub use laws::{locations_agree, one_location_where_judged, orders_are_found_where_judged};
+pub use lines::{location_line, ordered_line};
+pub use location::{Location, OrderedLocation};
+pub use ordering::locate_ordered;
 pub use showing::evidence_of;

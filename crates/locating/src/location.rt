@@ -1,4 +1,4 @@
-// Locations of the event at which a history goes wrong.
+// Locations of the event at which a history goes wrong, and orders of the events before it.
 use losses::Loss;
 
 /// Where a history goes wrong, as far as searches within a budget find. Events and calls are
@@ -18,4 +18,13 @@ pub enum Location {
     /// the events before it are linearizable. The monitor did not find out whether they are with
     /// it: a search went beyond the budget.
     Undecided { event: usize, number: usize },
+}
+
+/// A location, with an order of the events before the one that it names.
+#[derive(Drop)]
+pub struct OrderedLocation {
+    pub location: Location,
+    /// The numbers of the calls of an order: of all events, if the history goes wrong nowhere.
+    /// `None` if the location is undecided, or no search found an order within the budget.
+    pub order: Option<Vec<u32>>,
 }

@@ -4,4 +4,4 @@
 
 mod location;
 
-pub use location::{locate_outcome, run_locate};
+pub use location::{OrderOutcome, locate_order_outcome, locate_outcome, run_locate};

@@ -1,10 +1,11 @@
 // `bench locate`: the event at which the history on the input goes wrong.
-ghost use Rattle.std.specs.Prelude.{◌≡◌, ℕ, ◌<◌, ◌≤◌, List, Some, IfOk};
+ghost use Rattle.std.specs.Prelude.{◌≡◌, ℕ, ◌<◌, ◌≤◌, List, Some, IfOk, is_some};
 ghost use Rattle.events.specs.HistoryView.{HistoryView};
 ghost use Rattle.history_engines.specs.Answers.{IsHistoryRefusal, IsTextOf};
-ghost use Rattle.location_engines.specs.Answers.{answer_of_location, IsLocateAnswer};
+ghost use Rattle.location_engines.specs.Answers.{answer_of_location, IsFoundAnswer, IsLocateAnswer, IsLocateAnswerWith};
 ghost use Rattle.location_engines.specs.Outcomes.{IsLocateOutcome};
 ghost use Rattle.history_text.specs.Limits.{text_limit};
+ghost use Rattle.locating.specs.FirstOrders.{IsOrderedLocation};
 ghost use Rattle.locating.specs.Locations.{IsLocated};
 ghost use Rattle.outcomes.specs.Ends.{change};
 ghost use Rattle.outcomes.specs.Outcomes.{IsTextOutcome};
@@ -15,7 +16,7 @@ ghost use Rattle.search.specs.Limits.{budget_limit};
 use events::Memory;
 use history_engines::refused_text;
 use history_text::{MAX_TEXT, read_history};
-use locating::{Location, locate, location_line};
+use locating::{Location, OrderedLocation, locate, locate_ordered, location_line, ordered_line};
 use outcomes::{Answer, RunOutcome, line_of, run_text};
 use std::alloc::Global;
 use streams::{Sink, Source};
@@ -23,7 +24,8 @@ use streams::{Sink, Source};
 /// Reads a history text to the end of the source, or until it is too long, and finds the event at
 /// which the history goes wrong. A verdict searches at most `budget` configurations of each
 /// segment. If one is undecided, the monitor looks, and each of its searches reaches at most
-/// `budget` configurations. It starts no thread. Returns the exit status.
+/// `budget` configurations. With `order` it also looks for an order of the events before. It starts
+/// no thread. Returns the exit status.
 pub fn run_locate<S: Source, O: Sink, F: Sink, H: Sink>(
     alloc: Global,
     source: &mut S,
@@ -31,6 +33,7 @@ pub fn run_locate<S: Source, O: Sink, F: Sink, H: Sink>(
     faults: &mut F,
     hints: &mut H,
     budget: u32,
+    order: bool,
 ) -> u8
     requires budget { (1 ≤ budget) × (budget ≤ budget_limit) }
     requires source { S.failures source.old < u64.MAX }
@@ -38,7 +41,7 @@ pub fn run_locate<S: Source, O: Sink, F: Sink, H: Sink>(
     requires faults { F.failures faults.old < u64.MAX }
     requires hints { H.failures hints.old < u64.MAX }
     ensures run { IsRun
-        (IsLocateOutcome budget (change S.remaining S.failures source.old source.new))
+        (IsLocateOutcome budget order (change S.remaining S.failures source.old source.new))
         (change O.written O.failures output.old output.new)
         (change F.written F.failures faults.old faults.new)
         (change H.written H.failures hints.old hints.new) result }
@@ -47,8 +50,20 @@ pub fn run_locate<S: Source, O: Sink, F: Sink, H: Sink>(
 {
     let answer = |text: &[u8]|
         requires { (1 ≤ budget) × (budget ≤ budget_limit) }
-    { locate_outcome(alloc, text, budget) };
+    { outcome_with(alloc, text, budget, order) };
     run_text(alloc, source, output, faults, hints, MAX_TEXT, answer)
+}
+
+/// Finds the event at which the history of a text goes wrong, and reports it, with an order of the
+/// events before it or without.
+fn outcome_with(alloc: Global, text: &[u8], budget: u32, order: bool) -> RunOutcome
+    requires { (1 ≤ budget) × (budget ≤ budget_limit) }
+    ensures { IsTextOutcome (IsLocateAnswerWith order budget) IsHistoryRefusal (Some text.now) result }
+{
+    if order {
+        return locate_order_outcome(alloc, text, budget).outcome;
+    }
+    locate_outcome(alloc, text, budget)
 }
 
 /// Finds the event at which the history of a text goes wrong, and reports it.
@@ -73,6 +88,63 @@ fn outcome_of(alloc: Global, located: Result<Location, Memory>) -> RunOutcome
     };
     match location_line(alloc, &location) {
         Ok(report) => RunOutcome::from_answer(answer_of(&location), line_of(report)),
+        Err(_) => RunOutcome::Memory,
+    }
+}
+
+/// What `locate --order` makes of a text.
+#[derive(Drop)]
+pub struct OrderOutcome {
+    /// The outcome.
+    pub outcome: RunOutcome,
+    /// Whether it has an order.
+    pub is_found: bool,
+}
+
+/// Finds the event at which the history of a text goes wrong, and an order of the events before it,
+/// and reports them.
+pub fn locate_order_outcome(alloc: Global, text: &[u8], budget: u32) -> OrderOutcome
+    requires { (1 ≤ budget) × (budget ≤ budget_limit) }
+    ensures { IsTextOutcome (IsFoundAnswer budget result.is_found) IsHistoryRefusal (Some text.now)
+        result.outcome }
+{
+    match read_history(alloc, text) {
+        Ok(history) => order_outcome_of(alloc, locate_ordered(alloc, &history, budget)),
+        Err(fault) => OrderOutcome {
+            outcome: refused_text(alloc, text, &fault),
+            is_found: false,
+        },
+    }
+}
+
+/// Returns the outcome of a location with an order, or that memory ran out.
+fn order_outcome_of(alloc: Global, located: Result<OrderedLocation, Memory>) -> OrderOutcome
+    ensures { (budget : ℕ) (text : List ℕ) (history : HistoryView) → IsTextOf text history
+        → IfOk located (IsOrderedLocation budget history)
+        → IsTextOutcome (IsFoundAnswer budget result.is_found) IsHistoryRefusal (Some text)
+        result.outcome }
+{
+    let Ok(ordered) = located else {
+        return OrderOutcome {
+            outcome: RunOutcome::Memory,
+            is_found: false,
+        };
+    };
+    OrderOutcome {
+        outcome: outcome_of_ordered(alloc, &ordered),
+        is_found: ordered.order.is_some(),
+    }
+}
+
+/// Returns the outcome of a location with an order.
+fn outcome_of_ordered(alloc: Global, ordered: &OrderedLocation) -> RunOutcome
+    ensures { (budget : ℕ) (text : List ℕ) (history : HistoryView) → IsTextOf text history
+        → IsOrderedLocation budget history ordered.now
+        → IsTextOutcome (IsFoundAnswer budget (is_some ordered.now.order)) IsHistoryRefusal
+        (Some text) result }
+{
+    match ordered_line(alloc, ordered) {
+        Ok(report) => RunOutcome::from_answer(answer_of(&ordered.location), line_of(report)),
         Err(_) => RunOutcome::Memory,
     }
 }

@@ -1,11 +1,7 @@
 -- Some item of a list, and what loops collect.
-use Rattle.std.proofs.Common.{◌≡◌, ℕ, ◌+◌, ◌<◌, ◌≤◌, List, [], ◌∷◌, ◌++◌, length, get_or, take, map, sym, ap, ◌∙◌, subst, inl, inr, ⊎_elim}
-use Rattle.std.specs.Prelude.{◌⊎◌, ◌↔◌, Any, Contains}
-use Rattle.std.proofs.lemmas.List.{get_or_default, take_all, take_more}
-use Rattle.std.proofs.lemmas.List.Elements.{Contains-append_left, Contains-push, Contains-push_cases}
-use Rattle.list_laws.proofs.Lists.{Contains-nil}
-use Rattle.list_laws.proofs.FilterLemmas.{Contains-from_map, Contains-map}
-use Rattle.losses.specs.Collecting.{AreAdded, AreAddedOf}
+use Rattle.losses.proofs.Common.{◌≡◌, ℕ, ◌+◌, ◌<◌, ◌≤◌, List, [], ◌∷◌, ◌++◌, length, get_or, take, map, sym, ap, ◌∙◌, subst, inl, inr, ⊎_elim, ◌⊎◌}
+use Rattle.losses.proofs.Common.{◌↔◌, Any, Contains, get_or_default, take_all, take_more, Contains-append_left, Contains-push, Contains-push_cases}
+use Rattle.losses.proofs.Common.{Contains-nil, Contains-from_map, Contains-map, AreAdded, AreAddedOf}
 
 -- some item, by an item that is in the list
 pub any_in : {X : Type 0} (P : X → Type 0) (xs : List X) → Any P xs → (x : X) × Contains xs x × P x

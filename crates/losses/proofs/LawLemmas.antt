@@ -1,28 +1,15 @@
 -- What goes wrong on its own has no order: the only past of a part that is kept is of calls of the events, and sorted.
-use Rattle.std.proofs.Common.{◌≡◌, List, [], ◌∷◌, map, Some, subst}
-use Rattle.std.specs.Prelude.{All, Contains, false}
-use Rattle.std.proofs.lemmas.List.Elements.{All-contains, All-head}
-use Rattle.std.proofs.lemmas.Option.{none-some, same_Some}
-use Rattle.list_laws.proofs.Lists.{All-from_contains}
+use Rattle.losses.proofs.Common.{◌≡◌, List, [], ◌∷◌, map, Some, subst, All, Contains, All-contains, All-head, none-some, same_Some, All-from_contains}
+use Rattle.losses.proofs.Common.{Operation, keyed, Keys, ArePasts, IsOwn, first_of, kept_of, Past, covered, pasts_of, IsOwnPartOf}
+use Rattle.losses.proofs.Common.{OwnPartsHaveNoOrder, Put}
+use Rattle.std.specs.Prelude.{false}
 use Rattle.events.specs.declared.event.Event.{Event}
-use Rattle.events.specs.declared.operation.Operation.{Operation}
 use Rattle.events.specs.Operations.{operations}
 use Rattle.events.specs.Precedence.{precedes}
 use Rattle.events.proofs.TimeLemmas.{NonePrecedesItself-operations}
-use Rattle.key_effects.specs.KeyedCalls.{keyed}
 use Rattle.key_effects.specs.Choices.{Choice}
-use Rattle.key_effects.specs.Cuts.{Keys}
-use Rattle.kept_pasts.specs.Pasts.{ArePasts}
-use Rattle.kept_parts.specs.KeptParts.{IsOwn}
-use Rattle.kept_parts.proofs.PartLemmas.{first_of}
-use Rattle.part_cuts.specs.PartCuts.{kept_of}
-use Rattle.part_cuts.specs.declared.past.Past.{Past}
 use Rattle.part_pasts.specs.Pasts.{IsDead}
-use Rattle.part_pasts.specs.Ranges.{covered}
-use Rattle.parts.specs.Keeping.{pasts_of}
 use Rattle.losses.specs.OwnParts.{OwnPart, part_of, puts_but}
-use Rattle.losses.specs.Laws.{IsOwnPartOf, OwnPartsHaveNoOrder}
-use Rattle.losses.specs.declared.puts.Put.{Put}
 
 -- one past that is kept, and dead
 one_part : (events : List Event) (keys : Keys) (puts : List Put) (past : Past) (choices : List Choice)

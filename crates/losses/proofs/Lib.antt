@@ -1,6 +1,8 @@
+mod Common
 pub mod LawLemmas
 pub mod AnyLemmas
 pub mod PairLemmas
 pub mod NameLemmas
 pub mod WriterLemmas
 pub mod LossLemmas
+pub mod ReachLemmas

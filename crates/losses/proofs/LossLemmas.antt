@@ -1,21 +1,9 @@
 -- What is said of the keys of pasts.
-use Rattle.std.proofs.Common.{◌≡◌, ℕ, ◌+◌, ◌<◌, ◌≤◌, List, [], ◌∷◌, ◌++◌, length, get_or, take, map, Option, Some, None, refl, sym, ap, ◌∙◌, subst, inl, inr, ⊎_elim}
-use Rattle.std.specs.Prelude.{◌⊎◌, ◌↔◌, if◌then◌else◌, All, AllPairs, Any, Contains}
-use Rattle.std.proofs.lemmas.List.{map_push, take_more}
-use Rattle.std.proofs.lemmas.List.Elements.{All-push, All-weaker}
-use Rattle.list_laws.proofs.FilterLemmas.{AllPairs-from_map, Contains-from_map, Contains-map}
-use Rattle.events.specs.declared.event.Call.{Call}
-use Rattle.events.specs.declared.operation.Operation.{Operation}
-use Rattle.events.specs.Keys.{low_key, high_key}
-use Rattle.map_object.specs.MapObject.{Contents, value_at}
-use Rattle.kept_pasts.specs.Pasts.{FoundAt, KeptPast}
-use Rattle.part_cuts.specs.PartCuts.{found_at, kept_of}
-use Rattle.part_cuts.specs.declared.past.Past.{Past}
-use Rattle.losses.specs.KeyLosses.{AreKeyLosses, HasKey, IsKeyLoss, IsNamed, IsOwnKey, is_put_before, last_put, origin_in, put_in}
-use Rattle.losses.specs.Collecting.{AreSpansOf, IsSpanAt, IsSpanIn, IsSpanOf, Names, span_of}
-use Rattle.losses.specs.declared.lost_keys.KeyLoss.{KeyLoss}
-use Rattle.losses.specs.declared.lost_keys.Origin.{Origin}
-use Rattle.losses.specs.declared.puts.Put.{Put}
+use Rattle.losses.proofs.Common.{◌≡◌, ℕ, ◌+◌, ◌<◌, ◌≤◌, List, [], ◌∷◌, ◌++◌, length, get_or, take, map, Option, Some, None, refl, sym, ap, ◌∙◌, subst}
+use Rattle.losses.proofs.Common.{inl, inr, ⊎_elim, ◌⊎◌, ◌↔◌, if◌then◌else◌, All, AllPairs, Any, Contains, map_push, take_more, All-push, All-weaker}
+use Rattle.losses.proofs.Common.{AllPairs-from_map, Contains-from_map, Contains-map, Call, Operation, low_key, high_key, Contents, value_at, FoundAt}
+use Rattle.losses.proofs.Common.{KeptPast, found_at, kept_of, Past, AreKeyLosses, HasKey, IsKeyLoss, IsNamed, IsOwnKey, is_put_before, last_put}
+use Rattle.losses.proofs.Common.{origin_in, put_in, AreSpansOf, IsSpanAt, IsSpanIn, IsSpanOf, Names, span_of, KeyLoss, Origin, Put}
 use Rattle.losses.proofs.AnyLemmas.{any_in, any_of, any_one, any_weaker, one_any}
 
 -- ---- the invocations of the calls that have a key

@@ -1,22 +1,12 @@
 -- Keys that are named.
-use Rattle.std.proofs.Common.{◌≡◌, ℕ, Bool, true, ◌==◌, ◌&&◌, List, [], ◌∷◌, map, Some, None, refl, sym, ap, ◌∙◌, inl, inr, ⊎_elim}
-use Rattle.std.specs.Prelude.{◌⊎◌, ◌↔◌, Any, Contains}
+use Rattle.losses.proofs.Common.{◌≡◌, ℕ, Bool, true, ◌==◌, ◌&&◌, List, [], ◌∷◌, map, Some, None, refl, sym, ap, ◌∙◌, inl, inr, ⊎_elim, ◌⊎◌, ◌↔◌, Any}
+use Rattle.losses.proofs.Common.{Contains, dedup, and_parts, cases_Bool, eqb-true, Contains-dedup, Contains-from_dedup, same_Some, Any-first}
+use Rattle.losses.proofs.Common.{Any-later, Contains-nil, Operation, Response, low_key, high_key, Contents, value_at, kept_of, Past, IsNamed}
+use Rattle.losses.proofs.Common.{ReportsOther, pairs_in, reported_by, AreAdded, AreAddedOf, DiffersWithin, AreSpansOf, GivesDiffering, IsSpanIn}
+use Rattle.losses.proofs.Common.{ListsOther, Names, NamesIn}
 use Rattle.std.specs.Cmp.{IsEquivalence}
-use Rattle.std.specs.List.{dedup}
-use Rattle.std.proofs.lemmas.Bool.{and_parts, cases_Bool, eqb-true}
 use Rattle.std.proofs.lemmas.Cmp.{and_equiv, nat_eq_equiv, on_equiv}
-use Rattle.std.proofs.lemmas.List.Kept.{Contains-dedup, Contains-from_dedup}
-use Rattle.std.proofs.lemmas.Option.{same_Some}
-use Rattle.list_laws.proofs.Lists.{Any-first, Any-later, Contains-nil}
 use Rattle.events.specs.declared.event.Reply.{Reply}
-use Rattle.events.specs.declared.operation.Operation.{Operation}
-use Rattle.events.specs.declared.operation.Response.{Response}
-use Rattle.events.specs.Keys.{low_key, high_key}
-use Rattle.map_object.specs.MapObject.{Contents, value_at}
-use Rattle.part_cuts.specs.PartCuts.{kept_of}
-use Rattle.part_cuts.specs.declared.past.Past.{Past}
-use Rattle.losses.specs.KeyLosses.{IsNamed, ReportsOther, pairs_in, reported_by}
-use Rattle.losses.specs.Collecting.{AreAdded, AreAddedOf, DiffersWithin, AreSpansOf, GivesDiffering, IsSpanIn, ListsOther, Names, NamesIn}
 use Rattle.losses.proofs.AnyLemmas.{any_from_map, any_in, any_map}
 
 -- whether the code finds two spans the same

@@ -1,10 +1,6 @@
 -- Maps that are made of pairs.
-use Rattle.std.proofs.Common.{◌≡◌, ℕ, ◌+◌, ◌-◌, ◌<◌, ◌≤◌, ◌==◌, cond, ◌∷◌, length, get_or, drop, Option, Some, None, sym, ap, ◌∙◌, subst, ⊎_elim, arith}
-use Rattle.std.specs.Prelude.{◌≢◌}
-use Rattle.std.proofs.lemmas.Bool.{cases_Bool, eqb-true, eqb-false}
-use Rattle.std.proofs.lemmas.List.{drop_more}
-use Rattle.events.specs.declared.event.Call.TheVariants.{Insert}
-use Rattle.map_object.specs.MapObject.{Contents, after, put, value_at}
+use Rattle.losses.proofs.Common.{◌≡◌, ℕ, ◌+◌, ◌-◌, ◌<◌, ◌≤◌, ◌==◌, cond, ◌∷◌, length, get_or, drop, Option, Some, None, sym, ap, ◌∙◌, subst, ⊎_elim}
+use Rattle.losses.proofs.Common.{arith, ◌≢◌, cases_Bool, eqb-true, eqb-false, drop_more, Insert, Contents, after, put, value_at}
 use Rattle.quiet_cuts.proofs.ValueLemmas.{IsOut, in_or_out, value_left}
 use Rattle.explaining.proofs.AgreeLemmas.{put_value}
 

@@ -1,19 +1,10 @@
 -- Who put the values that a key has in pasts.
-use Rattle.std.proofs.Common.{◌≡◌, ℕ, ◌+◌, ◌-◌, ◌<◌, ◌≤◌, Bool, true, false, cond, ◌==◌, ◌&&◌, not, List, [], ◌∷◌, ◌++◌, length, get_or, take, filter, map, Option, Some, None, refl, sym, ap, ◌∙◌, subst, ⊎_elim, arith}
-use Rattle.std.specs.Prelude.{◌↔◌, ◌≢◌, if◌then◌else◌, AllPairs, Contains}
-use Rattle.std.specs.List.{list_any}
-use Rattle.std.proofs.lemmas.Bool.{cases_Bool}
-use Rattle.std.proofs.lemmas.List.{map_push, take_all, take_more}
-use Rattle.std.proofs.lemmas.List.Elements.{Contains-append_left, Contains-push, Contains-push_cases, Contains-get_or}
+use Rattle.losses.proofs.Common.{◌≡◌, ℕ, ◌+◌, ◌-◌, ◌<◌, ◌≤◌, Bool, true, false, cond, ◌==◌, ◌&&◌, not, List, [], ◌∷◌, ◌++◌, length, get_or, take}
+use Rattle.losses.proofs.Common.{filter, map, Option, Some, None, refl, sym, ap, ◌∙◌, subst, ⊎_elim, arith, ◌↔◌, ◌≢◌, if◌then◌else◌, AllPairs}
+use Rattle.losses.proofs.Common.{Contains, list_any, cases_Bool, map_push, take_all, take_more, Contains-append_left, Contains-push}
+use Rattle.losses.proofs.Common.{Contains-push_cases, Contains-get_or, value_at, KeptPast, kept_of, Past, is_put_before, last_put, origin_in, put_in}
+use Rattle.losses.proofs.Common.{IsNotedOnce, Origin, Put}
 use Rattle.std.proofs.lemmas.List.Quantifiers.{all_pairs_push}
-use Rattle.map_object.specs.MapObject.{value_at}
-use Rattle.kept_pasts.specs.Pasts.{KeptPast}
-use Rattle.part_cuts.specs.PartCuts.{kept_of}
-use Rattle.part_cuts.specs.declared.past.Past.{Past}
-use Rattle.losses.specs.KeyLosses.{is_put_before, last_put, origin_in, put_in}
-use Rattle.losses.specs.Collecting.{IsNotedOnce}
-use Rattle.losses.specs.declared.lost_keys.Origin.{Origin}
-use Rattle.losses.specs.declared.puts.Put.{Put}
 
 -- the last put of some and one more
 pub last_push : (past : KeptPast) (key value : ℕ) (last : Option ℕ) (front : List Put) (p : Put)

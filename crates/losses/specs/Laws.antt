@@ -1,14 +1,23 @@
 -- Laws of what goes wrong on its own.
-use Rattle.std.specs.Prelude.{◌≡◌, ℕ, ◌<◌, List, Some, All, AllPairs, Contains}
+use Rattle.std.specs.Prelude.{◌≡◌, ◌≢◌, ◌⊎◌, ℕ, ◌<◌, true, List, Option, Some, All, AllPairs, Any, Contains, IsTrue}
+use Rattle.events.specs.declared.event.Call.{Call}
 use Rattle.events.specs.declared.event.Event.{Event}
+use Rattle.events.specs.declared.operation.Operation.{Operation}
 use Rattle.events.specs.Operations.{operations}
-use Rattle.events.specs.Precedence.{NonePrecedesItself}
-use Rattle.map_object.specs.MapObject.{Contents, IsRising}
-use Rattle.orders.specs.Orders.{IsLinearizable}
+use Rattle.events.specs.Precedence.{NonePrecedesItself, is_completed}
+use Rattle.map_object.specs.MapObject.{Contents, IsRising, value_at}
+use Rattle.orders.specs.Orders.{IsLegal, IsLinearizable, KeepsPrecedence, after_calls}
 use Rattle.part_pasts.specs.Pasts.{IsDead}
+use Rattle.part_pasts.specs.Ranges.{covered}
 use Rattle.parts.specs.Keeping.{IsKeptBeside, pasts_of}
+use Rattle.parts.specs.declared.state.EndedPart.{EndedPart}
 use Rattle.losses.specs.declared.loss.Loss.{Loss}
+use Rattle.losses.specs.declared.lost_keys.KeyLoss.{KeyLoss}
+use Rattle.losses.specs.declared.lost_keys.Origin.{Origin}
+use Rattle.losses.specs.declared.puts.Put.{Put}
+use Rattle.losses.specs.KeyLosses.{AreKeyLosses, HasKey, IsOwnKey}
 use Rattle.losses.specs.OwnParts.{OwnPart, own_part}
+use Rattle.losses.specs.Puts.{IsPutOf}
 
 -- calls of the events, by rising invocation, that have no order from these pairs
 pub record IsOwnPartOf (events : List Event) (part : OwnPart) : Type 0 where
@@ -23,3 +32,26 @@ abbrev pub OwnPartsHaveNoOrder : Type 0
 OwnPartsHaveNoOrder =
     (start : Contents) (place : ℕ) (events : List Event) (loss : Loss) (part : OwnPart) → IsKeptBeside start place (operations events) loss.part
     → All IsDead (pasts_of loss.part) → own_part loss ≡ Some part → IsOwnPartOf events part
+
+-- What is said of a key may be so where calls of these invocations are left. Some of the calls have a legal order that keeps precedence and leaves
+-- the value, or none, at the key. Each answered call of the key is in the order, or is left. A call that is said to have put the value is in the
+-- order, and puts it.
+pub record MayHave (start : Contents) (calls : List Operation) (key : ℕ) (left : List ℕ) (origin : Origin) : Type 0 where
+  pub order : List Operation
+  pub known : (o : Operation) → Contains order o → Contains calls o
+  pub distinct : AllPairs (λ a b. a.inv ≢ b.inv) order
+  pub precedence : KeepsPrecedence order
+  pub legal : IsLegal start order
+  pub leaves : value_at (after_calls start order) key ≡ origin.value
+  pub whole : (o : Operation) → Contains calls o → IsTrue (is_completed o) → HasKey o key → Contains order o ⊎ Contains left o.inv
+  pub writer : (value event : ℕ) → origin.value ≡ Some value → origin.put ≡ Some event
+      → (o : Operation) × Contains order o × IsPutOf o (record { key = key; value = value; event = event })
+
+-- if a part is kept beside others, and the puts are those of some of the calls, all that is said of the part's keys may be so, with those calls left
+-- that have the key; and these are keys of the part
+abbrev pub ValuesAreReached : Type 0
+ValuesAreReached =
+    (start : Contents) (place : ℕ) (calls : List Operation) (ended : EndedPart) (own : Option Call) (puts : List Put) (losses : List KeyLoss)
+    → IsRising start → IsKeptBeside start place calls ended → ((key : ℕ) → IsOwnKey own key → covered ended.ranges.items key ≡ true)
+    → All (λ p. Any (λ o. IsPutOf o p) calls) puts → AreKeyLosses own (pasts_of ended) puts losses
+    → All (λ loss. (covered ended.ranges.items loss.key ≡ true) × All (MayHave start calls loss.key loss.invoked.items) loss.from.items) losses

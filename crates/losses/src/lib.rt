@@ -12,7 +12,7 @@ mod reported;
 mod writers;
 
 pub use loss::Loss;
-pub use lost_keys::{KeyLoss, Origin, key_losses};
+pub use lost_keys::{KeyLoss, Origin, key_losses, values_are_reached};
 pub use own_parts::{OwnPart, own_losses, own_part, own_parts_have_no_order};
 pub use puts::{Put, put_of, put_with};
 

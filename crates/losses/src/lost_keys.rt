@@ -2,6 +2,7 @@
 ghost use Rattle.std.specs.Prelude.{◌≡◌, map, Some, All, IfOk};
 ghost use Rattle.part_cuts.specs.PartCuts.{kept_of};
 ghost use Rattle.parts.specs.Keeping.{pasts_of};
+ghost use Rattle.losses.specs.Laws.{ValuesAreReached};
 ghost use Rattle.losses.specs.KeyLosses.{AreKeyLosses, IsKeyLoss};
 ghost use Rattle.losses.specs.Collecting.{AreSpansOf};
 
@@ -104,3 +105,10 @@ fn loss_of(
     let invoked = invoked_at(alloc, spans, key)?;
     Ok(KeyLoss { key, from, invoked })
 }
+
+/// What is said of the keys of a part may be so, if the part is kept beside others. Each value is left
+/// at its key by a legal order of calls that has all answered calls of the key but those that are
+/// left. The call that put the value is in that order.
+pub fn values_are_reached()
+    ensures { ValuesAreReached }
+{}

@@ -1,3 +1,4 @@
+mod Common
 mod TurnLemmas
 mod MachineLemmas
 mod OpeningLemmas

@@ -1,31 +1,14 @@
 -- A turn of a machine is a step of the state that it shows.
-use Rattle.std.proofs.Common.{◌≡◌, ℕ, zero, suc, ◌+◌, ◌<◌, List, [], ◌∷◌, ◌++◌, arith, length, refl, ap, sym, subst, ◌∙◌}
-use Rattle.std.specs.Prelude.{Option, Some, None, is_some, slice_get, slice_index, slice_set, IsSome, IsSomeAnd}
-use Rattle.std.proofs.lemmas.List.{length-set}
-use Rattle.std.proofs.lemmas.Option.{slice_get_within, none-some, same_Some}
-use Rattle.std.proofs.Math.Logic.{∥∥₁_elim, ∥∥₁_map}
-use Rattle.std.proofs.Props.{props}
-use Rattle.list_laws.proofs.NumberLemmas.{slice_get-below}
-use Rattle.events.specs.declared.event.Call.{Call}
-use Rattle.map_object.specs.MapObject.{Contents}
-use Rattle.art_rows.specs.declared.table.Shape.{Shape}
+use Rattle.machine.proofs.Common.{◌≡◌, ℕ, zero, suc, ◌+◌, ◌<◌, List, [], ◌∷◌, ◌++◌, arith, length, refl, ap, sym, subst, ◌∙◌, Option, Some, None}
+use Rattle.machine.proofs.Common.{is_some, slice_get, slice_index, slice_set, IsSome, IsSomeAnd, length-set, slice_get_within, none-some, same_Some}
+use Rattle.machine.proofs.Common.{∥∥₁_elim, ∥∥₁_map, props, slice_get-below, Call, Contents, Shape, Variant, Process, Plan, State, begun, opened_on}
+use Rattle.machine.proofs.Common.{next_in, next_move, invocation, move_from, step, step_of, moved_by, moved, after_move, word_of_move, one-step}
+use Rattle.machine.proofs.Common.{Runner, Idle, Going, Answered, FitsDoing, IsFor, FitsProcess, ShowsState, Moves, AreFor, HasMove, IsUnderWay}
+use Rattle.machine.proofs.Common.{HasNothingToDo}
 use Rattle.art_rows.specs.Table.{IsWithinLimits}
-use Rattle.art_steps.specs.declared.variant.Variant.{Variant}
-use Rattle.art_core.specs.declared.process.Process.{Process}
-use Rattle.art_core.specs.Core.{Plan, State, begun, opened_on, next_in, next_move, invocation, move_from, step, step_of, moved_by, moved}
-use Rattle.art_core.specs.Core.{after_move}
-use Rattle.art_core.specs.Core.{word_of_move}
 use Rattle.art_core.specs.Runs.{run_on}
 use Rattle.art_core.proofs.RunLemmas.{run-on-append}
-use Rattle.art_core.proofs.HistoryLemmas.{one-step}
-use Rattle.machine.specs.declared.runner.Runner.{Runner}
 use Rattle.art.specs.declared.doing.Doing.{Doing}
-use Rattle.art.specs.declared.doing.Doing.TheVariants.{Idle, Going, Answered}
-use Rattle.art.specs.Doings.{FitsDoing, IsFor}
-use Rattle.machine.specs.Fitting.{FitsProcess, ShowsState, Moves, AreFor}
-use Rattle.machine.specs.Refusals.{HasMove}
-use Rattle.machine.specs.UnderWay.{IsUnderWay}
-use Rattle.machine.specs.Working.{HasNothingToDo}
 
 -- what holds at each place of a list still holds where one item is changed for one of which it holds
 pub item-set : {A : Type 0} (R : ℕ → A → Type 0) (xs : List A) (p : ℕ) (x : A) → R p x → ((i : ℕ) (a : A) → slice_get xs i ≡ Some a → R i a)
@@ -36,7 +19,8 @@ item-set R (u ∷ xs) zero x h old (suc i) a e = old (suc i) a e
 item-set R (u ∷ xs) (suc p) x h old zero a e = old zero a e
 item-set R (u ∷ xs) (suc p) x h old (suc i) a e = item-set (λ j. R (suc j)) xs p x h (λ j. old (suc j)) i a e
 
--- the same of two lists, place by place
+-- what holds of two lists place by place still holds if one item is changed for one of which it
+-- holds
 pub items-set : {A B : Type 0} (R : ℕ → A → B → Type 0) (xs : List A) (ys : List B) (p : ℕ) (x : A) (y : B) → R p x y
     → ((i : ℕ) (a : A) (b : B) → slice_get xs i ≡ Some a → slice_get ys i ≡ Some b → R i a b)
     → (i : ℕ) (a : A) (b : B) → slice_get (slice_set xs p x) i ≡ Some a → slice_get (slice_set ys p y) i ≡ Some b → R i a b
@@ -114,7 +98,7 @@ module _ (shape : Shape) (variant : Variant) (old : List ℕ) (runners : List Ru
             (λ q f. (kept q (shows.fits p r q here f)).1) (λ i a e q f. shows.fits i a q e f) i a e q f;
       }
 
-  -- it is under way after a step, and after a refused one
+  -- a machine is under way after a step, and after a refused one
   pub under-way-steps : (start : Contents) (left fewer : ℕ) (new : List ℕ) (r2 : Runner) → fewer + 1 ≡ left
       → ((plan : Plan) (q : Process) → plan.shape ≡ shape → plan.variant ≡ variant → FitsProcess plan p r q → Moves plan p q old new r2)
       → ∥ IsUnderWay shape variant start left old runners ∥₁ → ∥ IsUnderWay shape variant start fewer new (slice_set runners p r2) ∥₁

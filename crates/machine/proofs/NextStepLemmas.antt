@@ -1,26 +1,11 @@
 -- The next step of a process is that of what its runner does.
-use Rattle.std.proofs.Common.{◌≡◌, ◌≤◌, ℕ, [], length, refl, ap, sym, subst, ◌∙◌, arith}
-use Rattle.std.specs.Prelude.{Option, Some, None, slice_get}
-use Rattle.std.proofs.lemmas.Option.{slice_get_past}
-use Rattle.events.specs.declared.event.Call.{Call}
-use Rattle.events.specs.declared.event.Reply.{Reply}
-use Rattle.art.specs.declared.doing.Doing.TheVariants.{Idle, Going, Answered}
-use Rattle.art.specs.declared.task.Task.{Task}
-use Rattle.art.specs.Doings.{FitsDoing}
-use Rattle.art.specs.Tasks.{rest_of}
-use Rattle.art.proofs.DoingLemmas.{next-asks}
-use Rattle.art_steps.specs.Steps.{access_of}
+use Rattle.machine.proofs.Common.{◌≡◌, ◌≤◌, ℕ, [], length, refl, ap, sym, subst, ◌∙◌, arith, Option, Some, None, slice_get, slice_get_past, Call}
+use Rattle.machine.proofs.Common.{Reply, Idle, Going, Answered, Task, FitsDoing, rest_of, next-asks, access_of, Process, Plan, State, begun}
+use Rattle.machine.proofs.Common.{invocation, move_from, move_of, next_in, Machine, Runner, FitsProcess, Shows, HasNothingToDo}
 use Rattle.art_steps.specs.declared.access.Access.{Access as Accessed}
-use Rattle.art_core.specs.declared.process.Process.{Process}
-use Rattle.art_core.specs.Core.{Plan, State, begun, invocation, move_from, move_of, next_in}
-use Rattle.machine.specs.declared.machines.Machine.{Machine}
 use Rattle.machine.specs.declared.next_steps.NextStep.{NextStep}
 use Rattle.machine.specs.declared.next_steps.NextStep.TheVariants.{Nothing, Stamp, Access}
-use Rattle.machine.specs.declared.runner.Runner.{Runner}
-use Rattle.machine.specs.Fitting.{FitsProcess}
-use Rattle.machine.specs.Machines.{Shows}
 use Rattle.machine.specs.NextSteps.{next_step_of, step_by}
-use Rattle.machine.specs.Working.{HasNothingToDo}
 use Rattle.machine.proofs.MachineLemmas.{process-at}
 
 module _ (plan : Plan) (p : ℕ) (q : Process) (r : Runner) (fits : FitsProcess plan p r q) where

@@ -1,22 +1,12 @@
 -- What a machine begins with.
-use Rattle.std.proofs.Common.{◌≡◌, ℕ, suc, ◌+◌, ◌<◌, ◌^◌, List, [], ◌∷◌, ◌++◌, length, map, sum, arith, refl, ap, sym, subst, ◌∙◌}
-use Rattle.std.proofs.Common.{append_assoc}
-use Rattle.std.specs.Prelude.{Some, None, slice_get, replicate}
+use Rattle.machine.proofs.Common.{◌≡◌, ℕ, suc, ◌+◌, ◌<◌, ◌^◌, List, [], ◌∷◌, ◌++◌, length, map, sum, arith, refl, ap, sym, subst, ◌∙◌, append_assoc}
+use Rattle.machine.proofs.Common.{Some, None, slice_get, replicate, Call, Shape, Variant, Process, idle, all-idle, Runner, FitsDoing, IsFor}
+use Rattle.machine.proofs.Common.{FitsProcess, AreFor, plan_of}
 use Rattle.std.specs.List.{AllZip}
 use Rattle.std.proofs.lemmas.List.Sums.{sum-map}
 use Rattle.std.proofs.lemmas.List.Folds.{sum_by-replicate}
 use Rattle.list_laws.proofs.ZipLemmas.{zip_right}
-use Rattle.events.specs.declared.event.Call.{Call}
-use Rattle.art_rows.specs.declared.table.Shape.{Shape}
-use Rattle.art_steps.specs.declared.variant.Variant.{Variant}
-use Rattle.art_core.specs.declared.process.Process.{Process}
-use Rattle.art_core.specs.Core.{idle}
-use Rattle.art_core.proofs.HistoryLemmas.{all-idle}
-use Rattle.machine.specs.declared.runner.Runner.{Runner}
-use Rattle.art.specs.Doings.{FitsDoing, IsFor}
-use Rattle.machine.specs.Fitting.{FitsProcess, AreFor}
 use Rattle.machine.specs.Opening.{IsFresh}
-use Rattle.machine.specs.Running.{plan_of}
 
 -- some of the runners are there, for the first of the scripts
 pub record AreHalfOpened (all rest : List (List Call)) (runners : List Runner) : Type 0 where

@@ -1,7 +1,6 @@
 -- The laws of the moments of reads, for what a machine shows.
-use Rattle.std.proofs.Common.{◌∙◌}
-use Rattle.art_versions.specs.moments.Reads.{RunsHaveMomentsOfScans, RunsHaveMomentsOfGets}
-use Rattle.machine.specs.declared.machines.Machine.{Machine}
+use Rattle.machine.proofs.Common.{◌∙◌, Machine}
+use Rattle.art_schedules.specs.moments.Reads.{RunsHaveMomentsOfScans, RunsHaveMomentsOfGets}
 use Rattle.machine.specs.ReadMoments.{ScansHaveMoments, GetsHaveMoments}
 
 pub scans-have-moments : RunsHaveMomentsOfScans → (m : Machine) → ScansHaveMoments m

@@ -1,32 +1,16 @@
 -- The history of a machine is that of each state that it shows.
-use Rattle.std.proofs.Common.{◌≡◌, ℕ, suc, ◌+◌, List, [], ◌∷◌, ◌++◌, length, map, arith, refl, ap, sym, subst, ◌∙◌, ◌⊎◌, ⊎_elim}
-use Rattle.std.specs.Prelude.{Some, slice_get, flat_map}
-use Rattle.std.proofs.Math.Logic.{∥∥₁_elim, ∥∥₁_map}
-use Rattle.std.proofs.Props.{props}
+use Rattle.machine.proofs.Common.{◌≡◌, ℕ, suc, ◌+◌, List, [], ◌∷◌, ◌++◌, length, map, arith, refl, ap, sym, subst, ◌∙◌, ◌⊎◌, ⊎_elim, Some, slice_get}
+use Rattle.machine.proofs.Common.{flat_map, ∥∥₁_elim, ∥∥₁_map, props, AreHistoryEvents, HistoryView, IsStart, events_by_stamp, Contents, Shape}
+use Rattle.machine.proofs.Common.{Variant, Process, Plan, State, history_of, IsRun, IsSerial, logs-are-history, Runner, Machine, FitsProcess}
+use Rattle.machine.proofs.Common.{IsReached, Shows, start_of, IsUnderWay}
 use Rattle.events.specs.declared.event.Event.{Event}
-use Rattle.events.specs.Histories.{AreHistoryEvents}
-use Rattle.events.specs.HistoryView.{HistoryView}
 use Rattle.events.specs.Operations.{operations}
-use Rattle.events.specs.Starts.{IsStart}
-use Rattle.logs.specs.Logs.{events_by_stamp}
-use Rattle.map_object.specs.MapObject.{Contents}
 use Rattle.orders.specs.Orders.{IsLegal, after_calls, IsLinearizableHistory}
-use Rattle.art_rows.specs.declared.table.Shape.{Shape}
-use Rattle.art_steps.specs.declared.variant.Variant.{Variant}
 use Rattle.art_steps.specs.declared.variant.Variant.TheVariants.{Coupled, Optimistic}
-use Rattle.art_core.specs.declared.process.Process.{Process}
-use Rattle.art_core.specs.Core.{Plan, State, history_of}
-use Rattle.art_core.specs.Plans.{IsRun, IsSerial}
 use Rattle.art_core.specs.Claims.{SerialIsMap, CoupledIsLinearizable, OptimisticIsLinearizable}
 use Rattle.art_core.specs.Meaning.{Means, AllUnlocked}
-use Rattle.art_core.proofs.HistoryLemmas.{logs-are-history}
-use Rattle.machine.specs.declared.runner.Runner.{Runner}
-use Rattle.machine.specs.declared.machines.Machine.{Machine}
-use Rattle.machine.specs.Fitting.{FitsProcess}
-use Rattle.machine.specs.Machines.{IsReached, Shows, start_of}
 use Rattle.machine.specs.Serial.{DoesTheMap}
 use Rattle.machine.specs.Linearizable.{IsLinearizableIn}
-use Rattle.machine.specs.UnderWay.{IsUnderWay}
 
 is-run : (shape : Shape) (variant : Variant) (start : Contents) (left : ℕ) (words : List ℕ) (runners : List Runner)
     (u : IsUnderWay shape variant start left words runners) → IsRun u.plan start u.first u.schedule u.state

@@ -1,24 +1,11 @@
 -- A run makes the turns that its items name.
-use Rattle.std.proofs.Common.{◌≡◌, ℕ, ◌+◌, ◌≤◌, Bool, true, false, not, nat_eq, IsTrue, List, [], ◌∷◌, ◌++◌, length, take, refl, sym, ap}
-use Rattle.std.proofs.Common.{subst, ◌∙◌, arith}
-use Rattle.std.proofs.Common.{eqb-true, eq-eqb, Option, Some, None}
-use Rattle.std.specs.Prelude.{◌↔◌, slice_get, IsSomeAnd}
-use Rattle.std.proofs.lemmas.Option.{slice_get_past}
-use Rattle.list_laws.proofs.NumberLemmas.{some_at}
+use Rattle.machine.proofs.Common.{◌≡◌, ℕ, ◌+◌, ◌≤◌, Bool, true, false, not, nat_eq, IsTrue, List, [], ◌∷◌, ◌++◌, length, take, refl, sym, ap, subst}
+use Rattle.machine.proofs.Common.{◌∙◌, arith, eqb-true, eq-eqb, ◌↔◌, slice_get, IsSomeAnd, slice_get_past, some_at, Item, End, Until, Process, Plan}
+use Rattle.machine.proofs.Common.{State, step, process_of_item, next_point, point_in, finished_count, WantsTurn, AreMade, Runner, Machine}
+use Rattle.machine.proofs.Common.{MachineFault, FitsProcess, Shows, turns_left, IsRefusedIn, HasMadeItem, HasMadeAll, HasStoppedIn, HasStoppedAt}
+use Rattle.std.proofs.Common.{Option, Some, None}
 use Rattle.art_steps.specs.declared.access.Point.{Point}
-use Rattle.art_core.specs.declared.item.Item.{Item}
-use Rattle.art_core.specs.declared.item.Item.TheVariants.{End, Until}
-use Rattle.art_core.specs.declared.process.Process.{Process}
-use Rattle.art_core.specs.Core.{Plan, State, step}
-use Rattle.art_core.specs.NamedTurns.{process_of_item, next_point, point_in, finished_count, WantsTurn, AreMade}
 use Rattle.art_core.proofs.NamedTurnLemmas.{made-more, whole-more}
-use Rattle.machine.specs.declared.runner.Runner.{Runner}
-use Rattle.machine.specs.declared.machines.Machine.{Machine}
-use Rattle.plans.specs.declared.fault.MachineFault.{MachineFault}
-use Rattle.machine.specs.Fitting.{FitsProcess}
-use Rattle.machine.specs.Machines.{Shows, turns_left}
-use Rattle.machine.specs.Refusals.{IsRefusedIn}
-use Rattle.machine.specs.Running.{HasMadeItem, HasMadeAll, HasStoppedIn, HasStoppedAt}
 use Rattle.machine.proofs.MachineLemmas.{process-at}
 
 -- What a machine shows of a process.

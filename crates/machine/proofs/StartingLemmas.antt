@@ -1,36 +1,17 @@
 -- A machine that inserts pairs until nothing is left to do.
-use Rattle.std.proofs.Common.{[], ◌∷◌, ◌≡◌, ℕ, ◌+◌, ◌*◌, ◌<◌, ◌≤◌, List, length, take, refl, sym, ap, subst, ◌∙◌, arith, inl, inr, Some}
-use Rattle.std.proofs.Common.{None}
-use Rattle.std.proofs.Common.{get_or, IsTrue}
-use Rattle.std.specs.Prelude.{slice_get, replicate, filter_map, Contains, All}
-use Rattle.std.proofs.lemmas.List.{length-replicate, length-map, get_or-map, take_more}
-use Rattle.std.proofs.lemmas.List.Elements.{Contains-get_or, Contains-push_cases}
+use Rattle.machine.proofs.Common.{[], ◌∷◌, ◌≡◌, ℕ, ◌+◌, ◌*◌, ◌<◌, ◌≤◌, List, length, take, refl, sym, ap, subst, ◌∙◌, arith, inl, inr, get_or, IsTrue}
+use Rattle.machine.proofs.Common.{slice_get, replicate, filter_map, Contains, All, length-replicate, length-map, get_or-map, take_more}
+use Rattle.machine.proofs.Common.{Contains-get_or, Contains-push_cases, some_at, Call, Insert, Stamped, Contents, Shape, Variant, is_tree_call, Item}
+use Rattle.machine.proofs.Common.{Turns, Process, Plan, State, answered, next_move, opened, AreMade, AreInsertedIn, inserts, start_plan, IsPlan}
+use Rattle.machine.proofs.Common.{run-lengths, Machine, MachineFault, HasMadeItem, HasStoppedIn, IsOpened}
+use Rattle.std.proofs.Common.{Some, None}
 use Rattle.list_laws.proofs.FilterLemmas.{Contains-filter_map, Contains-from_filter_map}
-use Rattle.list_laws.proofs.NumberLemmas.{some_at}
-use Rattle.events.specs.declared.event.Call.{Call}
-use Rattle.events.specs.declared.event.Call.TheVariants.{Insert}
-use Rattle.events.specs.declared.event.Reply.TheVariants as replies
-use Rattle.logs.specs.Logs.{Stamped}
-use Rattle.map_object.specs.MapObject.{Contents}
-use Rattle.art_rows.specs.declared.table.Shape.{Shape}
-use Rattle.art_steps.specs.declared.variant.Variant.{Variant}
-use Rattle.art_steps.specs.TreeCalls.{is_tree_call}
-use Rattle.art_core.specs.declared.item.Item.{Item}
-use Rattle.art_core.specs.declared.item.Item.TheVariants.{Turns}
-use Rattle.art_core.specs.declared.process.Process.{Process}
-use Rattle.art_core.specs.Core.{Plan, State, answered, next_move, opened}
-use Rattle.art_core.specs.NamedTurns.{AreMade}
-use Rattle.art_core.specs.Starts.{AreInsertedIn, inserts, start_plan}
-use Rattle.art_core.specs.Plans.{IsPlan}
 use Rattle.art_serial.specs.maps.Ends.{StartsEnd}
-use Rattle.art_core.proofs.HistoryLemmas.{run-lengths}
 use Rattle.art_core.proofs.StartLemmas.{run-steps}
-use Rattle.machine.specs.declared.machines.Machine.{Machine}
 use Rattle.machine.specs.declared.starting.TheConstants.{START_TURNS}
-use Rattle.plans.specs.declared.fault.MachineFault.{MachineFault}
-use Rattle.plans.specs.declared.fault.MachineFault.TheVariants as faults
-use Rattle.machine.specs.Running.{HasMadeItem, HasStoppedIn, IsOpened}
 use Rattle.machine.specs.Starting.{HasInserted, IsNotOpened}
+use Rattle.events.specs.declared.event.Reply.TheVariants as replies
+use Rattle.plans.specs.declared.fault.MachineFault.TheVariants as faults
 
 -- Refusals in a log.
 

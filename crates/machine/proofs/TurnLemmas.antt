@@ -1,28 +1,14 @@
 -- A task that fits still fits after its access.
-use Rattle.std.proofs.Common.{◌≡◌, ℕ, ◌+◌, ◌%◌, ◌^◌, List, [], ◌∷◌, ◌++◌, length, refl, ap, sym, subst, ◌∙◌}
-use Rattle.std.specs.Prelude.{Option, Some, None, slice_get, slice_index, slice_set, filter_map}
-use Rattle.std.proofs.lemmas.List.{append-nil, length-append}
-use Rattle.std.proofs.lemmas.List.Elements.{filter_map-append}
+use Rattle.machine.proofs.Common.{◌≡◌, ℕ, ◌+◌, ◌%◌, ◌^◌, List, [], ◌∷◌, ◌++◌, length, refl, ap, sym, subst, ◌∙◌, Option, Some, None, slice_get}
+use Rattle.machine.proofs.Common.{slice_index, slice_set, filter_map, append-nil, length-append, filter_map-append, Stamped, rest_of, Process, Plan}
+use Rattle.machine.proofs.Common.{Invokes, Makes, Responds, begun, finished, invoked, answered, move_of, move_from, invocation, next_in, Task, Idle}
+use Rattle.machine.proofs.Common.{Going, Answered, Runner, Call, Reply, Shape, Variant, Rest, access_of, reply_of, FitsDoing, after_access, next-asks}
+use Rattle.machine.proofs.Common.{fits-after, Advances, FitsProcess, Moves}
 use Rattle.events.specs.declared.event.Event.TheVariants.{Invoke, Answer}
-use Rattle.logs.specs.Logs.{Stamped}
-use Rattle.art.specs.Tasks.{rest_of}
-use Rattle.art_core.specs.declared.process.Process.{Process}
-use Rattle.art_core.specs.Core.{Plan, Invokes, Makes, Responds, begun, finished, invoked, answered, move_of, move_from, invocation, next_in}
-use Rattle.art.specs.declared.task.Task.{Task}
-use Rattle.art.specs.declared.doing.Doing.TheVariants.{Idle, Going, Answered}
-use Rattle.machine.specs.declared.runner.Runner.{Runner}
-use Rattle.events.specs.declared.event.Call.{Call}
-use Rattle.events.specs.declared.event.Reply.{Reply}
-use Rattle.art_rows.specs.declared.table.Shape.{Shape}
-use Rattle.art_steps.specs.declared.variant.Variant.{Variant}
 use Rattle.art_steps.specs.declared.access.Access.{Access}
-use Rattle.art_steps.specs.Steps.{Rest, access_of, reply_of}
 use Rattle.art_steps.specs.Act.{act}
 use Rattle.art_steps.specs.Fits.{Fits}
 use Rattle.art_core.specs.Accesses.{got_by, words_after}
-use Rattle.art.specs.Doings.{FitsDoing, after_access}
-use Rattle.art.proofs.DoingLemmas.{next-asks, fits-after}
-use Rattle.machine.specs.Fitting.{Advances, FitsProcess, Moves}
 
 -- the task took what the access got: it goes on, or its call is answered
 pub taken : (shape : Shape) (variant : Variant) (call : Call) (got old new : List ℕ) (rest : Rest) (a : Access) (w : ℕ)

@@ -5,6 +5,7 @@ use Rattle.orders.specs.Orders.{IsLinearizableHistory}
 use Rattle.art_steps.specs.declared.variant.Variant.TheVariants.{Coupled, Optimistic}
 use Rattle.machine.specs.declared.machines.Machine.{Machine}
 
--- Where the tree is a full one, the history has an order, whatever turns were made and whoever stopped.
+-- If the tree is a full one, the history has an order, whatever turns were made and whichever
+-- processes stopped.
 abbrev pub IsLinearizableIn : Machine → HistoryView → Type 0
 IsLinearizableIn m h = (m.variant ≡ Coupled) ⊎ (m.variant ≡ Optimistic) → IsLinearizableHistory h

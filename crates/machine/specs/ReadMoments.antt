@@ -3,20 +3,21 @@ use Rattle.std.specs.Prelude.{◌≡◌, ℕ, List}
 use Rattle.art_steps.specs.declared.variant.Variant.TheVariants.{Optimistic}
 use Rattle.art_core.specs.Core.{Plan, State}
 use Rattle.art_core.specs.Plans.{IsRun}
-use Rattle.art_versions.specs.moments.Reads.{AnsweredScansHaveMoments, AnsweredGetsHaveMoments}
+use Rattle.art_schedules.specs.moments.Reads.{AnsweredScansHaveMoments, AnsweredGetsHaveMoments}
 use Rattle.machine.specs.declared.machines.Machine.{Machine}
 use Rattle.machine.specs.Machines.{Shows, start_of}
 
--- Where the tree is the optimistic one, this is so of whatever schedule gives what the machine shows.
+-- If the tree is the optimistic one, this is so of whatever schedule gives what the machine shows.
 abbrev pub InRuns : (Plan → List ℕ → List ℕ → Type 0) → Machine → Type 0
 InRuns Holds m = (plan : Plan) (first schedule : List ℕ) (s : State) → IsRun plan (start_of m) first schedule s → Shows plan m s
     → m.variant ≡ Optimistic
     → Holds plan first schedule
 
--- Each scan that was answered in it has one moment at which all that it read stands still.
+-- Each scan that was answered in it has one moment at which nothing that it read changes.
 abbrev pub ScansHaveMoments : Machine → Type 0
 ScansHaveMoments m = InRuns AnsweredScansHaveMoments m
 
--- And each get that was answered in it has one at which the last row that it read stands still, and says the reply.
+-- Each get that was answered in it has one moment at which the last row that it read does not
+-- change, and says the reply.
 abbrev pub GetsHaveMoments : Machine → Type 0
 GetsHaveMoments m = InRuns AnsweredGetsHaveMoments m

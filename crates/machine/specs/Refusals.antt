@@ -9,8 +9,8 @@ use Rattle.plans.specs.declared.fault.MachineFault.TheVariants.{StartRefused}
 abbrev pub HasMove : Plan → State → ℕ → Type 0
 HasMove plan s p = IsSomeAnd (slice_get s.processes p) (λ q. IsSome (next_move plan p q))
 
--- In this state, with so many turns left, a turn of p is refused for this cause: a process is wanted first, then something to do, then a
--- turn.
+-- In this state, with this many turns left, a turn of p is refused for this cause: there is no such
+-- process; else it has nothing to do; else no turn is left.
 abbrev pub IsRefusedIn : Plan → State → ℕ → ℕ → MachineFault → Type 0
 IsRefusedIn plan s left p NoProcess = length s.processes ≤ p
 IsRefusedIn plan s left p NothingToDo = IsSomeAnd (slice_get s.processes p) (λ q. next_move plan p q ≡ None)

@@ -14,13 +14,14 @@ use Rattle.machine.specs.Refusals.{IsRefusedIn}
 abbrev pub plan_of : Shape → Variant → List (List Call) → Plan
 plan_of shape variant scripts = record { shape = shape; variant = variant; scripts = scripts }
 
--- the machine shows the opening state of the plan, with so many turns left and no starting pairs
+-- the machine shows the opening state of the plan, with this many turns left and no starting pairs
 pub record IsOpened (shape : Shape) (variant : Variant) (scripts : List (List Call)) (limit : ℕ) (m : Machine) : Type 0 where
   pub shows : Shows (plan_of shape variant scripts) m (opened (plan_of shape variant scripts))
   pub left : turns_left m ≡ limit
   pub no_start : start_of m ≡ []
 
--- From the first state, with so many turns left, the items were made whole, and the machine shows the state after them.
+-- From the first state, with this many turns left, the items were made whole, and the machine shows
+-- the state after them.
 pub record HasMadeAll (plan : Plan) (items : List Item) (first : State) (left : ℕ) (m : Machine) : Type 0 where
   pub state : State
   pub made : ℕ
@@ -28,7 +29,8 @@ pub record HasMadeAll (plan : Plan) (items : List Item) (first : State) (left : 
   pub shows : Shows plan m state
   pub costs : turns_left m + made ≡ left
 
--- From the first state, with so many turns left, the item was made whole, and the machine shows the state after it.
+-- From the first state, with this many turns left, the item was made whole, and the machine shows
+-- the state after it.
 pub record HasMadeItem (plan : Plan) (item : Item) (first : State) (left : ℕ) (m : Machine) : Type 0 where
   pub state : State
   pub made : ℕ
@@ -36,9 +38,8 @@ pub record HasMadeItem (plan : Plan) (item : Item) (first : State) (left : ℕ) 
   pub shows : Shows plan m state
   pub costs : turns_left m + made ≡ left
 
--- From the first state, with so many turns left, turns of the item were made, the next one that it names is refused for this cause, and the
--- machine shows the
--- state before it.
+-- From the first state, with this many turns left, turns of the item were made. The next one that
+-- it names is refused for this cause, and the machine shows the state before it.
 pub record HasStoppedIn (plan : Plan) (item : Item) (first : State) (left : ℕ) (fault : MachineFault) (m : Machine) : Type 0 where
   pub state : State
   pub made : ℕ

@@ -8,9 +8,8 @@ use Rattle.art_core.specs.Plans.{IsSerial}
 use Rattle.art_core.specs.Meaning.{Means, AllUnlocked}
 use Rattle.machine.specs.declared.machines.Machine.{Machine}
 
--- Where the tree is full and no call overlaps another, the calls by number are legal from the starting pairs on, no row is locked, and the
--- words mean the
--- pairs after them.
+-- If the tree is full and no call overlaps another, the calls by number are legal from the starting
+-- pairs on. Then no row is locked, and the words mean the pairs after them.
 abbrev pub DoesTheMap : Machine → HistoryView → Type 0
 DoesTheMap m h = (m.variant ≡ Coupled) ⊎ (m.variant ≡ Optimistic) → IsSerial h.events
     → IsLegal h.start (operations h.events) × AllUnlocked m.shape m.words.items

@@ -13,8 +13,8 @@ use Rattle.plans.specs.declared.fault.MachineFault.TheVariants as faults
 use Rattle.machine.specs.Machines.{Shows, start_of, turns_left}
 use Rattle.machine.specs.Running.{plan_of}
 
--- The machine shows the state of the plan before its first step, on words with which these pairs start, with so many turns left, and it has
--- the pairs.
+-- The machine shows the state of the plan before its first step, on words with which these pairs
+-- start, with this many turns left, and it has the pairs.
 pub record IsOpenedWith (shape : Shape) (variant : Variant) (start : Contents) (scripts : List (List Call)) (limit : ℕ)
     (m : Machine) : Type 0 where
   pub words : List ℕ
@@ -23,7 +23,7 @@ pub record IsOpenedWith (shape : Shape) (variant : Variant) (start : Contents) (
   pub left : turns_left m ≡ limit
   pub same_start : start_of m ≡ start
 
--- Why a machine with these pairs is not opened: one of them is refused, or memory was wanted.
+-- Why a machine with these pairs is not opened: one of them is refused, or memory ran out.
 abbrev pub IsNotOpened : Shape → Variant → Contents → MachineFault → Type 0
 IsNotOpened shape variant start faults.StartRefused = IsStartRefused shape variant start
 IsNotOpened shape variant start faults.Memory = Unit {0}

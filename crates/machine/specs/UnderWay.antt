@@ -10,7 +10,7 @@ use Rattle.art_core.specs.Plans.{IsPlan}
 use Rattle.machine.specs.declared.runner.Runner.{Runner}
 use Rattle.machine.specs.Fitting.{ShowsState}
 
--- Steps that were made and turns that are left are few together. It started with these pairs.
+-- The steps that were made and the turns that are left are few together.
 pub record IsUnderWay (shape : Shape) (variant : Variant) (start : Contents) (left : ℕ) (words : List ℕ)
     (runners : List Runner) : Type 0 where
   pub plan : Plan

@@ -1,6 +1,6 @@
 // A turn of a machine.
 use crate::machines::Machine;
-use art_versions::{answered_gets_have_moments, answered_scans_have_moments};
+use art_schedules::{answered_gets_have_moments, answered_scans_have_moments};
 use plans::MachineFault;
 use std::alloc::Global;
 
@@ -11,9 +11,10 @@ impl Machine {
     ghost use Rattle.machine.specs.Refusals.{IsRefusedIn};
     ghost use Rattle.machine.specs.ReadMoments.{GetsHaveMoments, ScansHaveMoments};
 
-    /// One step of process p. A refused turn moves nothing. In every schedule of the optimistic tree that gives what the machine
-    /// then shows, each scan that was answered has a moment within it at which all that it read stands still; so has each get, for
-    /// the last row that it read.
+    /// Makes one step of process p. A refused turn moves nothing. In every schedule of the
+    /// optimistic tree that gives what the machine then shows, each scan that was answered has a
+    /// moment within it at which nothing that it read changes. Each get has one for the last row
+    /// that it read, which says its reply.
     pub fn turn(&mut self, alloc: Global, p: usize) -> Result<(), MachineFault>
         ensures moved { (plan : Plan) (s : State) → Shows plan self.old s
             → OnOk result (IsSomeAnd (step plan s p) (λ next. Shows plan self.new next)) }

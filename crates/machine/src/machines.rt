@@ -1,4 +1,4 @@
-// Processes on one vector of words, that step when they are told to.
+// Processes on one vector of words. The caller says which of them makes the next step.
 ghost use Rattle.std.specs.Prelude.{◌≡◌, ◌≤◌, length};
 ghost use Rattle.art_rows.specs.Table.{table_words};
 ghost use Rattle.machine.specs.Fitting.{AreFor};

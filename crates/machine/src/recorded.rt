@@ -1,9 +1,11 @@
 // What a machine has recorded.
 use crate::machines::Machine;
 use crate::runner::Runner;
-use art_schedules::{coupled_is_linearizable, optimistic_is_linearizable};
+use art_schedules::{
+    answered_gets_have_moments, answered_scans_have_moments, coupled_is_linearizable,
+    optimistic_is_linearizable,
+};
 use art_serial::serial_is_map;
-use art_versions::{answered_gets_have_moments, answered_scans_have_moments};
 use events::{Event, History, Memory};
 use logs::{append_log, history_by_stamp};
 use std::alloc::Global;
@@ -16,12 +18,14 @@ impl Machine {
     ghost use Rattle.machine.specs.Serial.{DoesTheMap};
     ghost use Rattle.machine.specs.Linearizable.{IsLinearizableIn};
 
-    /// The history so far: the starting pairs, and all events by rising stamp. Open calls are pending, and calls that were
-    /// not begun are not in it. Where the tree is full, the history is linearizable, whatever turns were made and whoever
-    /// stopped; and where no call overlaps another, it is legal from its starting pairs on, no row is locked, and the words
-    /// mean the pairs after it. Where the tree is the optimistic one, each scan that was answered has a moment within it at
-    /// which all that it read stands still, and at which it would read the same alone; so has each get, for the last row that
-    /// it read, which says its reply. `Err` is want of memory.
+    /// The history so far: the starting pairs, and all events by rising stamp. Open calls are
+    /// pending, and calls that were not begun are not in it. If the tree is full, the history is
+    /// linearizable, whatever turns were made and whichever processes stopped. If also no call
+    /// overlaps another, it is legal from its starting pairs on, no row is locked, and the words
+    /// mean the pairs after it. If the tree is the optimistic one, each scan that was answered has
+    /// a moment within it at which nothing that it read changes, and at which it would read the
+    /// same if it ran alone. Each get has one for the last row that it read, which says its reply.
+    /// It returns `Err` if memory runs out.
     pub fn history(&self, alloc: Global) -> Result<History, Memory>
         ensures history { (plan : Plan) (s : State) → Shows plan self.now s → IfOk result (λ h. h
             ≡ record { start = start_of self.now; events = history_of s }) }

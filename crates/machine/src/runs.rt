@@ -4,7 +4,7 @@ ghost use Rattle.std.specs.Prelude.{◌≡◌, ◌↔◌, IsTrue, Some};
 use crate::machines::Machine;
 use art::Point;
 use art_core::Item;
-use art_versions::{answered_gets_have_moments, answered_scans_have_moments};
+use art_schedules::{answered_gets_have_moments, answered_scans_have_moments};
 use plans::{MachineFault, RunFault};
 use std::alloc::Global;
 
@@ -16,9 +16,11 @@ impl Machine {
     ghost use Rattle.machine.specs.Running.{HasMadeAll, HasMadeItem, HasStoppedIn, HasStoppedAt};
     ghost use Rattle.machine.specs.ReadMoments.{GetsHaveMoments, ScansHaveMoments};
 
-    /// Makes the turns that the items name, in order, up to the first that is refused. The turns before it stand, and the
-    /// refused one moves nothing. In every schedule of the optimistic tree that gives what the machine then shows, each scan that
-    /// was answered has a moment within it at which all that it read stands still; so has each get, for the last row that it read.
+    /// Makes the turns that the items name, in order, up to the first that is refused. The turns
+    /// before it are made, and the refused one moves nothing. In every schedule of the optimistic
+    /// tree that gives what the machine then shows, each scan that was answered has a moment within
+    /// it at which nothing that it read changes. Each get has one for the last row that it read,
+    /// which says its reply.
     pub fn run(&mut self, alloc: Global, schedule: &[Item]) -> Result<(), RunFault>
         ensures made { (plan : Plan) (s : State) → Shows plan self.old s
             → OnOk result (HasMadeAll plan schedule.now s (turns_left self.old) self.new) }
@@ -56,7 +58,8 @@ impl Machine {
         Ok(())
     }
 
-    /// Whether an item names one turn more after so many, where its process had finished so many calls before the first.
+    /// Whether an item names one more turn after `made` turns, if its process had finished `before`
+    /// calls before the first.
     fn wants(&self, item: Item, before: usize, made: u32) -> bool
         ensures { (plan : Plan) (first now : State) → Shows plan self.now now
             → before ≡ finished_count (slice_get first.processes (process_of_item item))

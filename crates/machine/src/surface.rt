@@ -17,8 +17,8 @@ impl Machine {
     ghost use Rattle.machine.specs.Running.{plan_of, IsOpened};
     ghost use Rattle.machine.specs.Starting.{IsOpenedWith, IsNotOpened};
 
-    /// A machine before its first turn, with a script for each process and at most this many turns. It starts with no pairs.
-    /// `Err` is want of memory.
+    /// Opens a machine before its first turn, with a script for each process and at most this many
+    /// turns. It starts with no pairs. It returns `Err` if memory runs out.
     pub fn open(
         alloc: Global,
         shape: Shape,
@@ -48,9 +48,10 @@ impl Machine {
         }
     }
 
-    /// The same with pairs of a key and a value in the tree, by rising key. They are inserted one after another by steps of
-    /// the variant, which are no turns of the machine. `Err` is `StartRefused` where one of them has no place in the tree,
-    /// else want of memory: `starts_end` is the law that the steps are enough.
+    /// Opens a machine with pairs of a key and a value in the tree, by rising key. They are
+    /// inserted one after another by steps of the variant, which are no turns of the machine. It
+    /// returns `StartRefused` if one of them has no place in the tree, and else `Memory` if memory
+    /// runs out. `starts_end` is the law that the steps are enough.
     pub fn open_with(
         alloc: Global,
         shape: Shape,

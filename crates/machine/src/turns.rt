@@ -113,7 +113,8 @@ impl Runner {
         }
     }
 
-    /// One step: the stamp of an invocation, an access, or the stamp of a response. Where memory is wanting nothing has changed.
+    /// Makes one step: the stamp of an invocation, an access, or the stamp of a response. If memory
+    /// runs out, nothing has changed.
     pub fn turn(
         &mut self,
         alloc: Global,

@@ -37,7 +37,7 @@ below_none key [] h = refl
 below_none key (pair ∷ m) h =
     grind (arith, nat_tests, All-head (λ (p : ℕ × ℕ). key < p.0) pair m h, below_none key m (All-tail (λ (p : ℕ × ℕ). key < p.0) pair m h))
 
--- a key that no pair has is not found, and a pair behind others finds its value
+-- a key that no pair has is not found, and a pair after others finds its value
 pub value_at_above : (key : ℕ) (back : Contents) → AreAbove key back → value_at back key ≡ None
 value_at_above key [] h = refl
 value_at_above key (pair ∷ back) h =
@@ -70,7 +70,7 @@ module _ (key : ℕ) (front back : Contents) (lower : AreBelow key front) (highe
   pub value_at_gap : value_at (front ++ back) key ≡ None
   value_at_gap = value_at-append key front back lower ∙ value_at_above key back higher
 
--- the same with a pair of the key between them: it is found there
+-- pairs below a key, a pair of the key, and pairs above it: the key is found there
 module _ (key value : ℕ) (front back : Contents) (lower : AreBelow key front) (higher : AreAbove key back) where
   pub below_found : below key (front ++ (key, value) ∷ back) ≡ front
   below_found = rw (filter-append, below_all key front lower) (grind (arith, nat_tests, below_none key back higher, append-nil front))

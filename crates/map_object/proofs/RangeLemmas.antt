@@ -6,7 +6,7 @@ use Rattle.std.proofs.lemmas.List.{get_or-drop, length-drop}
 use Rattle.std.proofs.lemmas.Bool.Decides.{nat_tests}
 use Rattle.map_object.specs.MapObject.{Contents, IsRising, within}
 
--- i parts the list: what stands before it passes p, and what stands from it on fails
+-- i parts the list: what comes before it passes p, and what comes from it on fails
 abbrev pub PartsAt : {X : Type 0} → (X → Bool) → List X → ℕ → Type 0
 PartsAt p xs i = IsPartitionPoint (λ y. p y ≡ true) (λ y. p y ≡ false) xs i
 
@@ -25,7 +25,7 @@ filter_parted p (x ∷ xs) zero h = rw (h.1 0 x (omega arith) (omega arith)) (fi
 filter_parted {X = X} p (x ∷ xs) (suc i) h =
     rw (h.0 0 x (omega arith) (omega arith)) (ap (λ (l : List X). x ∷ l) (filter_parted p xs i (PartsAt-tail p x xs i h)))
 
--- a range lies behind the pairs below its first key
+-- a range lies after the pairs below its first key
 within_from : (low high : ℕ) (m : Contents) (from : ℕ) → PartsAt (λ pair. nat_lt pair.0 low) m from
     → within low high m ≡ filter (λ pair. nat_le pair.0 high) (drop from m)
 within_from low high [] zero h = refl
@@ -47,7 +47,7 @@ within_from low high (pair ∷ m) (suc from) h =
           (PartsAt-tail (λ (p : ℕ × ℕ). nat_lt p.0 low) pair m from h),
     )
 
--- and ends before those above its last key
+-- a range ends before the pairs above its last key
 pub range_is : (low high : ℕ) (m : Contents) (from count : ℕ) → PartsAt (λ pair. nat_lt pair.0 low) m from
     → PartsAt (λ pair. nat_le pair.0 high) (drop from m) count → take count (drop from m) ≡ within low high m
 range_is low high m from count below upto =

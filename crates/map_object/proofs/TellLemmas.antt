@@ -1,4 +1,4 @@
--- What replies tell of the answer that the map gives: told ones all of it.
+-- What replies report of the answer that the map gives: complete ones report all of it.
 use Rattle.events.specs.declared.event.Reply.TheVariants as replies
 use Rattle.std.proofs.Common.{◌≡◌, ◌≢◌, ℕ, true, Option, Some, None, refl, sym, subst}
 use Rattle.events.specs.declared.event.Call.{Call}
@@ -20,7 +20,7 @@ reply_to_answers m (Remove key) e = value_answers (value_at m key) e
 reply_to_answers m (Scan low high) e = cc
 reply_to_answers m (Replace key expected value) e = value_answers (value_at m key) e
 
--- and tells all
+-- a value, or none, is a complete reply
 value_told : (value : Option ℕ) → is_told (value_reply value) ≡ true
 value_told None = refl
 value_told (Some value) = refl
@@ -32,7 +32,7 @@ reply_to_told m (Remove key) = value_told (value_at m key)
 reply_to_told m (Scan low high) = refl
 reply_to_told m (Replace key expected value) = value_told (value_at m key)
 
--- a told reply tells of the whole answer where it is that answer, and only there
+-- a complete reply reports of the whole answer if it is that answer, and only then
 tells_by : (call : Call) (whole : Reply) → is_told whole ≡ true → TellsOf call whole whole
 tells_by call replies.None told = refl
 tells_by call (replies.Some value) told = refl
@@ -54,7 +54,7 @@ whole_from_tells call whole replies.Done told tells = cc
 whole_from_tells call whole replies.Found told tells = cc
 whole_from_tells call whole replies.Other told tells = cc
 
--- a reply that tells of what the map gives is no refusal
+-- a reply that reports of what the map gives is no refusal
 pub tells_answers : (m : Contents) (call : Call) (reply : Reply) → TellsOf call (reply_to m call) reply → reply ≢ replies.Refused
 tells_answers m call replies.None tells e = cc
 tells_answers m call (replies.Some value) tells e = cc

@@ -1,4 +1,4 @@
--- The values of pairs at keys, which tell pairs by rising key.
+-- The values of pairs at keys, which determine pairs that are sorted by key.
 use Rattle.std.proofs.Common.{◌≡◌, ℕ, ◌<◌, [], ◌∷◌, get_or, Some, refl, sym, ◌∙◌, subst, ⊎_elim, arith}
 use Rattle.std.proofs.lemmas.Bool.{eq-eqb, ne_eqb, cases_order}
 use Rattle.std.proofs.lemmas.Option.{none-some, same_Some}
@@ -6,7 +6,7 @@ use Rattle.std.proofs.lemmas.List.Elements.{All-cons}
 use Rattle.map_object.specs.MapObject.{Contents, IsRising, value_at}
 use Rattle.map_object.proofs.MapLemmas.{AreAbove, AreAbove-first, IsRising-rest, value_at_above}
 
--- the first pair has the value at its own key, and those behind it have those at others
+-- the first pair has the value at its own key, and those after it have those at others
 pub first_value : (k v : ℕ) (m : Contents) → value_at ((k, v) ∷ m) k ≡ Some v
 first_value k v m = rw (eq-eqb k k refl) refl
 

@@ -93,8 +93,8 @@ misses (Remove key) whole = false
 misses (Scan low high) whole = false
 misses (Replace key expected value) whole = is_none_or_other expected whole
 
--- a reply says all that the complete answer says, or a part of it: that the call was done, that it
--- found a value, or that it did not find the expected one
+-- a reply says all that the complete answer says, or a part of it: only that the call was done, or
+-- that it found a value, or that it did not find the expected one
 abbrev pub TellsOf : Call → Reply → Reply → Type 0
 TellsOf call whole replies.Done = ⊤
 TellsOf call whole replies.Found = IsTrue (is_value whole)

@@ -1,19 +1,12 @@
 -- Bits of words: one more is set, the lowest are dropped, zeros at the end are dropped.
-use Rattle.std.proofs.Common.{◌≡◌, ℕ, ◌+◌, ◌-◌, ◌*◌, ◌/◌, ◌%◌, ◌^◌, ◌<◌, ◌≤◌, List, ◌∷◌, [], ◌++◌, length, map}
-use Rattle.std.proofs.Common.{take, drop, replicate, set, get_or, max, sym, ap, ap₂, ◌∙◌, ⊎_elim, w64, length-set, get_or-set_same}
-use Rattle.std.proofs.Common.{get_or-set_other, arith}
-use Rattle.std.specs.Prelude.{◌≢◌, bit_or}
-use Rattle.std.specs.Int.{bit_at, trailing_ones}
-use Rattle.std.specs.List.{range_with_len}
-use Rattle.std.proofs.lemmas.Bool.{cases_lt, cases_eq}
-use Rattle.std.proofs.lemmas.List.{get_or_past, get_or-drop, get_or-replicate, take_all, length-replicate, length-append}
+use Rattle.memo.proofs.Common.{◌≡◌, ℕ, ◌+◌, ◌-◌, ◌*◌, ◌/◌, ◌%◌, ◌^◌, ◌<◌, ◌≤◌, List, ◌∷◌, [], ◌++◌, length, map, take, drop, replicate, set, get_or}
+use Rattle.memo.proofs.Common.{max, sym, ap, ap₂, ◌∙◌, ⊎_elim, w64, length-set, get_or-set_same, get_or-set_other, arith, ◌≢◌, bit_or, bit_at}
+use Rattle.memo.proofs.Common.{trailing_ones, range_with_len, cases_lt, cases_eq, get_or_past, get_or-drop, get_or-replicate, take_all}
+use Rattle.memo.proofs.Common.{length-replicate, length-append, length-map-range_with_len, get_or-map-range_with_len, shr-shr, div-add-mod', pow_pos}
+use Rattle.memo.proofs.Common.{or_lt, bit_at-zero, bit_at_or, bit_at_set_same, bit_at_set_other, bit_at_above, bit_at_cat_low, bit_at_cat_high}
+use Rattle.memo.proofs.Common.{bit_at_ones, bit_at-trailing_ones, bit_of, IsTrimmed, AreWords, shifted_word}
 use Rattle.std.proofs.Math.ListN.{get_or-append}
 use Rattle.std.proofs.Math.Seq.{get_or-append_right}
-use Rattle.std.proofs.lemmas.List.FromFn.{length-map-range_with_len, get_or-map-range_with_len}
-use Rattle.std.proofs.lemmas.Nat.{shr-shr, div-add-mod', pow_pos, or_lt}
-use Rattle.std.proofs.lemmas.Nat.Bits.{bit_at-zero, bit_at_or, bit_at_set_same, bit_at_set_other}
-use Rattle.std.proofs.lemmas.Nat.Bits.{bit_at_above, bit_at_cat_low, bit_at_cat_high, bit_at_ones, bit_at-trailing_ones}
-use Rattle.memo.specs.Words.{bit_of, IsTrimmed, AreWords, shifted_word}
 use Rattle.memo.proofs.WordLemmas.{bit_of-past, bit_of-at}
 
 -- words that read alike, with bit n set in one of those of the second list
@@ -134,7 +127,7 @@ module _ (words : List ℕ) (count : ℕ) (few : count < 64) (each : AreWords wo
       ∙ ap (bit_of words) (omega (arith, high, few)))
       (cases_lt (i + (count + 1)) 64)
 
-  -- each bit is the one that stood higher
+  -- each bit is the one that was higher
   pub bit_of-moved : (n : ℕ) → bit_of moved n ≡ bit_of words (n + (count + 1))
   bit_of-moved n =
       ⊎_elim
@@ -174,11 +167,11 @@ module _ (grown words front : List ℕ) (size len : ℕ) (is : grown ≡ take si
   grown_is = is ∙ ap₂ (λ (xs : List ℕ) (m : ℕ). take size (xs ++ words) ++ replicate (size - m) 0) none length_is
       ∙ ap (λ (xs : List ℕ). xs ++ replicate (size - length words) 0) (take_all size words longer)
 
-  -- they read alike
+  -- the words read as before
   pub grown_alike : (k : ℕ) → get_or grown k 0 ≡ get_or words k 0
   grown_alike k = ap (λ (xs : List ℕ). get_or xs k 0) grown_is ∙ read_zeros words (size - length words) k
 
-  -- and have the size
+  -- the words have the size
   pub length-grown : length grown ≡ size
   length-grown = ap length grown_is ∙ length-append words (replicate (size - length words) 0)
       ∙ ap (λ (m : ℕ). length words + m) (length-replicate {A = ℕ} (size - length words) 0) ∙ omega (arith, longer)

@@ -1,18 +1,13 @@
--- Pairs are told by what differs from those at the start, and by nothing else.
-use Rattle.std.proofs.Common.{◌≡◌, ◌<◌, ◌≤◌, ◌+◌, ◌-◌, ℕ, Bool, true, false, cond, [], ◌∷◌, Option, Some, None, refl, sym, ap, ◌∙◌, subst, inl, inr, drop, get_or, length, ⊎_elim, arith}
-use Rattle.std.specs.Prelude.{◌==◌, ◌⊎◌, is_none, is_some, filter, if◌then◌else◌, All}
-use Rattle.std.proofs.lemmas.Bool.{both_ways, eqb-true, eq-eqb, cases_eq, cases_Bool}
-use Rattle.std.proofs.lemmas.List.{drop_more}
-use Rattle.std.proofs.lemmas.List.Kept.{AllPairs-filter}
-use Rattle.std.proofs.lemmas.List.Elements.{All-head, All-tail}
-use Rattle.map_object.specs.MapObject.{Contents, IsRising, value_at, put}
-use Rattle.list_laws.proofs.Lists.{AllPairs-nil}
-use Rattle.memo.specs.Differences.{with_value, value_put, value_gone, value_from, differs, IsDifference, put_all, pairs_from}
-use Rattle.map_object.proofs.MapLemmas.{AreAbove-first, IsRising-rest, value_at_above}
-use Rattle.map_object.proofs.ValueLemmas.{first_value, later_value, same_pairs}
+-- Pairs are given by what differs from those at the start, and by nothing else.
+use Rattle.memo.proofs.Common.{◌≡◌, ◌<◌, ◌≤◌, ◌+◌, ◌-◌, ℕ, Bool, true, false, cond, [], ◌∷◌, Option, Some, None, refl, sym, ap, ◌∙◌, subst, inl, inr}
+use Rattle.memo.proofs.Common.{drop, get_or, length, ⊎_elim, arith, ◌==◌, ◌⊎◌, is_some, filter, if◌then◌else◌, All, both_ways, eqb-true, eq-eqb}
+use Rattle.memo.proofs.Common.{cases_eq, cases_Bool, drop_more, AllPairs-filter, All-head, All-tail, Contents, IsRising, value_at, put, AllPairs-nil}
+use Rattle.memo.proofs.Common.{with_value, value_put, value_gone, value_from, differs, IsDifference, put_all, pairs_from, AreAbove-first}
+use Rattle.memo.proofs.Common.{IsRising-rest, value_at_above, first_value, later_value, same_pairs}
+use Rattle.std.specs.Prelude.{is_none}
 use Rattle.memo.proofs.ValueLemmas.{or_else, kept_there, value_at-kept, value_at-own, value_at-other, with_value-rises}
 
--- ---- the pairs that are told
+-- ---- the pairs that a difference gives
 
 -- pairs put have their values, and other keys have those that they had
 value_at-put_all : (pairs m : Contents) (key : ℕ) → value_at (put_all pairs m) key ≡ or_else (value_at pairs key) (value_at m key)
@@ -53,9 +48,9 @@ pairs_from-rises start put gone rising =
     put_all-rises put (filter (λ pair. is_none (value_at gone pair.0)) start)
     (AllPairs-filter (λ (a : ℕ × ℕ) (b : ℕ × ℕ). a.0 < b.0) (λ (pair : ℕ × ℕ). is_none (value_at gone pair.0)) start rising)
 
--- ---- a difference tells the pairs
+-- ---- a difference determines the pairs
 
--- a value is told by what is put and what is gone
+-- what is put and what is gone determine a value
 value_back : (first value : Option ℕ) → value_from first (value_put first value) (value_gone first value) ≡ value
 value_back None None = refl
 value_back (Some first) None = refl
@@ -63,7 +58,7 @@ value_back None (Some value) = refl
 value_back (Some first) (Some value) = ⊎_elim (λ same. rw same (ap Some (eqb-true first value same))) (λ other. rw other refl)
     (cases_Bool (first == value))
 
--- pairs are those that their difference tells
+-- pairs are those that their difference gives
 pub pairs_from-is : (start pairs put gone : Contents) → IsRising start → IsRising pairs → IsDifference start pairs put gone
     → pairs_from start put gone ≡ pairs
 pairs_from-is start pairs put gone start_rises rises is =
@@ -180,7 +175,7 @@ IsDifference-made start pairs start_rises rises = record {
   gone = λ key. value_at-kept (λ k. is_none (value_at pairs k)) start key ∙ gone_made (value_at start key) (value_at pairs key);
 }
 
--- ---- pairs told from different starts
+-- ---- pairs that are given from different starts
 
 -- values that are the same at the keys of pairs are the same at a key, or the pairs have none there
 agree_at : (pairs : Contents) (a b : ℕ → Option ℕ) (key : ℕ) → All (λ (pair : ℕ × ℕ). a pair.0 ≡ b pair.0) pairs
@@ -191,7 +186,7 @@ agree_at ((k, v) ∷ pairs) a b key each =
     (λ other. ⊎_elim (λ here. inl here) (λ none. inr (later_value k v pairs key other ∙ none))
     (agree_at pairs a b key (All-tail (λ (pair : ℕ × ℕ). a pair.0 ≡ b pair.0) (k, v) pairs each))) (cases_eq k key)
 
--- where neither the start nor what is put has a value, there is none
+-- if neither the start nor what is put has a value, there is none
 from_none : (first put left : Option ℕ) → first ≡ None → put ≡ None → value_from first put left ≡ None
 from_none first put None no_first no_put = rw (no_first, no_put) refl
 from_none first put (Some value) no_first no_put = rw (no_first, no_put) refl

@@ -1,17 +1,9 @@
 -- Sums of mixed numbers modulo 2^64, and how they change.
-use Rattle.std.proofs.Common.{◌≡◌, ℕ, ◌+◌, ◌-◌, ◌/◌, ◌%◌, ◌^◌, ◌<◌, true, false, List, Option, None, Some, [], ◌∷◌, refl, sym, ap, ◌∙◌}
-use Rattle.std.proofs.Common.{subst, ⊎_elim, arith, zero-add}
-use Rattle.std.specs.Prelude.{◌⊎◌, bit_xor, nat_lt, filter, Contains}
-use Rattle.std.specs.List.{sum_by}
-use Rattle.std.proofs.lemmas.Bool.{cases_order}
-use Rattle.std.proofs.lemmas.Bool.Decides.{nat_tests}
+use Rattle.memo.proofs.Common.{◌≡◌, ℕ, ◌+◌, ◌-◌, ◌/◌, ◌%◌, ◌^◌, ◌<◌, true, false, List, Option, None, Some, [], ◌∷◌, refl, sym, ap, ◌∙◌, subst}
+use Rattle.memo.proofs.Common.{⊎_elim, arith, zero-add, ◌⊎◌, bit_xor, nat_lt, filter, Contains, sum_by, cases_order, nat_tests, mul-mod_first}
+use Rattle.memo.proofs.Common.{Contains-first, Contains-later, Contents, IsRising, value_at, with_value, mix, mix_pair, mix_value, with_place}
 use Rattle.std.proofs.lemmas.List.Sums.{sum_by-append, sum_by-cons}
-use Rattle.std.proofs.lemmas.Nat.{mul-mod_first}
-use Rattle.list_laws.proofs.Lists.{Contains-first, Contains-later}
-use Rattle.map_object.specs.MapObject.{Contents, IsRising, value_at, below as below_key, above as above_key}
-use Rattle.memo.specs.Differences.{with_value}
-use Rattle.memo.specs.Digest.{mix, mix_pair, mix_value}
-use Rattle.memo.specs.Taking.{with_place}
+use Rattle.map_object.specs.MapObject.{below as below_key, above as above_key}
 use Rattle.memo.proofs.ValueLemmas.{with_value-is}
 
 -- a number mixes as its rest by 2^64
@@ -56,7 +48,7 @@ sum_changed key old new old_rises new_rises same =
     ap (sum_by mix_pair) (sym (with_value-is key old new old_rises new_rises same)) ∙ sum_with_value key old (value_at new key) in
     omega (arith, by_old, by_new)
 
--- those below and those above a number that is not in a list have the sum of all
+-- the numbers below and those above a number that is not in a list have the sum of all
 module _ (f : ℕ → ℕ) (place : ℕ) where
   abbrev below : List ℕ → ℕ
   below xs = sum_by f (filter (λ n. nat_lt n place) xs)

@@ -1,27 +1,18 @@
--- What is kept of a configuration is the only form that tells it.
-use Rattle.std.proofs.Common.{◌≡◌, ℕ, ◌+◌, ◌-◌, ◌%◌, ◌^◌, ◌<◌, Bool, true, false, ◌++◌, ◌∷◌, [], List, Option, Some, Result, Ok, Err}
-use Rattle.std.proofs.Common.{option_map, get_or, length, zero-add, refl, sym, ap, ◌∙◌, subst, ⊎_elim}
-use Rattle.std.specs.Prelude.{◌≢◌, ◌↔◌, ◌⊎◌, IsTrue, IfOk, OnErr, IsSomeAnd, if◌then◌else◌, slice_get, All, AllPairs, Contains}
-use Rattle.std.specs.List.{sum_by}
-use Rattle.std.proofs.lemmas.List.{map-append, length-map}
-use Rattle.std.proofs.lemmas.List.Elements.{All-contains, All-push, All-nil}
-use Rattle.std.proofs.lemmas.Option.{slice_get-map, slice_get_read}
+-- What is stored of a configuration is the only form of it.
+use Rattle.memo.proofs.Common.{◌≡◌, ℕ, ◌+◌, ◌-◌, ◌%◌, ◌^◌, ◌<◌, Bool, true, false, ◌++◌, ◌∷◌, [], List, Option, Some, Result, Ok, Err, option_map}
+use Rattle.memo.proofs.Common.{get_or, length, zero-add, refl, sym, ap, ◌∙◌, subst, ⊎_elim, ◌≢◌, ◌↔◌, ◌⊎◌, IsTrue, IfOk, OnErr, IsSomeAnd}
+use Rattle.memo.proofs.Common.{if◌then◌else◌, slice_get, All, AllPairs, Contains, sum_by, map-append, length-map, All-contains, All-push, All-nil}
+use Rattle.memo.proofs.Common.{slice_get-map, slice_get_read, Contents, IsRising, value_at, Configuration, HasDigest, digest_of, mix_place, mix_pair}
+use Rattle.memo.proofs.Common.{mix_value, IsDifference, pairs_from, with_value, value_put, value_gone, value_from, AgreeBut, with_place, after_one}
+use Rattle.memo.proofs.Common.{Kept, kept_of, same_kept, configuration_from, IsKept, configurations_from}
 use Rattle.list_laws.proofs.NumberLemmas.{IsSomeAnd-within}
 use Rattle.list_laws.proofs.FilterLemmas.{Contains-map, Contains-from_map, AllPairs-map, AllPairs-weaker}
-use Rattle.map_object.specs.MapObject.{Contents, IsRising, value_at}
-use Rattle.configurations.specs.Configurations.{Configuration}
 use Rattle.configurations.specs.Counts.{AreDistinct}
 use Rattle.configurations.proofs.ConfigurationLemmas.{configuration_of, same_configuration}
-use Rattle.memo.specs.Digest.{HasDigest, digest_of, mix_place, mix_pair, mix_value}
-use Rattle.memo.specs.Differences.{IsDifference, pairs_from, with_value, value_put, value_gone, value_from}
-use Rattle.memo.specs.Keys.{AgreeBut}
-use Rattle.memo.specs.Taking.{with_place, after_one}
-use Rattle.memo.specs.Kept.{Kept, kept_of, same_kept, configuration_from, IsKept}
-use Rattle.memo.specs.Visits.{configurations_from}
 use Rattle.memo.proofs.DifferenceLemmas.{pairs_from-is, pairs_from-rises, value_at-from, same_put, same_gone, IsDifference-start, IsDifference-with}
 use Rattle.memo.proofs.DigestLemmas.{digest_after, digest_as_before, digest_anew, sum_changed, sum_by-with_place}
 
--- what tells the same configuration is the same
+-- two forms of one configuration are the same
 pub same_from_configuration : (start : Contents) (a b : Kept) → IsKept start a → IsKept start b
     → configuration_from start a ≡ configuration_from start b → a ≡ b
 same_from_configuration start a b a_is b_is same =
@@ -34,7 +25,7 @@ same_from_configuration start a b a_is b_is same =
     let digest : a.digest ≡ b.digest = a_is.digest.digest_is ∙ ap digest_of same ∙ sym b_is.digest.digest_is in
     same_kept a b (digest, (taken, (put, gone)))
 
--- a form tells a configuration, where its difference and digest are those of its pairs
+-- a form gives a configuration, if its difference and digest are those of its pairs
 pub IsKept-from : (start pairs : Contents) (kept : Kept) → IsRising start → IsRising pairs → IsDifference start pairs kept.put kept.gone
     → HasDigest kept.taken pairs kept.digest → (pairs_from start kept.put kept.gone ≡ pairs) × IsKept start kept
 IsKept-from start pairs kept start_rises rises difference digest =
@@ -171,7 +162,7 @@ kept_at start visited read now from kept P now_is read_is is some =
     subst (λ cs. slice_get cs from ≡ Some (configuration_from start kept)) now_is (slice_get-kept start visited from kept here)
 
 module _ (start : Contents) (visited : List Kept) (kept : Kept) (after : List Kept) where
-  -- all that is kept is still in its only form
+  -- all that is stored is still in its only form
   pub all_kept : {E : Type 0} (r : Result Bool E) → IfOk r (λ new. after ≡ (if new then visited ++ kept ∷ [] else visited))
       → OnErr r (after ≡ visited) → All (IsKept start) visited → IsKept start kept → All (IsKept start) after
   all_kept (Ok true) h k each is = subst (All (IsKept start)) (sym h) (All-push (IsKept start) visited kept each is)
@@ -188,7 +179,7 @@ module _ (start : Contents) (visited : List Kept) (kept : Kept) (after : List Ke
           λ out. h.1 (λ in_it. out (subst (Contains (configurations_from start visited)) same (told.1 in_it))),
         )
 
-    -- and is visited then
+    -- a configuration that was stored is visited then
     pub visited_told : (new : Bool) → after ≡ (if new then visited ++ kept ∷ [] else visited)
         → configurations_from start after ≡ (if new then configurations_from start visited ++ next ∷ [] else configurations_from start visited)
     visited_told true h =
@@ -198,7 +189,8 @@ module _ (start : Contents) (visited : List Kept) (kept : Kept) (after : List Ke
 
 -- ---- other pairs at the start
 
--- where nothing was visited, or the pairs at the start are the same, what is kept is kept over both
+-- if nothing was visited, or the pairs at the start are the same, what is stored is a form over
+-- both
 module _ (start other : Contents) (visited : List Kept) (shares : (visited ≡ []) ⊎ (start ≡ other)) where
   pub each_shared : All (IsKept start) visited → All (IsKept other) visited
   each_shared each = ⊎_elim (λ none. subst (All (IsKept other)) (sym none) (All-nil (IsKept other)))
@@ -208,7 +200,7 @@ module _ (start other : Contents) (visited : List Kept) (shares : (visited ≡ [
   told_shared = ⊎_elim (λ none. ap (configurations_from start) none ∙ sym (ap (configurations_from other) none))
       (λ same. ap (λ m. configurations_from m visited) same) shares
 
--- what is kept over one start, told from another
+-- what is stored over one start, given from another
 module _ (start other : Contents) (old new : Kept) (is : IsKept start old) (rises : IsRising start) (other_rises : IsRising other)
     (taken_is : new.taken ≡ old.taken) (digest_is : new.digest ≡ old.digest)
     (difference : IsDifference other (pairs_from start old.put old.gone) new.put new.gone) where

@@ -1,14 +1,13 @@
 -- A call changes the value of its key alone.
-use Rattle.std.proofs.Common.{◌≡◌, ℕ, Bool, true, false, cond, Option, Some, None, refl}
+use Rattle.memo.proofs.Common.{◌≡◌, ℕ, Bool, true, false, cond, Option, Some, None, refl, Contents, value_at, put, is_just, after, after_reply}
+use Rattle.memo.proofs.Common.{key_changed, AgreeBut}
 use Rattle.events.specs.declared.event.Call.{Call}
 use Rattle.events.specs.declared.event.Call.TheVariants.{Get, Insert, Remove, Scan, Replace}
 use Rattle.events.specs.declared.event.Reply.{Reply}
-use Rattle.events.specs.declared.event.Reply.TheVariants as replies
 use Rattle.events.specs.declared.operation.Response.{Response}
-use Rattle.map_object.specs.MapObject.{Contents, value_at, put, is_just, after, after_reply}
 use Rattle.orders.specs.Orders.{after_call}
-use Rattle.memo.specs.Keys.{key_changed, AgreeBut}
 use Rattle.memo.proofs.ValueLemmas.{value_at-other}
+use Rattle.events.specs.declared.event.Reply.TheVariants as replies
 
 -- pairs that stay agree with themselves
 unchanged : (key : Option ℕ) (m : Contents) → AgreeBut key m m

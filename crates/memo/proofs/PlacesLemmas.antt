@@ -1,11 +1,7 @@
 -- One more place in a set that is kept as its least missing number and bits.
-use Rattle.std.proofs.Common.{◌≡◌, ℕ, ◌+◌, ◌-◌, ◌^◌, ◌<◌, ◌≤◌, List, sym, ap, ◌∙◌, inl, inr, ⊎_elim, arith}
-use Rattle.std.specs.Prelude.{◌≢◌, ◌⊎◌, ◌↔◌, All, Contains}
-use Rattle.std.proofs.lemmas.Bool.{cases_order, cases_lt, cases_eq}
-use Rattle.std.proofs.lemmas.List.Elements.{All-contains}
-use Rattle.list_laws.proofs.Lists.{All-from_contains}
-use Rattle.memo.specs.Taking.{with_place}
-use Rattle.memo.specs.Words.{bit_of, places_of, IsTrimmed, AreWords, ArePlaces}
+use Rattle.memo.proofs.Common.{◌≡◌, ℕ, ◌+◌, ◌-◌, ◌^◌, ◌<◌, ◌≤◌, List, sym, ap, ◌∙◌, inl, inr, ⊎_elim, arith, ◌≢◌, ◌⊎◌, ◌↔◌, All, Contains}
+use Rattle.memo.proofs.Common.{cases_order, cases_lt, cases_eq, All-contains, All-from_contains, with_place, bit_of, places_of, IsTrimmed, AreWords}
+use Rattle.memo.proofs.Common.{ArePlaces}
 use Rattle.memo.proofs.TakingLemmas.{Contains-with_place, with_place-rises}
 use Rattle.memo.proofs.WordLemmas.{IsAmong, Contains-places_of, places_of-rises, places_of-is}
 
@@ -23,7 +19,7 @@ module _ (least : ℕ) (words : List ℕ) (place more : ℕ) (longer : List ℕ)
             (⊎_elim (λ old. inl ((Contains-places_of least words n).1 old)) (λ is. inr is) ((same n).0 h)),
       )))
 
-  -- its numbers have 64 bits
+  -- the numbers of the longer form have 64 bits
   pub places_small : All (λ n. n < 2 ^ 64 - 1) (places_of least words) → place < 2 ^ 64 - 1 → All (λ n. n < 2 ^ 64 - 1) (places_of more longer)
   places_small small here = All-from_contains (λ n. n < 2 ^ 64 - 1) (places_of more longer)
       (λ n h. ⊎_elim (λ old. All-contains (λ m. m < 2 ^ 64 - 1) (places_of least words) n small ((Contains-places_of least words n).1 old))

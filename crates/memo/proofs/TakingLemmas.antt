@@ -1,15 +1,9 @@
 -- What a rising list of places with one more holds.
-use Rattle.std.proofs.Common.{◌≡◌, ℕ, ◌+◌, ◌<◌, true, List, ◌∷◌, nat_lt, sym, subst, inl, inr, ⊎_elim}
-use Rattle.std.proofs.Common.{arith}
-use Rattle.std.specs.Prelude.{◌⊎◌, ◌↔◌, filter, All, AllPairs, Contains}
-use Rattle.std.specs.List.Sorted.{IsStrictlyIncreasing}
-use Rattle.std.proofs.lemmas.List.Elements.{All-weaker, All-cons, filter_passes}
-use Rattle.std.proofs.lemmas.List.Elements.{Contains-append_left, Contains-append_right, Contains-append_cases}
-use Rattle.std.proofs.lemmas.List.Kept.{AllPairs-cons, AllPairs-filter, AllPairs-from_increasing}
-use Rattle.std.proofs.lemmas.Bool.{cases_order}
-use Rattle.std.proofs.lemmas.Bool.Decides.{nat_tests}
-use Rattle.list_laws.proofs.Lists.{AllPairs-append, Contains-first, Contains-later, Contains-cases, Contains-filter, Contains-from_filter}
-use Rattle.memo.specs.Taking.{with_place}
+use Rattle.memo.proofs.Common.{◌≡◌, ℕ, ◌+◌, ◌<◌, true, List, ◌∷◌, sym, subst, inl, inr, ⊎_elim, arith, ◌⊎◌, ◌↔◌, filter, All, AllPairs, Contains}
+use Rattle.memo.proofs.Common.{IsStrictlyIncreasing, All-weaker, All-cons, filter_passes, Contains-append_left, Contains-append_right}
+use Rattle.memo.proofs.Common.{Contains-append_cases, AllPairs-cons, AllPairs-filter, AllPairs-from_increasing, cases_order, nat_tests}
+use Rattle.memo.proofs.Common.{AllPairs-append, Contains-first, Contains-later, Contains-cases, Contains-filter, Contains-from_filter, with_place}
+use Rattle.std.proofs.Common.{nat_lt}
 
 -- a number below another passes the test
 below_passes : (place n : ℕ) → n < place → nat_lt n place ≡ true

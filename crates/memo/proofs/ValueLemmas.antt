@@ -1,14 +1,8 @@
 -- Pairs by the values at their keys.
-use Rattle.std.proofs.Common.{◌≡◌, ℕ, ◌<◌, nat_lt, Bool, true, false, cond, [], ◌∷◌, ◌++◌, Option, Some, None, refl, sym, ap, ◌∙◌}
-use Rattle.std.proofs.Common.{subst, ⊎_elim}
-use Rattle.std.proofs.Common.{arith}
-use Rattle.std.specs.Prelude.{◌==◌, filter}
-use Rattle.std.proofs.lemmas.Bool.{cases_eq, cases_order}
-use Rattle.std.proofs.lemmas.Bool.Decides.{nat_tests}
-use Rattle.map_object.specs.MapObject.{Contents, IsRising, value_at, below, above}
-use Rattle.map_object.proofs.MapLemmas.{IsRising-insert, IsRising-remove}
-use Rattle.map_object.proofs.ValueLemmas.{first_value, later_value, same_pairs}
-use Rattle.memo.specs.Differences.{with_value}
+use Rattle.memo.proofs.Common.{◌≡◌, ℕ, ◌<◌, Bool, true, false, cond, [], ◌∷◌, ◌++◌, Option, Some, None, refl, sym, ap, ◌∙◌, subst, ⊎_elim, arith}
+use Rattle.memo.proofs.Common.{◌==◌, filter, cases_eq, cases_order, nat_tests, Contents, IsRising, value_at, below, above, IsRising-insert}
+use Rattle.memo.proofs.Common.{IsRising-remove, first_value, later_value, same_pairs, with_value}
+use Rattle.std.proofs.Common.{nat_lt}
 
 -- ---- values of parts of pairs
 

@@ -1,26 +1,16 @@
 -- Which numbers are in a set that is kept as its least missing number and bits, and that such a set has one form.
-use Rattle.std.proofs.Common.{◌≡◌, ℕ, ◌+◌, ◌-◌, ◌*◌, ◌/◌, ◌%◌, ◌^◌, ◌<◌, ◌≤◌, List, [], length, get_or, sym, ap, ◌∙◌, subst, inl, inr}
-use Rattle.std.proofs.Common.{⊎_elim, arith}
-use Rattle.std.specs.Prelude.{◌⊎◌, ◌↔◌, ◌==◌, ◌&&◌, nat_lt, All, Contains}
-use Rattle.std.specs.Bool.{Decides}
-use Rattle.std.specs.Int.{bit_at}
-use Rattle.std.specs.List.{range_with_len}
-use Rattle.std.specs.List.Sorted.{IsStrictlyIncreasing}
-use Rattle.std.proofs.lemmas.Bool.{cases_order, cases_lt, cases_eq}
-use Rattle.std.proofs.lemmas.Bool.Decides.{Decides-and, Decides-or, Decides-ltb, Decides-eqb}
-use Rattle.std.proofs.lemmas.List.{get_or_past, ext_get_or}
-use Rattle.std.proofs.lemmas.List.Elements.{All-contains}
-use Rattle.std.proofs.lemmas.List.Kept.{IsStrictlyIncreasing-filter}
-use Rattle.std.proofs.lemmas.Nat.Bits.{bit_at-zero, bit_at-lt, same_from_bits_below}
-use Rattle.list_laws.proofs.Lists.{Contains-filter, Contains-from_filter, Contains-range, Contains-nil}
+use Rattle.memo.proofs.Common.{◌≡◌, ℕ, ◌+◌, ◌-◌, ◌*◌, ◌/◌, ◌%◌, ◌^◌, ◌<◌, ◌≤◌, List, [], length, get_or, sym, ap, ◌∙◌, subst, inl, inr, ⊎_elim, arith}
+use Rattle.memo.proofs.Common.{◌⊎◌, ◌↔◌, ◌==◌, ◌&&◌, nat_lt, All, Contains, Decides, bit_at, range_with_len, IsStrictlyIncreasing, cases_order}
+use Rattle.memo.proofs.Common.{cases_lt, cases_eq, Decides-and, Decides-or, Decides-ltb, Decides-eqb, get_or_past, ext_get_or, All-contains}
+use Rattle.memo.proofs.Common.{IsStrictlyIncreasing-filter, bit_at-zero, bit_at-lt, same_from_bits_below, Contains-filter, Contains-from_filter}
+use Rattle.memo.proofs.Common.{Contains-range, Contains-nil, bit_of, is_among, places_of, IsTrimmed, AreWords, ArePlaces}
 use Rattle.list_laws.proofs.RisingLemmas.{rising_unique, IsStrictlyIncreasing-range}
-use Rattle.memo.specs.Words.{bit_of, is_among, places_of, IsTrimmed, AreWords, ArePlaces}
 
 -- a number is below the least one that is not in the set, or its bit is set above that one
 abbrev pub IsAmong : ℕ → List ℕ → ℕ → Type 0
 IsAmong least words n = (n < least) ⊎ ((least < n) × (bit_of words (n - (least + 1)) ≡ 1))
 
--- the test tells this
+-- the test decides this
 Decides-among : (least : ℕ) (words : List ℕ) (n : ℕ) → Decides (is_among least words n) (IsAmong least words n)
 Decides-among least words n =
     Decides-or (nat_lt n least) (nat_lt least n && (bit_of words (n - (least + 1)) == 1)) (Decides-ltb n least)
@@ -65,7 +55,7 @@ Contains-places_of least words n = (
     within (inl low) = omega (arith, low)
     within (inr high) = omega (arith, high.0, bit_of-within words (n - (least + 1)) high.1)
 
--- they rise
+-- the numbers of a set rise
 pub places_of-rises : (least : ℕ) (words : List ℕ) → IsStrictlyIncreasing (places_of least words)
 unfolding places_of
 places_of-rises least words =
@@ -85,7 +75,7 @@ pub least-not_among : (least : ℕ) (words : List ℕ) → IsAmong least words l
 least-not_among least words (inl low) = omega (arith, low)
 least-not_among least words (inr high) = omega (arith, high.0)
 
--- bits tell the words, where the last is not 0: here one is no longer than the other
+-- bits determine the words, if the last is not 0: here one is no longer than the other
 no_longer : (a b : List ℕ) → AreWords b → IsTrimmed b → ((n : ℕ) → bit_of a n ≡ bit_of b n) → length a < length b → ⊥
 no_longer a b words trimmed same longer =
     let k = length b - 1 in

@@ -146,8 +146,8 @@ fn absent(
     Ok(absent)
 }
 
-/// The changes since the start of a search: the pairs that are not among those at the start, and
-/// the pairs at the start whose keys have no value any more.
+/// The changes since the start of a search: the pairs that were not there at the start, and the
+/// pairs at the start whose keys no longer have a value.
 #[derive(Drop)]
 pub(crate) struct Changes {
     pub(crate) put: Vec<(u64, u64)>,

@@ -53,10 +53,10 @@ impl Memo {
         }
     }
 
-    /// Visits the configuration, and returns whether it is new. On `Memory` it is handed back, and
-    /// nothing has changed. It is compared with the visited configurations of the same digest. If
-    /// the pairs at the start of its search are others than theirs, its form is made again over
-    /// theirs. That costs as much as the maps.
+    /// Visits the configuration, and returns whether it is new. On `Memory` it returns the
+    /// configuration, and nothing has changed. The configuration is compared with the visited ones
+    /// of the same digest. If the pairs at the start of its search are others than theirs, its form
+    /// is made again over theirs. That costs as much as the maps.
     pub fn visit(&mut self, config: Config) -> Result<bool, (Config, Memory)>
         ensures new { IfOk result (λ new. IsTrue new ↔ (Contains self.old config → ⊥)) }
         ensures visited { IfOk result (λ new. self.new
@@ -147,7 +147,7 @@ fn key_changed(call: &Call) -> Option<u64>
     }
 }
 
-/// Inserts the form, and returns whether it is new. If out of memory, it is handed back.
+/// Inserts the form, and returns whether it is new. If memory runs out, it returns the form.
 fn insert(visited: &mut IndexSet<Form>, form: Form) -> Result<bool, Form>
     ensures new { IfOk result (λ new. IsTrue new ↔ (Contains visited.old.keys form → ⊥)) }
     ensures visited { IfOk result (λ new. visited.new.keys

@@ -25,11 +25,11 @@ AreDisjoint orders = AllPairs (λ order other. (n : ℕ) → Contains order n �
 abbrev one_at : ℕ → ℕ → ℕ
 one_at n m = cond (m == n) 1 0
 
--- how often a number stands in a list
+-- how often a number is in a list
 abbrev count : ℕ → List ℕ → ℕ
 count n xs = sum_by (one_at n) xs
 
--- a filter that passes a number keeps it as often as it stands there
+-- a filter that passes a number keeps it as often as it is there
 count-filter : (n : ℕ) (p : ℕ → Bool) (xs : List ℕ) → p n ≡ true → count n (filter p xs) ≡ count n xs
 count-filter n p [] pass = refl
 count-filter n p (x ∷ xs) pass = by_test (p x) refl (count-filter n p xs pass)
@@ -44,14 +44,14 @@ count-filter n p (x ∷ xs) pass = by_test (p x) refl (count-filter n p xs pass)
         let none : one_at n x ≡ 0 = rw (ne_eqb x n (differs e)) refl in
         omega (arith, rest, none, sum_by-cons (one_at n) x xs)
 
--- a number of a list stands there at least once
+-- a number of a list is there at least once
 count-Contains : (n : ℕ) (xs : List ℕ) → Contains xs n → 0 < count n xs
 count-Contains n [] h = absurd (Contains-nil n h)
 count-Contains n (x ∷ xs) h = ⊎_elim
     (λ same. let one : one_at n x ≡ 1 = rw (eq-eqb x n same) refl in omega (arith, one, sum_by-cons (one_at n) x xs))
     (λ later. omega (arith, count-Contains n xs later, sum_by-cons (one_at n) x xs)) (Contains-cases x xs n h)
 
--- a number stands in lists together at least as often as in one of them
+-- a number is in lists together at least as often as in one of them
 count-concat : (n : ℕ) (orders : List (List ℕ)) (order : List ℕ) → Contains orders order → count n order ≤ count n (concat orders)
 count-concat n [] order h = absurd (Contains-nil order h)
 count-concat n (first ∷ orders) order h =
@@ -59,7 +59,7 @@ count-concat n (first ∷ orders) order h =
     ⊎_elim (λ same. let e = ap (count n) same in omega arith) (λ later. omega (arith, sum, count-concat n orders order later))
     (Contains-cases first orders order h)
 
--- and at least as often as in two of them
+-- a number is in lists together at least as often as in two of them
 count-two : (n : ℕ) (orders : List (List ℕ)) → AllPairs (λ order other. count n order + count n other ≤ count n (concat orders)) orders
 count-two n [] = AllPairs-nil (λ order other. count n order + count n other ≤ count n (concat []))
 count-two n (first ∷ orders) =
@@ -126,7 +126,8 @@ point_of-in calls orders order n disjoint is number =
     let at = point_of-is calls orders order n is number in
     at.point ∙ ap (λ o. point_in calls o n) (same_order orders at.order order n disjoint at.is is at.number number)
 
--- an order is what its numbers leave of all orders together
+-- If disjoint orders are put one after another and only the numbers of one of them are kept, that
+-- order is what is left.
 pub filter-concat : (orders : List (List ℕ)) (order : List ℕ) → AreDisjoint orders → Contains orders order
     → filter (has_number order) (concat orders) ≡ order
 filter-concat [] order disjoint is = absurd (Contains-nil order is)

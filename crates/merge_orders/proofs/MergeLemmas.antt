@@ -87,7 +87,7 @@ module _ (start : Contents) (calls : List Operation) (segments : List SegmentVie
       let (p, same) = part_of start calls segments orders order are zip order_is in
       (p, subst (λ o. Contains o n) (sym same) number)
 
-  -- the calls of a segment stand in the merged order as in the segment's own
+  -- the calls of a segment are in the merged order as in the segment's own
   kept : (p : Part start calls segments orders) → filter (has_number p.order) merged ≡ p.order
   kept p = All-contains (λ order. filter (has_number order) merged ≡ order) orders p.order h.by_place
       (Contains-at orders p.place p.order p.order_at)

@@ -15,7 +15,7 @@ use Rattle.merge_orders.proofs.DisjointLemmas.{AreDisjoint, point_of-in}
 abbrev pub latest : List Operation → List ℕ → ℕ → ℕ
 latest calls order i = greatest (map (λ a. a.inv) (calls_at calls (take i order)))
 
--- and among one call more
+-- the greatest place of an invocation among one call more
 pub latest-more : (calls : List Operation) (order : List ℕ) (i d : ℕ) (a : Operation) → i < length order
     → slice_get calls (get_or order i d) ≡ Some a
     → latest calls order (i + 1) ≡ max (latest calls order i) a.inv
@@ -38,7 +38,7 @@ at_point_in-more calls order i d a distinct below here =
     ∙ ap (λ (p : ℕ). let call : CallAtPoint = record { point = p; number = n } in map (at_point_in calls order)
     (take i order) ++ call ∷ []) point
 
--- one element more behind a list and what was put behind it
+-- one element more after a list and what was put after it
 pub behind-more : {X : Type 0} (old done more now next : List X) (x y : X) → now ≡ old ++ done → more ≡ done ++ x ∷ []
     → next ≡ now ++ y ∷ [] → y ≡ x
     → next ≡ old ++ more

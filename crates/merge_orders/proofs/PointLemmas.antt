@@ -16,7 +16,7 @@ use Rattle.merge_orders.specs.Merge.{up_to}
 use Rattle.list_laws.proofs.NumberLemmas.{greatest_bound, greatest_is}
 use Rattle.list_laws.proofs.FilterLemmas.{Contains-filter_map, Contains-from_filter_map, AllPairs-from_filter_map}
 
--- what stands up to a number's place is in the list
+-- what comes up to a number's place is in the list
 pub Contains-from_up_to : (n : ℕ) (order : List ℕ) (k : ℕ) → Contains (up_to n order) k → Contains order k
 Contains-from_up_to n [] k h = h
 Contains-from_up_to n (m ∷ order) k h = from (m == n) h (Contains-from_up_to n order k)
@@ -30,7 +30,7 @@ Contains-from_up_to n (m ∷ order) k h = from (m == n) h (Contains-from_up_to n
         ⊎_elim (λ same. subst (Contains (m ∷ order)) same (Contains-first m order)) (λ later. Contains-later m order k (rest later))
         (Contains-cases m (up_to n order) k h)
 
--- a number of a list stands up to its place
+-- a number of a list is among those up to its place
 pub Contains-up_to : (n : ℕ) (order : List ℕ) → Contains order n → Contains (up_to n order) n
 Contains-up_to n [] h = h
 Contains-up_to n (m ∷ order) h =
@@ -42,7 +42,7 @@ Contains-up_to n (m ∷ order) h =
     onto true e h = subst (Contains (m ∷ [])) (eqb-true m n e) (Contains-first m [])
     onto false e h = Contains-later m (up_to n order) n h
 
--- what stands up to a number's place is the number or stands before it
+-- what comes up to a number's place is the number or comes before it
 pub before-up_to : (R : ℕ → ℕ → Type 0) (n : ℕ) (order : List ℕ) (k : ℕ) → AllPairs R order → Contains order n
     → Contains (up_to n order) k → (k ≡ n) ⊎ R k n
 before-up_to R n [] k h is up = absurd (Contains-nil n is)
@@ -67,7 +67,8 @@ point_in-invocation calls order n a is here =
     greatest_bound (λ b. b.inv) (calls_at calls (up_to n order)) a
     (Contains-filter_map (slice_get calls) (up_to n order) n a (Contains-up_to n order is) here)
 
--- the call at whose invocation the point of a call is: itself, or one that stands before it in its order
+-- the call at whose invocation the point of a call is: itself, or one that comes before it in its
+-- order
 pub record IsPointOf (calls : List Operation) (order : List ℕ) (n : ℕ) : Type 0 where
   pub number : ℕ
   pub call : Operation
@@ -182,7 +183,7 @@ point_of-precedes calls orders m n a b none keep at_m at_n m_is n_is before =
       point_in-invocation calls at_n.order n b at_n.number n_is,
     ))
 
--- what stands up to the number at a place is the front up to that place
+-- what comes up to the number at a place is the front up to that place
 up_to-front : (order : List ℕ) (place n : ℕ) → AllPairs (λ m n. m ≢ n) order → slice_get order place ≡ Some n
     → up_to n order ≡ take (suc place) order
 up_to-front [] place n distinct h = absurd (none-some n h)

@@ -41,7 +41,7 @@ pub IsMergedOrder-sorted : (calls : List Operation) (orders : List (List ℕ)) (
 IsMergedOrder-sorted calls orders placed sorted once is same_calls up stable =
     IsMergedOrder-from_sort calls orders (map (λ c. c.number) sorted) once.disjoint once.distinct permuted by_point kept
   where
-    -- each call stands with its point
+    -- each call has its point
     points : All (λ c. c.point ≡ point_of calls orders c.number) sorted
     points = All-permutation (λ c. c.point ≡ point_of calls orders c.number) placed sorted same_calls
         (rw is (All-map (λ c. c.point ≡ point_of calls orders c.number) (at_point calls orders) (concat orders) (λ k d within. refl)))

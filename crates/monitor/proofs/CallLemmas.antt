@@ -1,27 +1,11 @@
 -- The open call of a process is answered: of the calls only it changes.
-use Rattle.std.proofs.Common.{◌≡◌, ◌≢◌, ℕ, zero, suc, ◌+◌, ◌==◌, Bool, true, false, cond, not, List, [], ◌∷◌, ◌++◌, length, map, Some, None}
-use Rattle.std.proofs.Common.{refl, sym, ap, ◌∙◌, subst, ⊎_elim, inl, inr, arith}
-use Rattle.std.specs.Prelude.{◌⊎◌, Contains, slice_get}
-use Rattle.std.proofs.lemmas.Bool.{and_parts, cases_order, eq-eqb, ne_eqb}
-use Rattle.std.proofs.lemmas.List.Elements.{Contains-append_cases}
-use Rattle.std.proofs.lemmas.Option.{none-some, same_Some}
-use Rattle.events.specs.declared.event.Call.{Call}
-use Rattle.events.specs.declared.event.Event.{Event}
-use Rattle.events.specs.declared.event.Event.TheVariants.{Invoke, Answer}
-use Rattle.events.specs.declared.event.Reply.{Reply}
-use Rattle.events.specs.declared.operation.Operation.{Operation}
-use Rattle.events.specs.Events.{process_of, is_invocation, events_of, takes_turns, IsWellFormed}
-use Rattle.events.specs.HistoryFaults.{ends_waiting, has_open_call}
-use Rattle.events.specs.Operations.{response_from, operation_of, operations_from, operations}
-use Rattle.events.proofs.HistoryLemmas.{IsWellFormed-push}
-use Rattle.events.proofs.TimeLemmas.{inv_rises}
-use Rattle.list_laws.proofs.Lists.{Contains-nil, Contains-cases, Contains-first, Contains-later}
-use Rattle.list_laws.proofs.FilterLemmas.{Contains-from_map}
-use Rattle.quiet_cuts.specs.KeptCalls.{begun_at, answered_at}
-use Rattle.quiet_cuts.proofs.ContinueLemmas.{invoked_from}
-use Rattle.quiet_cuts.proofs.EventLemmas.{response_found, turns_later, operations-invoke, operations-answer}
-use Rattle.quiet_cuts.proofs.SetLemmas.{same_call}
-use Rattle.monitor.specs.Following.{IsOpenCall}
+use Rattle.monitor.proofs.Common.{◌≡◌, ◌≢◌, ℕ, zero, suc, ◌+◌, ◌==◌, Bool, true, false, cond, not, List, [], ◌∷◌, ◌++◌, length, map, Some, None, refl}
+use Rattle.monitor.proofs.Common.{sym, ap, ◌∙◌, subst, ⊎_elim, inl, inr, arith, ◌⊎◌, Contains, slice_get, and_parts, cases_order, eq-eqb, ne_eqb}
+use Rattle.monitor.proofs.Common.{Contains-append_cases, none-some, same_Some, Call, Event, Invoke, Answer, Reply, Operation, process_of}
+use Rattle.monitor.proofs.Common.{is_invocation, events_of, takes_turns, IsWellFormed, ends_waiting, has_open_call, response_from, operation_of}
+use Rattle.monitor.proofs.Common.{operations_from, operations, IsWellFormed-push, inv_rises, Contains-nil, Contains-cases, Contains-first}
+use Rattle.monitor.proofs.Common.{Contains-later, Contains-from_map, begun_at, answered_at, invoked_from, response_found, turns_later}
+use Rattle.monitor.proofs.Common.{operations-invoke, operations-answer, same_call, IsOpenCall}
 
 -- ---- the open call
 

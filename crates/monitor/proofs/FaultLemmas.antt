@@ -1,17 +1,9 @@
 -- What is wrong with an event, by the open calls that are known.
 use Rattle.monitor.specs.declared.fault.FollowFault.TheVariants as faults
-use Rattle.std.proofs.Common.{◌≡◌, ℕ, ◌<◌, ◌≤◌, true, false, List, length, Option, Some, None, refl, sym, ◌∙◌, is_some}
-use Rattle.std.proofs.lemmas.Bool.{false_from_ne_true, le-leb, le-ltb, lt-leb}
-use Rattle.std.proofs.lemmas.Option.{none-some}
-use Rattle.events.specs.declared.event.Call.{Call}
-use Rattle.events.specs.declared.event.Event.{Event}
-use Rattle.events.specs.HistoryFaults.{has_open_call}
-use Rattle.events.specs.Keys.{low_key, high_key}
-use Rattle.map_object.specs.MapObject.{Contents}
-use Rattle.monitor.specs.Faults.{event_limit, invocation_fault, answer_fault}
-use Rattle.monitor.specs.MonitorView.{MonitorView, known_call}
-use Rattle.monitor.specs.Following.{IsFollowing}
-use Rattle.monitor.specs.declared.open_calls.OpenCall.{OpenCall}
+use Rattle.monitor.proofs.Common.{◌≡◌, ℕ, ◌<◌, ◌≤◌, true, false, List, length, Option, Some, None, refl, sym, ◌∙◌, false_from_ne_true, le-leb, le-ltb}
+use Rattle.monitor.proofs.Common.{lt-leb, none-some, Call, Event, has_open_call, low_key, high_key, Contents, event_limit, invocation_fault}
+use Rattle.monitor.proofs.Common.{answer_fault, MonitorView, known_call, IsFollowing, OpenCall}
+use Rattle.std.proofs.Common.{is_some}
 use Rattle.monitor.proofs.OpenLemmas.{is_open, open_of}
 
 -- a test of what is known

@@ -1,34 +1,14 @@
 -- A monitor goes on after an event.
-use Rattle.std.proofs.Common.{◌≡◌, ◌≢◌, ℕ, ◌+◌, ◌-◌, ◌^◌, ◌<◌, ◌≤◌, ◌==◌, ◌++◌, ◌∷◌, [], List, Some, None, true, cond, refl, sym, ap, ◌∙◌, subst, arith}
-use Rattle.std.specs.Prelude.{All}
-use Rattle.std.proofs.lemmas.Bool.{false≢true}
-use Rattle.std.proofs.lemmas.List.{length_push}
-use Rattle.events.specs.declared.event.Call.{Call}
-use Rattle.events.specs.declared.event.Event.{Event}
-use Rattle.events.specs.declared.event.Event.TheVariants.{Invoke, Answer}
-use Rattle.events.specs.declared.event.Reply.{Reply}
-use Rattle.events.specs.declared.operation.Operation.{Operation}
-use Rattle.events.specs.Events.{IsWellFormed}
-use Rattle.events.specs.HistoryFaults.{has_open_call}
-use Rattle.events.specs.Keys.{low_key, high_key}
-use Rattle.events.specs.Operations.{operations}
-use Rattle.events.proofs.HistoryLemmas.{IsWellFormed-push}
-use Rattle.losses.specs.declared.puts.Put.{Put}
-use Rattle.map_object.specs.MapObject.{Contents}
-use Rattle.prefixes.specs.Laws.{InvocationsKeepOrders}
-use Rattle.quiet_cuts.proofs.EventLemmas.{operations-invoke}
-use Rattle.kept_parts.specs.Steps.{GoesOn, KeptPartsDecide}
-use Rattle.parts.specs.Keeping.{begun, is_reported, IsCounted, IsStateOf}
-use Rattle.parts.specs.Views.{PartsView, kept_parts}
-use Rattle.monitor.specs.MonitorView.{MonitorView, known_call}
-use Rattle.monitor.specs.Following.{IsFollowing}
-use Rattle.monitor.specs.Puts.{AreRecentPuts}
-use Rattle.monitor.specs.declared.open_calls.OpenCall.{OpenCall}
+use Rattle.monitor.proofs.Common.{◌≡◌, ◌≢◌, ℕ, ◌+◌, ◌-◌, ◌^◌, ◌<◌, ◌≤◌, ◌==◌, ◌++◌, ◌∷◌, [], List, Some, None, true, cond, refl, sym, ap, ◌∙◌, subst}
+use Rattle.monitor.proofs.Common.{arith, All, false≢true, length_push, Call, Event, Invoke, Answer, Reply, Operation, IsWellFormed, has_open_call}
+use Rattle.monitor.proofs.Common.{low_key, high_key, operations, IsWellFormed-push, Put, Contents, InvocationsKeepOrders, operations-invoke, GoesOn}
+use Rattle.monitor.proofs.Common.{KeptPartsDecide, begun, is_reported, IsCounted, IsStateOf, PartsView, kept_parts, MonitorView, known_call}
+use Rattle.monitor.proofs.Common.{IsFollowing, AreRecentPuts, OpenCall}
 use Rattle.monitor.proofs.CallLemmas.{well_formed_on}
 use Rattle.monitor.proofs.FaultLemmas.{waits, idles}
 use Rattle.monitor.proofs.JudgeLemmas.{AreAround, around, is_call}
-use Rattle.monitor.proofs.NextLemmas.{knows_open_on, knows_all_on, shaped_on, one_call_more, few_calls}
-use Rattle.monitor.proofs.NextLemmas.{knows_open_after, knows_all_after, shaped_after, as_many_calls}
+use Rattle.monitor.proofs.NextLemmas.{knows_open_on, knows_all_on, shaped_on, one_call_more, few_calls, knows_open_after, knows_all_after}
+use Rattle.monitor.proofs.NextLemmas.{shaped_after, as_many_calls}
 
 -- after an invocation
 module _ (start : Contents) (events : List Event) (m : MonitorView) (process : ℕ) (call : Call)

@@ -1,45 +1,15 @@
 -- The answer of an open call: it is the answer of the call's number, and if there is no order with it, the events go wrong there.
-use Rattle.std.proofs.Common.{◌≡◌, ◌≢◌, ℕ, ◌+◌, ◌<◌, ◌≤◌, List, [], ◌∷◌, ◌++◌, length, map, take, Option, Some, None, refl, sym, ap, ◌∙◌, subst, arith, append_assoc}
-use Rattle.std.specs.Prelude.{All, AllPairs, Any, Contains, slice_get, IsSomeAnd}
-use Rattle.std.specs.Option.{option_map}
-use Rattle.std.proofs.lemmas.Bool.{eq-eqb, ne_eqb}
-use Rattle.std.proofs.lemmas.List.{length_push, take_at}
-use Rattle.std.proofs.lemmas.List.Elements.{All-contains, All-head, All-weaker}
+use Rattle.monitor.proofs.Common.{◌≡◌, ◌≢◌, ℕ, ◌+◌, ◌<◌, ◌≤◌, List, [], ◌∷◌, ◌++◌, length, map, take, Option, Some, None, refl, sym, ap, ◌∙◌, subst}
+use Rattle.monitor.proofs.Common.{arith, All, AllPairs, Any, Contains, slice_get, IsSomeAnd, option_map, eq-eqb, ne_eqb, length_push, take_at}
+use Rattle.monitor.proofs.Common.{All-contains, All-head, All-weaker, slice_get-map, Call, Get, Insert, Remove, Scan, Replace, Event, Answer, Reply}
+use Rattle.monitor.proofs.Common.{Operation, Response, low_key, high_key, operations, inv_rises, AllPairs-across, AllPairs-back, AllPairs-head}
+use Rattle.monitor.proofs.Common.{Contains-split, Contains-map, Contents, IsRising, IsLinearizable, IsAnswerOf, GoesWrongAt, PrefixesHaveOrders}
+use Rattle.monitor.proofs.Common.{answered_at, completed_at, HasForm, OrdersAreKeyedOrders, KeptPart, GoesOn, KeptPartsDecide, KeptPast, IsDead}
+use Rattle.monitor.proofs.Common.{covered, begun, is_reported, reported, IsKeptBeside, pasts_of, EndedPart, MayReply, event_limit, answer_fault}
+use Rattle.monitor.proofs.Common.{MonitorView, known_call, IsCallOf, IsFollowing, OpenCall}
+use Rattle.std.proofs.Common.{append_assoc}
 use Rattle.std.proofs.lemmas.List.Folds.{map_fixed}
-use Rattle.std.proofs.lemmas.Option.{slice_get-map}
 use mathlib.Core.List.{map-append}
-use Rattle.events.specs.declared.event.Call.{Call}
-use Rattle.events.specs.declared.event.Call.TheVariants.{Get, Insert, Remove, Scan, Replace}
-use Rattle.events.specs.declared.event.Event.{Event}
-use Rattle.events.specs.declared.event.Event.TheVariants.{Answer}
-use Rattle.events.specs.declared.event.Reply.{Reply}
-use Rattle.events.specs.declared.operation.Operation.{Operation}
-use Rattle.events.specs.declared.operation.Response.{Response}
-use Rattle.events.specs.Keys.{low_key, high_key}
-use Rattle.events.specs.Operations.{operations}
-use Rattle.events.proofs.TimeLemmas.{inv_rises}
-use Rattle.list_laws.proofs.Lists.{AllPairs-across, AllPairs-back, AllPairs-head, Contains-split}
-use Rattle.list_laws.proofs.FilterLemmas.{Contains-map}
-use Rattle.map_object.specs.MapObject.{Contents, IsRising}
-use Rattle.orders.specs.Orders.{IsLinearizable}
-use Rattle.prefixes.specs.Prefixes.{IsAnswerOf, GoesWrongAt}
-use Rattle.prefixes.specs.Laws.{PrefixesHaveOrders}
-use Rattle.quiet_cuts.specs.KeptCalls.{answered_at}
-use Rattle.quiet_cuts.proofs.ContinueLemmas.{completed_at}
-use Rattle.key_effects.specs.Forms.{HasForm}
-use Rattle.key_effects.specs.Laws.{OrdersAreKeyedOrders}
-use Rattle.kept_parts.specs.KeptParts.{KeptPart}
-use Rattle.kept_parts.specs.Steps.{GoesOn, KeptPartsDecide}
-use Rattle.kept_pasts.specs.Pasts.{KeptPast}
-use Rattle.part_pasts.specs.Pasts.{IsDead}
-use Rattle.part_pasts.specs.Ranges.{covered}
-use Rattle.parts.specs.Keeping.{begun, is_reported, reported, IsKeptBeside, pasts_of}
-use Rattle.parts.specs.declared.state.EndedPart.{EndedPart}
-use Rattle.monitor.specs.Calls.{MayReply}
-use Rattle.monitor.specs.Faults.{event_limit, answer_fault}
-use Rattle.monitor.specs.MonitorView.{MonitorView, known_call}
-use Rattle.monitor.specs.Following.{IsCallOf, IsFollowing}
-use Rattle.monitor.specs.declared.open_calls.OpenCall.{OpenCall}
 use Rattle.monitor.proofs.CallLemmas.{open_call, answered_calls, with_answer}
 use Rattle.monitor.proofs.FaultLemmas.{waits, fine_answer}
 use Rattle.monitor.proofs.NextLemmas.{IsShaped}

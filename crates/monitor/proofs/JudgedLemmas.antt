@@ -1,39 +1,36 @@
 -- What the parts make of an answer, for the events.
-use Rattle.std.proofs.Common.{◌≡◌, ℕ, suc, ◌<◌, ◌==◌, List, [], ◌∷◌, ◌++◌, length, Some, None, cond, sym, ap, ◌∙◌, subst, ⊎_elim}
-use Rattle.std.specs.Prelude.{All}
-use Rattle.events.specs.declared.event.Event.{Event}
-use Rattle.events.specs.declared.event.Event.TheVariants.{Answer}
-use Rattle.events.specs.declared.event.Reply.{Reply}
-use Rattle.events.specs.declared.event.Call.{Call}
-use Rattle.events.specs.declared.operation.Operation.{Operation}
-use Rattle.events.specs.Operations.{operations}
-use Rattle.key_effects.specs.Laws.{OrdersAreKeyedOrders}
-use Rattle.kept_parts.specs.Steps.{GoesOn, KeptPartsDecide}
+use Rattle.monitor.proofs.Common.{◌≡◌, ℕ, suc, ◌<◌, ◌==◌, true, false, List, [], ◌∷◌, ◌++◌, length, map, Some, None, cond, refl, sym, ap, ◌∙◌, subst}
+use Rattle.monitor.proofs.Common.{⊎_elim, All, AllZip, All-head, Event, Answer, Reply, Call, Operation, Response, may_change, operations}
+use Rattle.monitor.proofs.Common.{OrdersAreKeyedOrders, answered, KeptPast, IsWithRead, GoesOn, KeptPartsDecide, Put, Contents, IsLinearizable}
+use Rattle.monitor.proofs.Common.{IsDead, AreDoubtful, covered, begun, is_reported, IsCounted, IsEndedBy, IsKeptBeside, IsStateOf, pasts_of}
+use Rattle.monitor.proofs.Common.{response_at, PartsView, kept_parts, EndedPart, PrefixesHaveOrders, GoesWrongAt, IsAnswerOf, IsLostPart, IsPendingIn}
+use Rattle.monitor.proofs.Common.{MayReply, event_limit, IsFollowing, IsLossAt, MonitorView, known_call, AreAllPuts, put_limit, AreRecentPuts}
+use Rattle.monitor.proofs.Common.{ArePutsOf, BecomeWithAnswer, OpenCall}
+use Rattle.std.specs.Prelude.{◌≢◌}
+use Rattle.kept_parts.specs.Reached.{HasPasts, KeptPastsAreReached}
 use Rattle.losses.specs.declared.loss.Loss.{Loss}
-use Rattle.losses.specs.declared.puts.Put.{Put}
-use Rattle.map_object.specs.MapObject.{Contents}
-use Rattle.orders.specs.Orders.{IsLinearizable}
-use Rattle.part_pasts.specs.Pasts.{IsDead, AreDoubtful}
-use Rattle.parts.specs.Keeping.{begun, is_reported, IsCounted, IsKeptBeside, IsStateOf, pasts_of}
-use Rattle.parts.specs.Views.{PartsView, kept_parts}
-use Rattle.parts.specs.declared.state.EndedPart.{EndedPart}
-use Rattle.prefixes.specs.Laws.{PrefixesHaveOrders}
-use Rattle.prefixes.specs.Prefixes.{GoesWrongAt, IsAnswerOf}
-use Rattle.monitor.specs.Answering.{IsLostPart, IsPendingIn}
-use Rattle.monitor.specs.Calls.{MayReply}
-use Rattle.monitor.specs.Faults.{event_limit}
-use Rattle.monitor.specs.Following.{IsFollowing}
-use Rattle.monitor.specs.LossAt.{IsLossAt}
-use Rattle.monitor.specs.MonitorView.{MonitorView, known_call}
+use Rattle.part_cuts.specs.PartCuts.{kept_of}
+use Rattle.part_cuts.specs.declared.past.Past.{Past}
 use Rattle.monitor.specs.Outcomes.{IsKeptWith, IsLost, IsOfAnswer, IsSpent}
-use Rattle.monitor.specs.OpenPuts.{AreAllPuts}
-use Rattle.monitor.specs.Puts.{put_limit, AreRecentPuts, ArePutsOf, BecomeWithAnswer}
-use Rattle.monitor.specs.declared.open_calls.OpenCall.{OpenCall}
 use Rattle.monitor.proofs.CallLemmas.{well_formed_on}
 use Rattle.monitor.proofs.FollowLemmas.{around_it, calls_then, state_before, answer_taken}
 use Rattle.monitor.proofs.JudgeLemmas.{is_call, accepted, answers, none_with_part, none_without_form, goes_wrong}
 use Rattle.monitor.proofs.NextLemmas.{knows_open_after, knows_all_after}
 use Rattle.monitor.proofs.PutLemmas.{recent_after, known_puts}
+
+zip_none : (o : Operation) (pasts : List KeptPast) → AllZip (IsWithRead o) pasts [] → pasts ≡ []
+zip_none o [] zip = refl
+zip_none o (past ∷ pasts) zip = absurd zip
+
+-- a part that a read ends has some past
+reads_have_pasts : (start : Contents) (now : ℕ) (calls : List Operation) (o : Operation) (response : Response) (part : EndedPart)
+    → IsEndedBy start now calls o response part → may_change o.call ≡ false → part.pasts.items ≢ []
+reads_have_pasts start now calls o response part ended read none = ⊎_elim
+    (λ changes. let no : true ≡ false = sym changes.0 ∙ read in cc)
+    (λ reads. All-head HasPasts (record { keys = covered part.ranges.items; pasts = ended.pasts }) ended.others ended.some
+    (zip_none (answered response o) ended.pasts
+    (subst (λ (l : List Past). AllZip (IsWithRead (answered response o)) ended.pasts (map kept_of l)) none reads.1)))
+    ended.with_answer
 
 module _ (start : Contents) (events : List Event) (m : MonitorView) (process : ℕ) (known : OpenCall) (reply : Reply)
     (h : IsFollowing start events m) (here : known_call m.open_calls process ≡ Some known) where
@@ -45,6 +42,12 @@ module _ (start : Contents) (events : List Event) (m : MonitorView) (process : �
   calls_with =
       (around_it start events m process known reply h here).front
       ++ is_reported (begun known.call known.event) reply m.parts.now ∷ (around_it start events m process known reply h here).back
+
+  -- and without it
+  abbrev pub calls_before : List Operation
+  calls_before =
+      (around_it start events m process known reply h here).front
+      ++ begun known.call known.event ∷ (around_it start events m process known reply h here).back
 
   calls_are : calls_with ≡ operations then
   calls_are = sym (calls_then start events m process known reply h here)
@@ -123,8 +126,23 @@ module _ (start : Contents) (events : List Event) (m : MonitorView) (process : �
       may : MayReply loss.call reply → MayReply known.call reply
       may h = subst (λ (c : Call). MayReply c reply) made.call_is h
 
-      pub is_lost : PrefixesHaveOrders → m.parts.now < event_limit → ArePutsOf (operations then) loss.puts.items → IsLost start events process reply loss
-      is_lost prefixes room puts = record {
+      abbrev the_call : Operation
+      the_call = begun known.call known.event
+
+      before_it : IsEndedBy start m.parts.now calls_before the_call (response_at reply m.parts.now) part
+          → IsEndedBy start (length events) (operations events) the_call (response_at reply (length events)) loss.part
+      before_it ended =
+          subst (λ (p : EndedPart). IsEndedBy start (length events) (operations events) the_call (response_at reply (length events)) p)
+          (sym made.part_is)
+          (subst (λ (l : List Operation). IsEndedBy start (length events) l the_call (response_at reply (length events)) part)
+          (sym (around_it start events m process known reply h here).before)
+          (subst (λ (n : ℕ). IsEndedBy start n calls_before the_call (response_at reply n) part) h.events_are ended))
+
+      pub is_lost : KeptPastsAreReached → PrefixesHaveOrders → m.parts.now < event_limit → ArePutsOf (operations then) loss.puts.items
+          → (MayReply known.call reply → IsEndedBy start m.parts.now calls_before the_call (response_at reply m.parts.now) part)
+          → IsLost start events process reply loss
+      unfolding of_answer
+      is_lost law prefixes room puts ended = record {
         accepted = accepted start events m process known h here room;
         of_answer = of_answer;
         part = λ replies. ⊎_elim
@@ -134,6 +152,18 @@ module _ (start : Contents) (events : List Event) (m : MonitorView) (process : �
         none = λ never. ⊎_elim
             (λ none. ap (λ (p : EndedPart). p.pasts.items) made.part_is ∙ none.1)
             (λ dead. absurd (never (subst (λ (c : Call). MayReply c reply) (sym made.call_is) dead.0)))
+            lost;
+        before = λ replies. before_it (ended (may replies));
+        some = λ read replies. reads_have_pasts start m.parts.now calls_before the_call (response_at reply m.parts.now) loss.part
+            (subst (λ (p : EndedPart). IsEndedBy start m.parts.now calls_before the_call (response_at reply m.parts.now) p) (sym made.part_is)
+            (ended (may replies)))
+            (subst (λ (c : Call). may_change c ≡ false) made.call_is read);
+        reached = λ replies. ⊎_elim
+            (λ never. absurd (never.0 (may replies)))
+            (λ dead.
+            let beside = kept_with dead.1 in
+            law start (suc (length events)) (operations then) (record { keys = covered loss.part.ranges.items; pasts = pasts_of loss.part })
+            beside.others h.rising beside.are_kept beside.some)
             lost;
         puts = puts;
         wrong = λ more.

@@ -1,11 +1,14 @@
+mod Common
 mod CallLemmas
 mod FaultLemmas
 mod FollowLemmas
 mod JudgeLemmas
 mod JudgedLemmas
+mod MissLemmas
 mod NextLemmas
 mod OpenLemmas
 mod OpenPutLemmas
 mod PairLemmas
 mod PutLemmas
+mod ReachLemmas
 mod StartLemmas

@@ -1,27 +1,10 @@
 -- A monitor goes on after an event: its open calls, and how many calls there are.
-use Rattle.std.proofs.Common.{◌≡◌, ◌≢◌, ℕ, suc, ◌+◌, ◌≤◌, ◌==◌, cond, List, [], ◌∷◌, ◌++◌, length, Some, None}
-use Rattle.std.proofs.Common.{sym, ap, ◌∙◌, subst, ⊎_elim, arith}
-use Rattle.std.specs.Prelude.{All, slice_get}
-use Rattle.std.specs.Option.{option_map}
-use Rattle.std.proofs.lemmas.Bool.{cases_Bool, eq-eqb, eqb-true, eqb-false, ne_eqb}
-use Rattle.std.proofs.lemmas.List.{length-append, length-map}
-use Rattle.std.proofs.lemmas.List.Elements.{All-contains}
-use Rattle.std.proofs.lemmas.Option.{none-some, same_Some, slice_get-map, slice_get_within}
-use Rattle.events.specs.declared.event.Call.{Call}
-use Rattle.events.specs.declared.event.Event.{Event}
-use Rattle.events.specs.declared.event.Event.TheVariants.{Invoke, Answer}
-use Rattle.events.specs.declared.event.Reply.{Reply}
-use Rattle.events.specs.declared.operation.Operation.{Operation}
-use Rattle.events.specs.Events.{IsWellFormed}
-use Rattle.events.specs.Keys.{low_key, high_key}
-use Rattle.events.specs.Operations.{operations, operations_from}
-use Rattle.list_laws.proofs.Lists.{All-from_contains, slice_get-append_left, slice_get-middle}
-use Rattle.quiet_cuts.specs.KeptCalls.{begun_at, answered_at}
-use Rattle.quiet_cuts.proofs.ContinueLemmas.{invoked_before}
-use Rattle.quiet_cuts.proofs.EventLemmas.{operations-invoke}
-use Rattle.monitor.specs.MonitorView.{known_call}
-use Rattle.monitor.specs.Following.{IsOpenCall, IsCallOf}
-use Rattle.monitor.specs.declared.open_calls.OpenCall.{OpenCall}
+use Rattle.monitor.proofs.Common.{◌≡◌, ◌≢◌, ℕ, suc, ◌+◌, ◌≤◌, ◌==◌, cond, List, [], ◌∷◌, ◌++◌, length, Some, None, sym, ap, ◌∙◌, subst, ⊎_elim, arith}
+use Rattle.monitor.proofs.Common.{All, slice_get, option_map, cases_Bool, eq-eqb, eqb-true, eqb-false, ne_eqb, length-append, length-map}
+use Rattle.monitor.proofs.Common.{All-contains, none-some, same_Some, slice_get-map, slice_get_within, Call, Event, Invoke, Answer, Reply, Operation}
+use Rattle.monitor.proofs.Common.{IsWellFormed, low_key, high_key, operations, operations_from, All-from_contains, slice_get-append_left}
+use Rattle.monitor.proofs.Common.{slice_get-middle, begun_at, answered_at, invoked_before, operations-invoke, known_call, IsOpenCall, IsCallOf}
+use Rattle.monitor.proofs.Common.{OpenCall}
 use Rattle.monitor.proofs.CallLemmas.{open_call, invoked_later, answered_later}
 use Rattle.monitor.proofs.OpenLemmas.{open_on, opened, open_before, calls_are, same_at, open_after, open_still}
 

@@ -1,29 +1,12 @@
 -- Which calls are open after an event, and which processes have an open call.
 use Rattle.events.specs.declared.event.Reply.TheVariants as replies
-use Rattle.std.proofs.Common.{◌≡◌, ◌≢◌, ℕ, zero, suc, ◌+◌, ◌<◌, ◌==◌, Bool, true, false, not, List, [], ◌∷◌, ◌++◌, length, map, Option, Some, None}
-use Rattle.std.proofs.Common.{refl, sym, ap, ◌∙◌, subst, ⊎_elim, inl, inr, arith}
-use Rattle.std.specs.Prelude.{◌⊎◌, Contains, slice_get}
-use Rattle.std.specs.Ordering.{nat_cmp, is_eq}
-use Rattle.std.proofs.lemmas.Bool.{and_parts, eq-eqb, eqb-true, ne_eqb, false≢true}
-use Rattle.std.proofs.lemmas.List.Elements.{Contains-append_left, Contains-append_right, filter-append}
-use Rattle.std.proofs.lemmas.Option.{none-some, slice_get_within}
-use Rattle.events.specs.declared.event.Call.{Call}
-use Rattle.events.specs.declared.event.Event.{Event}
-use Rattle.events.specs.declared.event.Event.TheVariants.{Invoke, Answer}
-use Rattle.events.specs.declared.event.Reply.{Reply}
-use Rattle.events.specs.declared.operation.Operation.{Operation}
-use Rattle.events.specs.declared.operation.Response.{Response}
-use Rattle.events.specs.Events.{process_of, is_invocation, events_of, takes_turns, IsWellFormed}
-use Rattle.events.specs.HistoryFaults.{ends_waiting, has_open_call}
-use Rattle.events.specs.Operations.{response_from, operation_of, operations_from, operations}
-use Rattle.events.proofs.TimeLemmas.{inv_rises}
-use Rattle.list_laws.proofs.Lists.{Contains-first, Contains-later, slice_get-append_left, slice_get-middle}
-use Rattle.list_laws.proofs.FilterLemmas.{Contains-map}
-use Rattle.quiet_cuts.specs.KeptCalls.{begun_at, answered_at}
-use Rattle.quiet_cuts.proofs.ContinueLemmas.{invoked_before}
-use Rattle.quiet_cuts.proofs.EventLemmas.{operations-invoke, none_of}
-use Rattle.quiet_cuts.proofs.SetLemmas.{same_call}
-use Rattle.monitor.specs.Following.{IsOpenCall}
+use Rattle.monitor.proofs.Common.{◌≡◌, ◌≢◌, ℕ, zero, suc, ◌+◌, ◌<◌, ◌==◌, Bool, true, false, not, List, [], ◌∷◌, ◌++◌, length, map, Option, Some}
+use Rattle.monitor.proofs.Common.{None, refl, sym, ap, ◌∙◌, subst, ⊎_elim, inl, inr, arith, ◌⊎◌, Contains, slice_get, nat_cmp, is_eq, and_parts}
+use Rattle.monitor.proofs.Common.{eq-eqb, eqb-true, ne_eqb, false≢true, Contains-append_left, Contains-append_right, filter-append, none-some}
+use Rattle.monitor.proofs.Common.{slice_get_within, Call, Event, Invoke, Answer, Reply, Operation, Response, process_of, is_invocation, events_of}
+use Rattle.monitor.proofs.Common.{takes_turns, IsWellFormed, ends_waiting, has_open_call, response_from, operation_of, operations_from, operations}
+use Rattle.monitor.proofs.Common.{inv_rises, Contains-first, Contains-later, slice_get-append_left, slice_get-middle, Contains-map, begun_at}
+use Rattle.monitor.proofs.Common.{answered_at, invoked_before, operations-invoke, none_of, same_call, IsOpenCall}
 use Rattle.monitor.proofs.CallLemmas.{open_call, answered_calls, invoked_later, answered_later, well_formed_on}
 
 -- a query is at a process if it is the same number

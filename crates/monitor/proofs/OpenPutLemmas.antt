@@ -1,23 +1,14 @@
 -- The puts of open calls.
-use Rattle.std.proofs.Common.{◌≡◌, ℕ, ◌<◌, ◌≤◌, false, List, [], ◌∷◌, ◌++◌, get_or, Some, eqb}
-use Rattle.std.proofs.Common.{sym, ◌∙◌, subst, ⊎_elim, arith}
-use Rattle.std.specs.Prelude.{◌≢◌, ◌↔◌, IfOk, Result, Ok, Err, All, AllPairs, Any, Contains}
-use Rattle.std.specs.List.{IsDistinct}
+use Rattle.monitor.proofs.Common.{◌≡◌, ℕ, ◌<◌, ◌≤◌, false, List, [], ◌∷◌, ◌++◌, get_or, Some, eqb, sym, ◌∙◌, subst, ⊎_elim, arith, ◌↔◌, IfOk, Result}
+use Rattle.monitor.proofs.Common.{Ok, Err, All, AllPairs, Any, Contains, IsDistinct, nat_cmp, eqb-false, false≢true, ne_eqb, All-contains, All-cons}
+use Rattle.monitor.proofs.Common.{All-nil, Contains-append_left, Contains-append_right, Contains-get_or, Contains-push_cases, Contains-permutation}
+use Rattle.monitor.proofs.Common.{IsPermutation-sym, All-from_contains, AllPairs-across, AllPairs-append, AllPairs-front, Contains-first}
+use Rattle.monitor.proofs.Common.{AllPairs-from_map, writes, begun, Put, IsOpenPut, ArePutsOfEntries, HaveOwnEvents, AreOpenPuts, known_call}
+use Rattle.monitor.proofs.Common.{OpenCall}
+use Rattle.std.specs.Prelude.{◌≢◌}
 use Rattle.std.specs.List.Sorted.{IsPermutation, IsStrictlySortedBy}
 use Rattle.std.specs.Map.{keys_of}
-use Rattle.std.specs.Ordering.{nat_cmp}
-use Rattle.std.proofs.lemmas.Bool.{eqb-false, false≢true, ne_eqb}
-use Rattle.std.proofs.lemmas.List.Elements.{All-contains, All-cons, All-nil, Contains-append_left, Contains-append_right, Contains-get_or, Contains-push_cases}
-use Rattle.std.proofs.lemmas.List.Sorted.{Contains-permutation, IsPermutation-sym}
 use Rattle.std.proofs.lemmas.Map.Keys.{IsDistinct-IsPermutation, IsDistinct-from_apart, apart_from_distinct, below_from_sorted}
-use Rattle.list_laws.proofs.Lists.{All-from_contains, AllPairs-across, AllPairs-append, AllPairs-front, Contains-first}
-use Rattle.list_laws.proofs.FilterLemmas.{AllPairs-from_map}
-use Rattle.origins.specs.Writers.{writes}
-use Rattle.parts.specs.Keeping.{begun}
-use Rattle.losses.specs.declared.puts.Put.{Put}
-use Rattle.monitor.specs.OpenPuts.{IsOpenPut, ArePutsOfEntries, HaveOwnEvents, AreOpenPuts}
-use Rattle.monitor.specs.MonitorView.{known_call}
-use Rattle.monitor.specs.declared.open_calls.OpenCall.{OpenCall}
 use Rattle.monitor.proofs.PutLemmas.{one_put}
 
 abbrev IsOtherEvent : ℕ × OpenCall → ℕ × OpenCall → Type 0

@@ -1,11 +1,7 @@
 -- Pairs by rising key, one after another.
-use Rattle.std.proofs.Common.{ℕ, ◌<◌, ◌≤◌, [], ◌∷◌, ◌++◌}
-use Rattle.std.specs.Prelude.{All}
-use Rattle.std.proofs.lemmas.List.Elements.{All-append, All-cons, All-head, All-nil, All-weaker}
+use Rattle.monitor.proofs.Common.{ℕ, ◌<◌, ◌≤◌, [], ◌∷◌, ◌++◌, All, All-append, All-cons, All-head, All-nil, All-weaker, AllPairs-across, All-back}
+use Rattle.monitor.proofs.Common.{Contents, ArePairsOf}
 use Rattle.std.proofs.lemmas.List.Quantifiers.{all_pairs_push}
-use Rattle.list_laws.proofs.Lists.{AllPairs-across, All-back}
-use Rattle.map_object.specs.MapObject.{Contents}
-use Rattle.key_effects.specs.Forms.{ArePairsOf}
 
 -- pairs of a scan, with one more after them
 pub pairs_push : (low high : ℕ) (before : Contents) (pair : ℕ × ℕ) → ArePairsOf low high before → low ≤ pair.0 → pair.0 ≤ high

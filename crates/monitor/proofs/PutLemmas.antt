@@ -1,38 +1,17 @@
 -- Which calls put values, as they are known from event to event.
-use Rattle.std.proofs.Common.{◌≡◌, ℕ, zero, suc, ◌+◌, ◌-◌, ◌<◌, true, false, not, List, [], ◌∷◌, ◌++◌, length, take, Option, Some, None}
-use Rattle.std.proofs.Common.{refl, sym, ap, ◌∙◌, subst, ⊎_elim, inl, inr, arith}
-use Rattle.std.specs.Prelude.{◌⊎◌, ◌==◌, ◌&&◌, All, AllPairs, Contains, is_some, slice_get}
-use Rattle.std.proofs.lemmas.Bool.{and_parts, eqb-true, false≢true, ltb-true}
-use Rattle.std.proofs.lemmas.List.{length-append, length-drop, length-take, take-append-drop}
-use Rattle.std.proofs.lemmas.List.Elements.{All-append, All-contains, All-cons, All-nil, All-tail, Contains-append_cases, Contains-append_left, Contains-append_right, Contains-get_or}
-use Rattle.std.proofs.lemmas.Option.{none-some, same_Some}
-use Rattle.circular_buffer.specs.Buffer.{keep_last}
-use Rattle.events.specs.declared.event.Call.{Call}
-use Rattle.events.specs.declared.event.Event.{Event}
-use Rattle.events.specs.declared.event.Event.TheVariants.{Invoke, Answer}
-use Rattle.events.specs.declared.event.Reply.{Reply}
-use Rattle.events.specs.declared.operation.Operation.{Operation}
-use Rattle.events.specs.declared.operation.Response.{Response}
-use Rattle.events.specs.Events.{IsWellFormed}
-use Rattle.events.specs.Keys.{low_key}
-use Rattle.events.specs.Precedence.{is_before, is_completed}
-use Rattle.events.specs.Operations.{operation_of, operations_from, operations}
-use Rattle.events.proofs.TimeLemmas.{inv_rises}
-use Rattle.list_laws.proofs.Lists.{All-back, All-front, All-from_contains, AllPairs-across, AllPairs-append, AllPairs-back}
-use Rattle.list_laws.proofs.Lists.{Contains-around, Contains-cases, Contains-first, Contains-later, Contains-nil}
-use Rattle.quiet_cuts.proofs.ContinueLemmas.{completed_stays}
-use Rattle.quiet_cuts.proofs.SetLemmas.{same_call}
+use Rattle.monitor.proofs.Common.{◌≡◌, ℕ, zero, suc, ◌+◌, ◌-◌, ◌<◌, true, false, not, List, [], ◌∷◌, ◌++◌, length, take, Option, Some, None, refl}
+use Rattle.monitor.proofs.Common.{sym, ap, ◌∙◌, subst, ⊎_elim, inl, inr, arith, ◌⊎◌, ◌&&◌, All, AllPairs, Contains, is_some, slice_get, and_parts}
+use Rattle.monitor.proofs.Common.{eqb-true, false≢true, ltb-true, length-append, length-drop, length-take, take-append-drop, All-append, All-contains}
+use Rattle.monitor.proofs.Common.{All-cons, All-nil, All-tail, Contains-append_cases, Contains-append_left, Contains-append_right, Contains-get_or}
+use Rattle.monitor.proofs.Common.{none-some, same_Some, keep_last, Call, Event, Invoke, Answer, Reply, Operation, Response, IsWellFormed, low_key}
+use Rattle.monitor.proofs.Common.{is_before, is_completed, operation_of, operations_from, operations, inv_rises, All-back, All-front}
+use Rattle.monitor.proofs.Common.{All-from_contains, AllPairs-across, AllPairs-append, AllPairs-back, Contains-around, Contains-cases, Contains-first}
+use Rattle.monitor.proofs.Common.{Contains-later, Contains-nil, completed_stays, same_call, is_undone, writes, begun, is_reported, IsPutOf, Put}
+use Rattle.monitor.proofs.Common.{put_limit, IsAnsweredPut, AreLastPuts, AreRecentPuts, IsAnsweredBefore, BecomeWithAnswer, ArePutsOf, HaveOwnEvents}
+use Rattle.monitor.proofs.Common.{AreAllPuts, known_call, IsOpenCall, IsCallOf, OpenCall}
+use Rattle.std.specs.Prelude.{◌==◌}
 use Rattle.explaining.specs.Tells.{put_by}
 use Rattle.origins.specs.External.{is_put}
-use Rattle.origins.specs.Writers.{is_undone, writes}
-use Rattle.parts.specs.Keeping.{begun, is_reported}
-use Rattle.losses.specs.Puts.{IsPutOf}
-use Rattle.losses.specs.declared.puts.Put.{Put}
-use Rattle.monitor.specs.Puts.{put_limit, IsAnsweredPut, AreLastPuts, AreRecentPuts, IsAnsweredBefore, BecomeWithAnswer, ArePutsOf}
-use Rattle.monitor.specs.OpenPuts.{HaveOwnEvents, AreAllPuts}
-use Rattle.monitor.specs.MonitorView.{known_call}
-use Rattle.monitor.specs.Following.{IsOpenCall, IsCallOf}
-use Rattle.monitor.specs.declared.open_calls.OpenCall.{OpenCall}
 
 -- ---- a call puts one pair
 

@@ -1,21 +1,7 @@
 -- A monitor before any event.
-use Rattle.std.proofs.Common.{◌≡◌, ◌≢◌, ℕ, ◌<◌, ◌≤◌, false, List, [], refl, sym, ap, ◌∙◌, subst}
-use Rattle.std.proofs.lemmas.List.Elements.{All-nil}
-use Rattle.std.proofs.lemmas.Option.{none-some}
-use Rattle.events.specs.declared.event.Event.TheVariants.{Invoke}
-use Rattle.events.specs.declared.operation.Operation.{Operation}
-use Rattle.events.specs.Keys.{low_key, high_key}
-use Rattle.events.specs.Precedence.{precedes}
-use Rattle.list_laws.proofs.Lists.{AllPairs-nil}
-use Rattle.losses.specs.declared.puts.Put.{Put}
-use Rattle.map_object.specs.MapObject.{Contents, IsRising}
-use Rattle.orders.specs.Orders.{IsLinearizable}
-use Rattle.parts.specs.Keeping.{IsStateOf}
-use Rattle.parts.specs.Views.{PartsView}
-use Rattle.monitor.specs.MonitorView.{known_call}
-use Rattle.monitor.specs.Following.{IsFollowing}
-use Rattle.monitor.specs.Puts.{put_limit, AreRecentPuts}
-use Rattle.monitor.specs.declared.open_calls.OpenCall.{OpenCall}
+use Rattle.monitor.proofs.Common.{◌≡◌, ◌≢◌, ℕ, ◌<◌, ◌≤◌, false, List, [], refl, sym, ap, ◌∙◌, subst, All-nil, none-some, Invoke, Operation, low_key}
+use Rattle.monitor.proofs.Common.{high_key, precedes, AllPairs-nil, Put, Contents, IsRising, IsLinearizable, IsStateOf, PartsView, known_call}
+use Rattle.monitor.proofs.Common.{IsFollowing, put_limit, AreRecentPuts, OpenCall}
 use Rattle.monitor.proofs.PutLemmas.{no_puts}
 
 none_ordered : (m : Contents) → IsLinearizable m []

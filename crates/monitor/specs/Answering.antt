@@ -1,12 +1,12 @@
 -- What the parts make of an answer.
-use Rattle.std.specs.Prelude.{◌≡◌, ◌⊎◌, ℕ, suc, List, [], ◌∷◌, ◌++◌, All}
+use Rattle.std.specs.Prelude.{◌≡◌, ◌⊎◌, ℕ, suc, List, [], ◌∷◌, ◌++◌, All, ⊤}
 use Rattle.events.specs.declared.event.Call.{Call}
 use Rattle.events.specs.declared.event.Reply.{Reply}
 use Rattle.events.specs.declared.operation.Operation.{Operation}
 use Rattle.map_object.specs.MapObject.{Contents}
 use Rattle.kept_parts.specs.Steps.{GoesOn}
 use Rattle.part_pasts.specs.Pasts.{IsDead, AreDoubtful}
-use Rattle.parts.specs.Keeping.{begun, IsCounted, IsKeptBeside, IsStateOf, pasts_of}
+use Rattle.parts.specs.Keeping.{begun, IsCounted, IsEndedBy, IsKeptBeside, IsStateOf, pasts_of, response_at}
 use Rattle.parts.specs.Views.{PartsView, kept_parts}
 use Rattle.parts.specs.declared.state.EndedPart.{EndedPart}
 use Rattle.monitor.specs.Calls.{MayReply}
@@ -32,3 +32,8 @@ abbrev pub AreAnswered : Contents → ℕ → PartsView → List Operation → C
 AreAnswered start budget old calls call reply (Going next) = IsStateOf start calls next × IsCounted old next × All GoesOn (kept_parts next)
 AreAnswered start budget old calls call reply (Lost part) = IsLostPart start (suc old.now) calls call reply part
 AreAnswered start budget old calls call reply (Spent part) = IsKeptBeside start (suc old.now) calls part × AreDoubtful budget (pasts_of part)
+
+-- if some map answers the call so, a part that has no past with an order is ended by the answer
+abbrev pub IsLostBy : Contents → ℕ → List Operation → Operation → Reply → Judged → Type 0
+IsLostBy start now calls o reply (Lost part) = MayReply o.call reply → IsEndedBy start now calls o (response_at reply now) part
+IsLostBy start now calls o reply judged = ⊤

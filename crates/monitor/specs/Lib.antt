@@ -7,3 +7,4 @@ pub mod Answering
 pub mod LossAt
 pub mod Following
 pub mod Outcomes
+pub mod Laws

@@ -1,15 +1,18 @@
 -- What becomes of a monitor where a call is answered.
-use Rattle.std.specs.Prelude.{◌≡◌, ℕ, suc, List, [], ◌∷◌, ◌++◌, length, All, None, Some}
+use Rattle.std.specs.Prelude.{◌≡◌, ◌≢◌, ℕ, suc, false, List, [], ◌∷◌, ◌++◌, length, All, None, Some}
 use Rattle.events.specs.declared.event.Event.{Event}
 use Rattle.events.specs.declared.event.Event.TheVariants.{Answer}
 use Rattle.events.specs.declared.event.Reply.{Reply}
+use Rattle.events.specs.Keys.{may_change}
 use Rattle.events.specs.Operations.{operations}
 use Rattle.map_object.specs.MapObject.{Contents}
 use Rattle.orders.specs.Orders.{IsLinearizable}
 use Rattle.losses.specs.declared.loss.Loss.{Loss}
 use Rattle.prefixes.specs.Prefixes.{GoesWrongAt, IsAnswerOf}
-use Rattle.parts.specs.Keeping.{IsKeptBeside, pasts_of}
+use Rattle.kept_parts.specs.Reached.{IsReached}
 use Rattle.part_pasts.specs.Pasts.{IsDead, AreDoubtful}
+use Rattle.part_pasts.specs.Ranges.{covered}
+use Rattle.parts.specs.Keeping.{begun, IsEndedBy, IsKeptBeside, pasts_of, response_at}
 use Rattle.monitor.specs.Calls.{MayReply}
 use Rattle.monitor.specs.Faults.{answer_fault}
 use Rattle.monitor.specs.Puts.{ArePutsOf}
@@ -33,13 +36,20 @@ abbrev pub IsKeptWith : Contents → List Event → ℕ → Reply → Loss → T
 IsKeptWith start events process reply loss =
     IsKeptBeside start (suc (length events)) (operations (events ++ Answer process reply ∷ [])) loss.part
 
--- The events go wrong at this answer, whatever follows. The part that is kept with the answer has no past with an order. There is no past if no
--- map answers the call so.
+-- The events go wrong at this answer, whatever follows. There is no past if no map answers the call so. Else the part that is kept with the answer
+-- has no past with an order, and its pasts are those kept before with the answer in each (`IsEndedBy`): at least one if the call is a read. Each past
+-- is reached: some of the calls have a legal order that leaves the values that it has at the part's keys.
 pub record IsLost (start : Contents) (events : List Event) (process : ℕ) (reply : Reply) (loss : Loss) : Type 0 where
   pub accepted : answer_fault events process ≡ None
   pub of_answer : IsOfAnswer events process loss
   pub part : MayReply loss.call reply → IsKeptWith start events process reply loss × All IsDead (pasts_of loss.part)
   pub none : (MayReply loss.call reply → ⊥) → loss.part.pasts.items ≡ []
+  pub before : MayReply loss.call reply
+      → IsEndedBy start (length events) (operations events) (begun of_answer.known.call of_answer.known.event) (response_at reply (length events))
+      loss.part
+  pub some : may_change loss.call ≡ false → MayReply loss.call reply → loss.part.pasts.items ≢ []
+  pub reached : MayReply loss.call reply
+      → All (IsReached start (operations (events ++ Answer process reply ∷ [])) (covered loss.part.ranges.items)) (pasts_of loss.part)
   pub puts : ArePutsOf (operations (events ++ Answer process reply ∷ [])) loss.puts.items
   pub wrong : (more : List Event) → let all = events ++ Answer process reply ∷ more in
       (IsLinearizable start (operations all) → ⊥) × GoesWrongAt (record { start = start; events = all }) loss.number loss.event

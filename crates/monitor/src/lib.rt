@@ -7,11 +7,13 @@ mod answered;
 mod answering;
 mod fault;
 mod forms;
+mod laws;
 mod monitor;
 mod open_calls;
 
 pub use answered::Answered;
 pub use fault::FollowFault;
+pub use laws::{losses_are_reached, nothing_is_missed};
 pub use monitor::Monitor;
 
 #[cfg(test)]

@@ -18,7 +18,7 @@ use crate::fault::FollowFault;
 use crate::open_calls::{OpenCall, open_call};
 use circular_buffer::HeapCircularBuffer;
 use events::{Call, Memory, Reply};
-use kept_parts::kept_parts_decide;
+use kept_parts::{kept_parts_decide, kept_pasts_are_reached};
 use key_effects::orders_are_keyed_orders;
 use losses::{Loss, Put};
 use parts::{EndedPart, Parts};
@@ -192,6 +192,7 @@ impl Monitor {
     {
         prefixes_have_orders();
         kept_parts_decide();
+        kept_pasts_are_reached();
         orders_are_keyed_orders();
         let Monitor {
             parts,

@@ -7,7 +7,7 @@ use Rattle.events.specs.declared.operation.Operation.{Operation}
 use Rattle.orders.specs.Orders.{calls_at}
 use Rattle.list_laws.proofs.NumberLemmas.{slice_get-below}
 
--- at each place of some numbers stands the call of that number
+-- at each place of some numbers is the call of that number
 pub slice_get-calls_at : (calls : List Operation) (numbers : List ℕ) (i n : ℕ) → All (λ n. n < length calls) numbers
     → slice_get numbers i ≡ Some n
     → slice_get (calls_at calls numbers) i ≡ slice_get calls n
@@ -27,7 +27,7 @@ length-calls_at calls (m ∷ numbers) known =
     let (a, here) = slice_get-below calls m (All-head (λ n. n < length calls) m numbers known) in
     rw here (ap suc (length-calls_at calls numbers (All-tail (λ n. n < length calls) m numbers known)))
 
--- the number of a call that stands at a place of the calls of known numbers
+-- a call at a place of the calls of known numbers has a number
 pub number_at : (calls : List Operation) (numbers : List ℕ) (i : ℕ) (a : Operation) → All (λ n. n < length calls) numbers
     → slice_get (calls_at calls numbers) i ≡ Some a → (n : ℕ) × (slice_get numbers i ≡ Some n) × (slice_get calls n ≡ Some a)
 number_at calls numbers i a known here =

@@ -20,7 +20,7 @@ use Rattle.orders.proofs.CallsAtLemmas.{length-calls_at}
 abbrev pub at_places : List ℕ → List ℕ → List ℕ
 at_places numbers places = map (λ place. slice_index numbers place) places
 
--- at each place of the calls with known numbers stands the call of the number there
+-- at each place of the calls with known numbers is the call of the number there
 pub slice_get-at_place : (calls : List Operation) (numbers : List ℕ) (place : ℕ) → All (λ n. n < length calls) numbers
     → place < length numbers
     → slice_get (calls_at calls numbers) place ≡ slice_get calls (slice_index numbers place)
@@ -50,11 +50,11 @@ at_place-distinct numbers i j rising i_within j_within differ same =
     (λ before. let less : slice_index numbers i < slice_index numbers j = up i j 0 before j_within in omega arith)
     (λ after. let less : slice_index numbers j < slice_index numbers i = up j i 0 after i_within in omega arith) other) (cases_order i j)
 
--- a number of a list stands at one of its places
+-- a number of a list is at one of its places
 pub place_of : (numbers : List ℕ) (n : ℕ) → Contains numbers n → (place : ℕ) × (place < length numbers) × (slice_index numbers place ≡ n)
 place_of numbers n h = (h.0, h.1, get_or_default numbers h.0 0 n h.1 ∙ h.2)
 
--- numbers of a list stand at places of it
+-- numbers of a list are at places of it
 pub places_of : (numbers order : List ℕ) → All (Contains numbers) order → (places : List ℕ) × (order ≡ at_places numbers places)
     × All (λ place. place < length numbers) places
 places_of numbers [] h = ([], refl, All-nil (λ place. place < length numbers))
@@ -125,14 +125,14 @@ IsCompletedAt-number calls numbers place known h =
     ) in
     (within, subst (λ o. IsSomeAnd o (λ a. IsTrue (is_completed a))) (slice_get-at_place calls numbers place known within) h)
 
--- and the other way round
+-- a call that is completed by number is so by place
 pub IsCompletedAt-place : (calls : List Operation) (numbers : List ℕ) (place : ℕ) → All (λ n. n < length calls) numbers
     → place < length numbers
     → IsCompletedAt calls (slice_index numbers place) → IsCompletedAt (calls_at calls numbers) place
 IsCompletedAt-place calls numbers place known within h =
     subst (λ o. IsSomeAnd o (λ a. IsTrue (is_completed a))) (sym (slice_get-at_place calls numbers place known within)) h
 
--- where the number of a place is among the numbers of some places, the place is one of them
+-- if the number of a place is among the numbers of some places, the place is one of them
 pub Contains-place : (numbers places : List ℕ) (place : ℕ) → IsStrictlyIncreasing numbers → All (λ place. place < length numbers) places
     → place < length numbers
     → Contains (at_places numbers places) (slice_index numbers place) → Contains places place

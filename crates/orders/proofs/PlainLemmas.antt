@@ -1,4 +1,5 @@
--- Histories with neither starting pairs nor a replace, whose answers tell all, have the orders that their calls have without either.
+-- Histories with neither starting pairs nor a replace, and with complete answers only, have the
+-- orders that their calls have without either.
 use Rattle.events.specs.declared.event.Reply.TheVariants as replies
 use Rattle.std.proofs.Common.{◌≡◌, ℕ, suc, ◌==◌, Bool, true, false, cond, List, [], ◌∷◌, Option, Some, None, inl, inr, refl, sym, subst, ◌∙◌}
 use Rattle.std.specs.Prelude.{All, slice_get, ⊤}
@@ -23,12 +24,12 @@ use Rattle.orders.specs.Orders.{after_call, IsLegalCall, IsLegal, calls_at, IsOr
 use Rattle.orders.specs.PlainOrders.{DoesPlain, DoesPlainCall, AreDonePlainly, IsPlainOrder}
 use Rattle.orders.specs.Laws.{PlainHistoriesHavePlainOrders}
 
--- a response that tells all, if there is one
+-- the response is complete, if there is one
 abbrev IsToldResponse : Option Response → Type 0
 IsToldResponse None = ⊤
 IsToldResponse (Some response) = is_told response.reply ≡ true
 
--- a call that is no replace, and whose answer tells all
+-- a call that is no replace, and whose answer is complete
 abbrev IsPlainCall : Operation → Type 0
 IsPlainCall a = (is_replace a.call ≡ false) × IsToldResponse a.response
 
@@ -40,7 +41,7 @@ does_plain m (Remove key) plain = (refl, refl)
 does_plain m (Scan low high) plain = (refl, refl)
 does_plain m (Replace key expected value) plain = cc
 
--- and back
+-- one call: what is done plainly the map does
 plain_does : (m : Contents) (call : Call) (reply : Reply) (next : Contents) → DoesPlain m call reply next → (reply ≡ reply_to m call)
     × (next ≡ after m call)
 plain_does m (Get key) reply next d = d

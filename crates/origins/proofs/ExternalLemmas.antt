@@ -1,4 +1,4 @@
--- The pairs that calls tell from outside of them.
+-- The pairs that calls report from outside of them.
 use Rattle.std.proofs.Common.{◌≡◌, ℕ, Bool, true, false, not, List, refl, ap, sym, subst, filter, true≢false}
 use Rattle.std.specs.Prelude.{◌↔◌, AllPairs, Contains}
 use Rattle.std.proofs.lemmas.List.Kept.{AllPairs-filter}
@@ -12,7 +12,7 @@ fails_from : (b : Bool) → not b ≡ true → b ≡ false
 fails_from true h = absurd (true≢false (sym h))
 fails_from false h = refl
 
--- those of the pairs told, by rising key and value, that are not the calls' own
+-- the pairs reported, by rising key and value, that are not the calls' own
 pub external_from : (start : Contents) (calls : List Operation) (told sorted pairs : List (ℕ × ℕ)) → told ≡ all_told calls
     → AllPairs IsBelow sorted → ((pair : ℕ × ℕ) → Contains sorted pair ↔ Contains told pair)
     → pairs ≡ filter (λ pair. not (is_internal start calls pair)) sorted → AreExternal start calls pairs

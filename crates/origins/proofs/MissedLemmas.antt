@@ -1,4 +1,5 @@
--- Where one of some calls misses another, they have no order: behind the one that is missed its key never has again what the first tells.
+-- If one of some calls misses another, they have no order: after the one that is missed its key
+-- never again has what the first reports.
 use Rattle.events.specs.declared.event.Reply.TheVariants as replies
 use Rattle.std.proofs.Common.{◌≡◌, ℕ, Bool, true, false, not, List, [], ◌∷◌, Option, Some, None, refl, ap, sym, ◌∙◌, inl, inr, subst, ⊎_elim}
 use Rattle.std.proofs.Common.{true≢false}
@@ -71,7 +72,7 @@ left_there m call (Some response) value legal left =
     ap (λ (n : Contents). value_at n (low_key call)) (after_reply-answer m call response.reply answered)
     ∙ value_behind m call response.reply value tells sure done puts
 
--- ---- a call at a map, and what its answer tells of a key
+-- ---- a call at a map, and what its answer reports of a key
 
 some_left : (call : Call) (response : Option Response) (key : ℕ) (left : Option (Option ℕ)) → is_gainsaid call response key left ≡ true
     → (value : Option ℕ) × (left ≡ Some value)
@@ -79,7 +80,7 @@ some_left call None key left gainsaid = absurd (false≢true gainsaid)
 some_left call (Some response) key None gainsaid = absurd (false≢true gainsaid)
 some_left call (Some response) key (Some value) gainsaid = (value, refl)
 
--- what was left there is not what it tells
+-- what was left there is not what it reports
 untold_left : (call : Call) (response : Option Response) (key : ℕ) (value : Option ℕ) → is_gainsaid call response key (Some value) ≡ true
     → is_told_by call response key value ≡ false
 untold_left call None key value gainsaid = absurd (false≢true gainsaid)
@@ -96,7 +97,7 @@ sees call replies.Done says = absurd (false≢true says)
 sees call replies.Found says = refl
 sees call replies.Other says = refl
 
--- and where it is legal it tells what is there
+-- if it is legal it reports what is there
 tells_there : (m : Contents) (call : Call) (response : Option Response) (key : ℕ) (left : Option (Option ℕ))
     → is_gainsaid call response key left ≡ true → names_key call key ≡ true → IsLegalCall m call response
     → is_told_by call response key (value_at m key) ≡ true
@@ -111,7 +112,7 @@ tells_there m call (Some response) key (Some value) gainsaid names legal =
 
 -- ---- the key of the call that is missed, from this call on
 
--- behind a call a key has the value that it had, or the one that the call puts
+-- after a call a key has the value that it had, or the one that the call puts
 kept_or_put : (m : Contents) (c : Operation) (key : ℕ) → IsRising m → IsLegalCall m c.call c.response
     → (value_at (after_call m c.call c.response) key ≡ value_at m key)
     ⊎ ((low_key c.call ≡ key) × (put_of c.call c.response ≡ Some (value_at (after_call m c.call c.response) key)))
@@ -127,7 +128,8 @@ fails_unless : (b : Bool) → (b ≡ true → ⊥) → b ≡ false
 fails_unless true none = absurd (none refl)
 fails_unless false none = refl
 
--- a call that may not mend it, behind the one that is missed and before the first, puts nothing there that this tells
+-- a call that may not mend it, after the one that is missed and before the first, puts nothing
+-- there that this one reports
 not_mended : (same here tells earlier later : Bool) → same ≡ false → here ≡ true → earlier ≡ false → later ≡ false
     → (not same && (here && (tells && (not earlier && not later)))) ≡ false → tells ≡ false
 not_mended same here false earlier later apart at behind before none = refl
@@ -140,7 +142,7 @@ not_mended false true true false false apart at behind before none = absurd (tru
 module _ (calls : List Operation) (r b : Operation) (names : names_key r.call (low_key b.call) ≡ true)
     (gainsaid : is_gainsaid r.call r.response (low_key b.call) (left_by b) ≡ true) (precede : precedes b r ≡ true)
     (apart : precedes r r ≡ false) (unmended : (c : Operation) → Contains calls c → may_mend r b c ≡ false) where
-  -- the key has a value that the first does not tell
+  -- the key has a value that the first does not report
   abbrev IsUntold : Contents → Type 0
   IsUntold m = is_told_by r.call r.response (low_key b.call) (value_at m (low_key b.call)) ≡ false
 
@@ -165,7 +167,7 @@ module _ (calls : List Operation) (r b : Operation) (names : names_key r.call (l
       put_untold c (value_at (after_call m c.call c.response) (low_key b.call)) known other behind before here puts)
       (kept_or_put m c (low_key b.call) rising legal)
 
-  -- no list that comes behind the one that is missed has the first
+  -- no list that comes after the one that is missed has the first
   none_behind : (order : List Operation) (m : Contents) → IsRising m → IsLegal m order → Contains order r
       → All (λ c. precedes c b ≡ false) order → KeepsPrecedence order → AllPairs (λ c d. c.inv ≢ d.inv) order → All (Contains calls) order
       → IsUntold m → ⊥
@@ -193,7 +195,7 @@ module _ (calls : List Operation) (r b : Operation) (names : names_key r.call (l
       (untold_left r.call r.response (low_key b.call) value
       (subst (λ o. is_gainsaid r.call r.response (low_key b.call) o ≡ true) is gainsaid))
 
-  -- nor has any list both
+  -- no legal list has both calls
   none_with : (order : List Operation) (m : Contents) → IsRising m → IsLegal m order → Contains order b → Contains order r
       → KeepsPrecedence order → AllPairs (λ c d. c.inv ≢ d.inv) order → All (Contains calls) order → ⊥
   none_with [] m rising legal missed here precedence distinct known = Contains-nil r here
@@ -223,13 +225,13 @@ module _ (calls : List Operation) (r b : Operation) (names : names_key r.call (l
 
 -- ---- the calls that one misses
 
--- what is in a list that may have one more in front is this one, or is behind it
+-- what is in a list that may have one more in front is this one, or is after it
 first_or_later : {X : Type 0} (test : Bool) (x : X) (rest : List X) (y : X) → Contains (if test then x ∷ rest else rest) y
     → ((test ≡ true) × (x ≡ y)) ⊎ Contains rest y
 first_or_later true x rest y is = ⊎_elim (λ same. inl (refl, same)) (λ later. inr later) (Contains-cases x rest y is)
 first_or_later false x rest y is = inr is
 
--- one that is missed is missed of some calls behind which others began
+-- one that is missed is missed of some calls after which others began
 missed_is : (all : List Operation) (r : Operation) (calls : List Operation) (b : Operation) → Contains (missed_from all r calls) b
     → Contains calls b × ((later : List Operation) × (is_missed all r b later ≡ true))
 missed_is all r [] b is = absurd (Contains-nil b is)
@@ -241,7 +243,7 @@ missed_is all r (x ∷ later) b is = ⊎_elim
     (λ next. let found = missed_is all r later b next in (Contains-later x later b found.0, found.1))
     (first_or_later (is_missed all r x later) x (missed_from all r later) b is)
 
--- a call that gainsays another has an answer, and so has the other
+-- a call that contradicts another has an answer, and so has the other
 gainsaid_answered : (call : Call) (response : Option Response) (key : ℕ) (left : Option (Option ℕ)) (inv : ℕ)
     → is_gainsaid call response key left ≡ true → is_completed (record { call = call; inv = inv; response = response }) ≡ true
 gainsaid_answered call None key left inv gainsaid = absurd (false≢true gainsaid)
@@ -275,7 +277,7 @@ missed_calls_refute start calls r b rising rise apart r_known b_missed has_order
 
 -- ---- one of each key
 
--- a call of some is not missed where another of its key behind it is
+-- If a later call at the same key is missed, the earlier one is not.
 not_before : (all : List Operation) (r : Operation) (later : List Operation) (a b : Operation) → is_missed all r a later ≡ true
     → Contains (missed_from all r later) b → low_key a.call ≡ low_key b.call → ⊥
 not_before all r later a b first next same =

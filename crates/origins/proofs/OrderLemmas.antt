@@ -25,7 +25,7 @@ pair_cmp_total = then_total (on_total (λ (t : ℕ × ℕ). t.0) nat_cmp_total) 
 pair_eq_equiv : IsEquivalence pair_eq
 pair_eq_equiv = and_equiv (on_equiv (λ (t : ℕ × ℕ). t.0) nat_eq_equiv) (on_equiv (λ (t : ℕ × ℕ). t.1) nat_eq_equiv)
 
--- they are the same where neither key nor value differs
+-- two pairs are the same if neither key nor value differs
 number_ties : (m n : ℕ) (o : Ordering) → MatchOrdering o (m < n) (m ≡ n) (n < m) → (m == n) ≡ is_eq o
 number_ties m n Less is = grind (arith, nat_tests)
 number_ties m n Equal is = eq-eqb m n is
@@ -52,7 +52,7 @@ same_pair p q is =
     let (key, value) = both_hold (p.0 == q.0) (p.1 == q.1) is in
     ap₂ (λ (k v : ℕ). (k, v)) (eqb-true p.0 q.0 key) (eqb-true p.1 q.1 value)
 
--- one that is less stands before
+-- one that is less comes before
 below_by : (p q : ℕ × ℕ) (a b : Ordering) → MatchOrdering a (p.0 < q.0) (p.0 ≡ q.0) (q.0 < p.0)
     → MatchOrdering b (p.1 < q.1) (p.1 ≡ q.1) (q.1 < p.1) → ordering_then a b ≡ Less → IsBelow p q
 below_by p q Less b keys values less = inl keys

@@ -1,4 +1,5 @@
--- Where calls have an order, what their answers tell was put by one of them, or was there at the start.
+-- If calls have an order, what their answers report was put by one of them, or was there at the
+-- start.
 use Rattle.events.specs.declared.event.Reply.TheVariants as replies
 use Rattle.std.proofs.Common.{◌≡◌, ℕ, Bool, true, false, not, List, [], ◌∷◌, ◌++◌, Option, Some, None, refl, ap, ap₂, sym, ◌∙◌, inl, inr, subst, true≢false}
 use Rattle.std.proofs.Common.{⊎_elim, arith}
@@ -26,7 +27,7 @@ use Rattle.origins.specs.External.{is_put}
 use Rattle.origins.specs.Writers.{says_undone, is_undone, writes}
 use Rattle.origins.specs.Laws.{WhatIsToldWasPut}
 
--- ---- replies, told apart
+-- ---- different kinds of replies
 
 abbrev is_refused : Reply → Bool
 is_refused replies.None = false
@@ -86,7 +87,7 @@ value_there ((k, v) ∷ m) key value is = ⊎_elim
     Contains-later (k, v) m (key, value) (value_there m key value found))
     (cases_Bool (k == key))
 
--- by rising key a pair is the one of its key
+-- if keys rise, a pair has the value at its key
 value_here : (m : Contents) (pair : ℕ × ℕ) → IsRising m → Contains m pair → value_at m pair.0 ≡ Some pair.1
 value_here [] pair rising is = absurd (Contains-nil pair is)
 value_here ((k, v) ∷ m) pair rising is = ⊎_elim
@@ -97,7 +98,7 @@ value_here ((k, v) ∷ m) pair rising is = ⊎_elim
     rw other (value_here m pair (AllPairs-tail (λ (a b : ℕ × ℕ). a.0 < b.0) (k, v) m rising) later))
     (Contains-cases (k, v) m pair is)
 
--- ---- what a legal reply tells is there
+-- ---- what a legal reply reports is there
 
 value_found : (m : Contents) (key value : ℕ) (whole : Reply) → whole ≡ value_reply (value_at m key) → replies.Some value ≡ whole
     → Contains m (key, value)
@@ -145,7 +146,7 @@ call_told_there : (m : Contents) (call : Call) (response : Option Response) (pai
 call_told_there m call None pair legal told = absurd (Contains-nil pair told)
 call_told_there m call (Some response) pair legal told = told_there m call response.reply pair legal told
 
--- ---- what is there behind a call was there before it, or the call puts it
+-- ---- what is there after a call was there before it, or the call puts it
 
 -- a pair that is kept was there
 kept_there : (m : Contents) (key : ℕ) (pair : ℕ × ℕ) → Contains (below key m ++ above key m) pair → Contains m pair
@@ -230,7 +231,7 @@ left_by_call m (Replace key expected value) undone pair inserted replaced is = �
     (λ (other : is_just (value_at m key) expected ≡ false). let same : Contains m pair = rw other at is in inl same)
     (cases_Bool (is_just (value_at m key) expected))
 
--- and one that was answered
+-- what an answered call leaves
 left_by_reply : (m : Contents) (call : Call) (reply : Reply) (pair : ℕ × ℕ) → is_refused reply ≡ false → IsLegalReply m call reply
     → Contains (after m call) pair → Contains m pair ⊎ (puts_unless pair call (says_undone call reply) ≡ true)
 left_by_reply m call reply pair taken legal is =
@@ -260,7 +261,7 @@ there_or_put m call (Some response) pair legal is = left_behind m call response.
 
 -- ---- calls in turn
 
--- what a call of a legal list tells was there before them, or one of them puts it
+-- what a call of a legal list reports was there before them, or one of them puts it
 in_turn : (m : Contents) (calls : List Operation) (a : Operation) (pair : ℕ × ℕ) → IsLegal m calls → Contains calls a
     → Contains (told_by a.call a.response) pair
     → Contains m pair ⊎ ((b : Operation) × Contains calls b × (writes pair b ≡ true))
@@ -276,7 +277,7 @@ in_turn m (b ∷ calls) a pair legal there told = ⊎_elim
     (in_turn (after_call m b.call b.response) calls a pair legal.1 later told))
     (Contains-cases b calls a there)
 
--- the call that tells a pair
+-- the call that reports a pair
 teller : (calls : List Operation) (pair : ℕ × ℕ) → Contains (all_told calls) pair
     → (a : Operation) × Contains calls a × Contains (told_by a.call a.response) pair
 teller [] pair told = absurd (Contains-nil pair told)
@@ -285,7 +286,7 @@ teller (a ∷ calls) pair told = ⊎_elim
     (λ later. let (b, known, tells) = teller calls pair later in (b, Contains-later a calls b known, tells))
     (Contains-append_cases (told_by a.call a.response) (all_told calls) pair told)
 
--- it has an answer
+-- the call that reports a pair has an answer
 completed : (call : Call) (response : Option Response) (inv : ℕ) (pair : ℕ × ℕ) → Contains (told_by call response) pair
     → IsTrue (is_completed (record { call = call; inv = inv; response = response }))
 completed call None inv pair told = absurd (Contains-nil pair told)

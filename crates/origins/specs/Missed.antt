@@ -54,18 +54,18 @@ may_mend r b c =
 abbrev pub gainsays_later : Operation → Operation → List Operation → Bool
 gainsays_later r b later = list_any (λ c. low_key c.call == low_key b.call && gainsays r c) later
 
--- whether of some calls one misses another, given those that began after that one: it contradicts
--- that one, and none of these at its key, and no call may mend that
+-- Whether one of some calls misses another, given the calls that began after that one. It
+-- contradicts that one, and none of the later calls at its key, and no call may mend that.
 abbrev pub is_missed : List Operation → Operation → Operation → List Operation → Bool
 is_missed calls r b later = gainsays r b && (not (gainsays_later r b later) && not (list_any (may_mend r b) calls))
 
--- of the last of some calls, those that one call misses
+-- the calls that one call misses among the last of some calls
 abbrev pub missed_from : List Operation → Operation → List Operation → List Operation
 missed_from calls r [] = []
 missed_from calls r (b ∷ later) = if is_missed calls r b later then b ∷ missed_from calls r later else missed_from calls r later
 
--- of calls, in the order in which they began, those that one call misses: at each key the last that
--- it contradicts, if no call may mend that
+-- the calls that one call misses among some, in the order in which they began: at each key the last
+-- that it contradicts, if no call may mend that
 abbrev pub missed_by : Operation → List Operation → List Operation
 missed_by r calls = missed_from calls r calls
 

@@ -46,7 +46,7 @@ fn missed_of(call: &Operation) -> Missed
     }
 }
 
-/// Returns whether of some calls one misses another, given those that began after that one.
+/// Returns whether one of some calls misses another, given the calls that began after that one.
 fn is_missed(calls: &[Operation], call: &Operation, other: &Operation, later: &[Operation]) -> bool
     ensures { result ≡ is_missed calls.now call.now other.now later.now }
 {

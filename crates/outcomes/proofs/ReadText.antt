@@ -35,7 +35,7 @@ pub IsReadOutcome-read : (IsAnswer : List ℕ → Answer → List ℕ → Type 0
 IsReadOutcome-read IsAnswer IsRefusal limit answers refuses source read outcome is sound h =
     inr (sound, IsTextOutcome-told IsAnswer IsRefusal limit answers refuses source.old.bytes read outcome is h)
 
--- so is the outcome of a run that is made of what it read
+-- an outcome that is made of what a run read is one of the run
 pub IsRun-read : (IsAnswer : List ℕ → Answer → List ℕ → Type 0) (IsRefusal : List ℕ → List ℕ → List ℕ → Type 0) (limit : ℕ)
     → ((text : List ℕ) (answer : Answer) (bytes : List ℕ) → IsAnswer (take (limit + 1) text) answer bytes → IsAnswer text answer bytes)
     → ((text bytes hint : List ℕ) → IsRefusal (take (limit + 1) text) bytes hint → IsRefusal text bytes hint)

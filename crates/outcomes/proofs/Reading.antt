@@ -29,7 +29,7 @@ no-answer status past Yes is = omega (arith, past, is)
 no-answer status past No is = omega (arith, past, is)
 no-answer status past Undecided is = omega (arith, past, is)
 
--- so what holds of an answer holds where the status is that of one
+-- what holds of an answer holds if the status is that of one
 pub answered-status : (P : Type 0) (outcome : RunOutcome) (output faults hints : Change) (status : ℕ) → Leaves outcome output faults hints status
     → OnAnswered outcome P → OnAnswerStatus status P
 answered-status P (Answered given bytes) output faults hints status leaves h answer is = h
@@ -63,7 +63,8 @@ pub ok-holds : {T E : Type 0} (P : Type 0) (r : Result T E) → OnOk r P → IsO
 ok-holds P (Ok v) h is = h
 ok-holds P (Err e) h is = cc
 
--- what holds of an answer to the text that was read holds, by the status, of the whole where it is told
+-- what holds of an answer to the text that was read holds, by the status, of the whole if it is
+-- known
 pub told-status : (Q : List ℕ → Type 0) (limit : ℕ) (told : Option (List ℕ)) (read : List ℕ) (outcome : RunOutcome) (output faults hints : Change)
     (status : ℕ) → ((text : List ℕ) → Q (take (limit + 1) text) → Q text) → IfSome told (λ text. read ≡ take (limit + 1) text)
     → Leaves outcome output faults hints status → OnAnswered outcome (Q read) → OnAnswerStatus status (IfSome told Q)
@@ -72,7 +73,8 @@ told-status Q limit (Some text) read outcome output faults hints status whole is
     answered-status (Q text) outcome output faults hints status leaves
     (OnAnswered-map (Q read) (Q text) outcome (λ q. whole text (subst Q is q)) h)
 
--- what holds of each answer that is made of a text holds, by the status, of the whole where it is told
+-- what holds of each answer that is made of a text holds, by the status, of the whole if it is
+-- known
 pub made-status : (Q : List ℕ → Type 0) (limit : ℕ) → ((text : List ℕ) → Q (take (limit + 1) text) → Q text)
     → {Makes : List ℕ → RunOutcome → Type 0} {source output faults hints : Change} {status : ℕ}
     → IsTextRun Makes limit source output faults hints status

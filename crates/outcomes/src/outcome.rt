@@ -71,7 +71,7 @@ pub enum RunOutcome {
         line: String,
         hint: String,
     },
-    /// Memory was wanting.
+    /// Memory ran out.
     Memory,
     /// The command line asks for nothing that can be done, or for help. The user gets this text on
     /// standard error.

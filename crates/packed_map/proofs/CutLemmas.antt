@@ -1,13 +1,8 @@
 -- Where entries are cut.
-use Rattle.std.proofs.Common.{◌≡◌, ℕ, ◌+◌, ◌-◌, ◌<◌, List, length, get_or, take, drop, Some, refl, sym, ap, ◌∙◌, subst, inl, inr, ⊎_elim, arith}
-use Rattle.std.proofs.Common.{take-append-drop, length-drop, length-take, get_or-drop, get_or-take}
-use Rattle.std.specs.Prelude.{◌↔◌, All, IsTrue, nat_lt, slice_get}
-use Rattle.std.proofs.lemmas.Bool.{cases_lt, lt-ltb, ltb-true}
-use Rattle.std.proofs.lemmas.List.{get_or_default}
-use Rattle.std.proofs.lemmas.List.Elements.{All-take}
+use Rattle.packed_map.proofs.Common.{◌≡◌, ℕ, ◌+◌, ◌-◌, ◌<◌, List, length, get_or, take, drop, Some, refl, sym, ap, ◌∙◌, subst, inl, inr, ⊎_elim}
+use Rattle.packed_map.proofs.Common.{arith, take-append-drop, length-drop, length-take, get_or-drop, get_or-take, ◌↔◌, All, IsTrue, nat_lt, slice_get}
+use Rattle.packed_map.proofs.Common.{cases_lt, lt-ltb, ltb-true, get_or_default, All-take, KeysRise, IsCut}
 use Rattle.std.proofs.lemmas.Option.{get_or_from_slice_get, slice_get_within}
-use Rattle.packed_map.specs.Entries.{KeysRise}
-use Rattle.packed_map.specs.Splits.{IsCut}
 
 -- a key is above all entries where it is above the last
 pub above_last : {V : Type 0} (key : ℕ) (last : ℕ × V) (es : List (ℕ × V)) → KeysRise es → Some last ≡ slice_get es (length es - 1)

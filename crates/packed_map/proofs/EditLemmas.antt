@@ -1,14 +1,10 @@
 -- What an edit makes of the values at all keys, and of their order.
-use Rattle.std.proofs.Common.{◌≡◌, ◌≢◌, ℕ, ◌<◌, ◌==◌, Bool, true, false, cond, List, [], ◌∷◌, ◌++◌, get_or, Option, Some, None}
-use Rattle.std.proofs.Common.{Result, Ok, Err, OnOk, is_ok}
-use Rattle.std.proofs.Common.{refl, sym, ap, ap₂, ◌∙◌, subst, ⊎_elim, arith, eq-eqb}
-use Rattle.std.specs.Prelude.{if◌then◌else◌, All, AllPairs}
-use Rattle.std.proofs.lemmas.Bool.{cases_Bool, cases_order, eqb-true, eqb-false, ne_eqb}
-use Rattle.std.proofs.lemmas.List.Elements.{All-append, All-cons, All-head, All-nil, All-tail, All-weaker}
-use Rattle.std.proofs.lemmas.List.Kept.{AllPairs-cons}
-use Rattle.list_laws.proofs.Lists.{All-back, All-front, AllPairs-across, AllPairs-append, AllPairs-back, AllPairs-front, AllPairs-head, AllPairs-tail}
-use Rattle.packed_map.specs.Edits.{IsEdit}
-use Rattle.packed_map.specs.Entries.{KeysRise, entry_if, value_at}
+use Rattle.packed_map.proofs.Common.{◌≡◌, ◌≢◌, ℕ, ◌<◌, ◌==◌, Bool, true, false, cond, List, [], ◌∷◌, ◌++◌, get_or, Option, Some, None, Result, Ok}
+use Rattle.packed_map.proofs.Common.{Err, OnOk, is_ok, refl, sym, ap, ap₂, ◌∙◌, subst, ⊎_elim, arith, if◌then◌else◌, All, AllPairs, cases_Bool}
+use Rattle.packed_map.proofs.Common.{cases_order, eqb-true, eqb-false, ne_eqb, All-append, All-cons, All-head, All-nil, All-tail, All-weaker}
+use Rattle.packed_map.proofs.Common.{AllPairs-cons, All-back, All-front, AllPairs-across, AllPairs-append, AllPairs-back, AllPairs-front}
+use Rattle.packed_map.proofs.Common.{AllPairs-head, AllPairs-tail, IsEdit, KeysRise, entry_if, value_at}
+use Rattle.std.proofs.Common.{eq-eqb}
 
 -- the first of two values that is there
 abbrev or_else : {V : Type 0} → Option V → Option V → Option V

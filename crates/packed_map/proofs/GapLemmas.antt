@@ -1,10 +1,6 @@
--- A place at which a key would stand.
-use Rattle.std.proofs.Common.{◌≡◌, ℕ, ◌-◌, ◌<◌, ◌≤◌, List, get_or, ap, ◌∙◌, ⊎_elim, arith}
-use Rattle.std.specs.List.Sorted.{IsNonDecreasingBy, IsPartitionPoint}
-use Rattle.std.specs.Ordering.{nat_cmp, ordering_index}
-use Rattle.std.specs.declared.cmp.Ordering.TheVariants.{Less, Greater}
-use Rattle.std.proofs.lemmas.Bool.{cases_lt, cases_order}
-use Rattle.std.proofs.lemmas.Bool.Decides.{nat_tests}
+-- A place at which a key would be.
+use Rattle.packed_map.proofs.Common.{◌≡◌, ℕ, ◌-◌, ◌<◌, ◌≤◌, List, get_or, ap, ◌∙◌, ⊎_elim, arith, IsNonDecreasingBy, IsPartitionPoint, nat_cmp}
+use Rattle.packed_map.proofs.Common.{ordering_index, Less, Greater, cases_lt, cases_order, nat_tests}
 use Rattle.packed_map.specs.Searching.{IsGap}
 
 itself : (k : ℕ) → ordering_index (nat_cmp k k) ≡ 1

@@ -1,21 +1,11 @@
 -- Leaves after an edit in one of them, and after it was split.
-use Rattle.std.proofs.Common.{◌≡◌, ℕ, zero, suc, ◌+◌, ◌-◌, ◌<◌, ◌≤◌, Bool, true, false, List, [], ◌∷◌, ◌++◌, length, get_or, take, drop, set, Option, Some}
-use Rattle.std.proofs.Common.{refl, sym, ap, ◌∙◌, subst, ⊎_elim, arith, append_assoc, add-one, length-take}
-use Rattle.std.specs.Prelude.{All, AllPairs, if◌then◌else◌, nat_le, nat_lt, IsTrue}
-use Rattle.std.specs.List.{AllWithin, HoldsAt, insert, remove}
-use Rattle.std.specs.List.Sorted.{IsPartitionPoint, IsPartitionedBy}
-use Rattle.std.proofs.lemmas.Bool.{cases_lt, le-leb, leb-false, leb-true, ltb-true}
-use Rattle.std.proofs.lemmas.List.{get_or_default}
-use Rattle.std.proofs.lemmas.List.Concat.{flat_map-append}
-use Rattle.std.proofs.lemmas.List.Elements.{All-append, All-cons, All-head, All-nil, All-tail, All-weaker}
-use Rattle.std.proofs.lemmas.List.Kept.{AllPairs-cons}
-use Rattle.list_laws.proofs.Lists.{All-back, All-front, AllPairs-across, AllPairs-append, AllPairs-back, AllPairs-front, AllPairs-head, AllPairs-tail}
-use Rattle.list_laws.proofs.Places.{parts_at}
-use Rattle.packed_map.specs.Edits.{IsEdit}
-use Rattle.packed_map.specs.Entries.{KeysRise, entry_if, value_at}
-use Rattle.packed_map.specs.Leaves.{AreLeaves, IsBefore, IsFromLeast, IsLeafOf, StartsAtZero, entries_of}
-use Rattle.packed_map.specs.Splits.{IsCut}
-use Rattle.packed_map.specs.declared.leaf.Leaf.{Leaf}
+use Rattle.packed_map.proofs.Common.{◌≡◌, ℕ, zero, suc, ◌+◌, ◌-◌, ◌<◌, ◌≤◌, Bool, true, false, List, [], ◌∷◌, ◌++◌, length, get_or, take, drop, set}
+use Rattle.packed_map.proofs.Common.{Option, Some, refl, sym, ap, ◌∙◌, subst, ⊎_elim, arith, append_assoc, add-one, length-take, All, AllPairs}
+use Rattle.packed_map.proofs.Common.{if◌then◌else◌, nat_le, nat_lt, IsTrue, AllWithin, HoldsAt, insert, remove, IsPartitionPoint, IsPartitionedBy}
+use Rattle.packed_map.proofs.Common.{cases_lt, le-leb, leb-false, leb-true, ltb-true, get_or_default, flat_map-append, All-append, All-cons, All-head}
+use Rattle.packed_map.proofs.Common.{All-nil, All-tail, All-weaker, AllPairs-cons, All-back, All-front, AllPairs-across, AllPairs-append}
+use Rattle.packed_map.proofs.Common.{AllPairs-back, AllPairs-front, AllPairs-head, AllPairs-tail, parts_at, IsEdit, KeysRise, entry_if, value_at}
+use Rattle.packed_map.proofs.Common.{AreLeaves, IsBefore, IsFromLeast, IsLeafOf, StartsAtZero, entries_of, IsCut, Leaf}
 use Rattle.packed_map.proofs.EditLemmas.{edit_all, edit_nothing, edit_rises, edit_same, edit_was}
 use Rattle.packed_map.proofs.SearchLemmas.{All-drop_within, set_at}
 
@@ -53,7 +43,7 @@ pub record IsAround {V : Type 0} (key : ℕ) (F : List (Leaf V)) (l : Leaf V) (B
   pub from : l.from ≤ key
   pub later : All (λ n. key < n.from) B
 
--- its keys rise
+-- the keys of a leaf rise
 pub leaf_rises : {V : Type 0} (F : List (Leaf V)) (l : Leaf V) (B : List (Leaf V)) → AreLeaves (F ++ l ∷ B) → KeysRise l.entries.items
 leaf_rises {V} F l B are =
     let R : ℕ × V → ℕ × V → Type 0 = λ d f. d.0 < f.0 in
@@ -93,7 +83,7 @@ edit_lifted key was is F l m B around e = record {
       ∙ regroup (entries_of F) e.front (entry_if key is) e.back (entries_of B);
 }
 
--- and leaves are left
+-- leaves stay leaves after an edit in one
 pub leaves_edited : {V : Type 0} (key : ℕ) (was is : Option V) (F : List (Leaf V)) (l m : Leaf V) (B : List (Leaf V)) → IsAround key F l B
     → m.from ≡ l.from → IsEdit key was is l.entries.items m.entries.items → AreLeaves (F ++ m ∷ B)
 leaves_edited key was is F l m B around same e =
@@ -218,7 +208,7 @@ insert_suc [] i y z within = absurd (omega arith)
 insert_suc (x ∷ xs) zero y z within = refl
 insert_suc (x ∷ xs) (suc i) y z within = ap (λ ys. x ∷ ys) (insert_suc xs i y z (omega arith))
 
--- and one more behind that
+-- an item replaced, and one more inserted after it
 pub insert_at : {X : Type 0} (xs : List X) (i : ℕ) (y z : X) → i < length xs
     → insert (set xs i y) (i + 1) z ≡ take i xs ++ y ∷ z ∷ drop (i + 1) xs
 insert_at xs i y z within = rw add-one (insert_suc xs i y z within)
@@ -354,7 +344,7 @@ leaf_here key i leaves are there from next = record {
       (cases_lt (i + 1) k);
 }
 
--- as two tests tell
+-- a leaf that two tests find is the leaf of a key
 pub leaf_told : {V : Type 0} (key i : ℕ) (leaves : List (Leaf V)) (l m : Leaf V) → AreLeaves leaves → i < length leaves
     → (get_or leaves i l).from ≤ key → IsTrue (nat_lt key (get_or leaves (i + 1) m).from) → IsLeafOf key leaves i
 leaf_told {V} key i leaves l m are there from told =

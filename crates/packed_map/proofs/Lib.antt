@@ -1,3 +1,4 @@
+mod Common
 mod CutLemmas
 mod EditLemmas
 mod GapLemmas

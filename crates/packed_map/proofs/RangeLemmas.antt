@@ -1,22 +1,12 @@
 -- The keys of a range, leaf by leaf.
-use Rattle.std.proofs.Common.{◌≡◌, ℕ, ◌+◌, ◌<◌, ◌≤◌, ◌==◌, Bool, true, false, List, [], ◌∷◌, ◌++◌, get_or, take, drop, map, filter}
-use Rattle.std.proofs.Common.{Result, Ok, Err, IfOk}
-use Rattle.std.proofs.Common.{Some, refl, sym, ap, ◌∙◌, subst, ⊎_elim, arith, append-nil, take-append-drop, ◌-◌, length-take, get_or-take, drop-drop}
-use Rattle.std.specs.Prelude.{◌↔◌, All, AllPairs, Contains, if◌then◌else◌, nat_le}
-use Rattle.std.specs.Option.{IsSome}
-use Rattle.std.proofs.lemmas.Bool.{and_parts, cases_Bool, cases_lt, cond_both, eq-eqb, eqb-true, false≢true, leb-true}
-use Rattle.std.proofs.lemmas.Bool.Decides.{nat_tests}
-use Rattle.std.proofs.lemmas.List.{map-append}
-use Rattle.std.proofs.lemmas.List.Concat.{flat_map-append}
-use Rattle.std.proofs.lemmas.List.Elements.{All-drop, All-weaker, filter-append}
-use Rattle.std.proofs.lemmas.List.Kept.{AllPairs-filter}
+use Rattle.packed_map.proofs.Common.{◌≡◌, ℕ, ◌+◌, ◌<◌, ◌≤◌, ◌==◌, Bool, true, false, List, [], ◌∷◌, ◌++◌, get_or, take, drop, map, filter, Result, Ok}
+use Rattle.packed_map.proofs.Common.{Err, IfOk, Some, refl, sym, ap, ◌∙◌, subst, ⊎_elim, arith, append-nil, take-append-drop, ◌-◌, length-take}
+use Rattle.packed_map.proofs.Common.{get_or-take, drop-drop, ◌↔◌, All, AllPairs, Contains, if◌then◌else◌, nat_le, IsSome, and_parts, cases_Bool}
+use Rattle.packed_map.proofs.Common.{cases_lt, cond_both, eq-eqb, eqb-true, false≢true, leb-true, nat_tests, map-append, flat_map-append, All-drop}
+use Rattle.packed_map.proofs.Common.{All-weaker, filter-append, AllPairs-filter, Contains-cases, Contains-filter, Contains-first}
+use Rattle.packed_map.proofs.Common.{Contains-from_filter, Contains-later, Contains-nil, filter_none, KeysRise, value_at, AreLeaves, IsFromLeast}
+use Rattle.packed_map.proofs.Common.{IsLeafOf, entries_of, is_between, keys_between, Leaf}
 use Rattle.list_laws.proofs.FilterLemmas.{AllPairs-map, Contains-from_map, Contains-map}
-use Rattle.list_laws.proofs.Lists.{Contains-cases, Contains-filter, Contains-first, Contains-from_filter}
-use Rattle.list_laws.proofs.Lists.{Contains-later, Contains-nil, filter_none}
-use Rattle.packed_map.specs.Entries.{KeysRise, value_at}
-use Rattle.packed_map.specs.Leaves.{AreLeaves, IsFromLeast, IsLeafOf, entries_of}
-use Rattle.packed_map.specs.Ranges.{is_between, keys_between}
-use Rattle.packed_map.specs.declared.leaf.Leaf.{Leaf}
 use Rattle.packed_map.proofs.LeafLemmas.{All-entries}
 use Rattle.packed_map.proofs.SearchLemmas.{All-drop_within}
 
@@ -43,7 +33,7 @@ none_above {V} low high es higher =
     ap (map (λ (e : ℕ × V). e.0)) (filter_none (λ e. is_between low high e.0) es
     (All-weaker (λ e. high < e.0) (λ e. is_between low high e.0 ≡ false) (λ e less. above_fails low high e.0 less) es higher))
 
--- they rise
+-- the keys of a range rise
 pub between_rise : {V : Type 0} (low high : ℕ) (es : List (ℕ × V)) → KeysRise es → AllPairs (λ k l. k < l) (keys_between low high es)
 between_rise {V} low high es rising =
     let p : ℕ × V → Bool = λ e. is_between low high e.0 in
@@ -72,7 +62,7 @@ between-true low high key h =
 between-from : (low high key : ℕ) → low ≤ key → key ≤ high → is_between low high key ≡ true
 between-from low high key above below = grind (arith, nat_tests)
 
--- they are those of its entries
+-- the keys of a range are those of its entries
 pub between_each : {V : Type 0} (low high : ℕ) (es : List (ℕ × V)) (key : ℕ) → Contains (keys_between low high es) key
     ↔ ((low ≤ key) × (key ≤ high) × IsSome (value_at es key))
 between_each {V} low high es key = (
@@ -98,7 +88,7 @@ all_each {V} es key = (
   λ h. let (v, known) = value_at-Contains es key h in Contains-map (λ (e : ℕ × V). e.0) es (key, v) known,
 )
 
--- the keys of leaves before that of a key are lower, and those of leaves behind it higher
+-- the keys of leaves before that of a key are lower, and those of leaves after it higher
 lower_leaves : {V : Type 0} (key i : ℕ) (leaves : List (Leaf V)) → AreLeaves leaves → IsLeafOf key leaves i
     → All (λ e. e.0 < key) (entries_of (take i leaves))
 lower_leaves {V} key i leaves are place =
@@ -119,7 +109,7 @@ higher_leaves {V} key i leaves are place =
     let from : key < n.from = above k d within in
     All-weaker (λ e. n.from ≤ e.0) (λ e. key < e.0) (λ e le. omega (arith, le, from)) n.entries.items (least k d within))
 
--- the leaf of the lower end is not behind that of the higher
+-- the leaf of the lower end is not after that of the higher
 pub ends_in_order : {V : Type 0} (low high first last : ℕ) (leaves : List (Leaf V)) → low ≤ high → IsLeafOf low leaves first
     → IsLeafOf high leaves last → first ≤ last
 ends_in_order low high first last [] le one other = absurd (omega (arith, one.there))

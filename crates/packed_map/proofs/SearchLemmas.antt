@@ -1,20 +1,11 @@
 -- Where entries by rising key part around a key.
-use Rattle.std.proofs.Common.{◌≡◌, ℕ, zero, suc, ◌+◌, ◌<◌, ◌≤◌, Bool, true, false, List, [], ◌∷◌, ◌++◌, length, get_or, take, drop, set}
-use Rattle.std.proofs.Common.{Option, Some, None, add-one}
-use Rattle.std.proofs.Common.{refl, sym, ap, ◌∙◌, subst, ⊎_elim, arith, take-append-drop, length-take, length-drop, get_or-take, get_or-drop}
-use Rattle.std.specs.Prelude.{All, AllPairs, if◌then◌else◌}
-use Rattle.std.specs.List.{AllWithin, HoldsAt, insert, remove}
-use Rattle.std.specs.List.Sorted.{IsNonDecreasingBy, IsPartitionPoint}
-use Rattle.std.specs.Ordering.{nat_cmp, ordering_index}
-use Rattle.std.specs.declared.cmp.Ordering.TheVariants.{Less, Equal, Greater}
-use Rattle.std.proofs.lemmas.Bool.{cases_lt}
-use Rattle.std.proofs.lemmas.Bool.Decides.{nat_tests}
+use Rattle.packed_map.proofs.Common.{◌≡◌, ℕ, zero, suc, ◌+◌, ◌<◌, ◌≤◌, Bool, true, false, List, [], ◌∷◌, ◌++◌, length, get_or, take, drop, set}
+use Rattle.packed_map.proofs.Common.{Option, Some, None, add-one, refl, sym, ap, ◌∙◌, subst, ⊎_elim, arith, take-append-drop, length-take}
+use Rattle.packed_map.proofs.Common.{length-drop, get_or-take, get_or-drop, All, AllPairs, if◌then◌else◌, AllWithin, HoldsAt, insert, remove}
+use Rattle.packed_map.proofs.Common.{IsNonDecreasingBy, IsPartitionPoint, nat_cmp, ordering_index, Less, Equal, Greater, cases_lt, nat_tests}
+use Rattle.packed_map.proofs.Common.{All-head, All-weaker, AllPairs-across, AllPairs-back, AllPairs-head, parts_at, IsEdit, KeysRise, entry_if}
+use Rattle.packed_map.proofs.Common.{value_at}
 use Rattle.std.proofs.lemmas.Cmp.{ranked}
-use Rattle.std.proofs.lemmas.List.Elements.{All-head, All-weaker}
-use Rattle.list_laws.proofs.Lists.{AllPairs-across, AllPairs-back, AllPairs-head}
-use Rattle.list_laws.proofs.Places.{parts_at}
-use Rattle.packed_map.specs.Edits.{IsEdit}
-use Rattle.packed_map.specs.Entries.{KeysRise, entry_if, value_at}
 use Rattle.packed_map.proofs.EditLemmas.{edit_nothing, edit_was}
 
 -- what holds of each place in a part of a list holds of its elements
@@ -55,7 +46,7 @@ edit_found {V} key i e is es new rising within here at after =
       after = after;
     }
 
--- an edit at the place at which a key would stand
+-- an edit at the place at which a key would be
 pub edit_missing : {V : Type 0} (key i : ℕ) (is : Option V) (es new : List (ℕ × V)) → i ≤ length es → AllWithin (λ e. e.0 < key) es 0 i
     → AllWithin (λ e. key < e.0) es i (length es) → new ≡ take i es ++ (entry_if key is ++ drop i es) → IsEdit key None is es new
 edit_missing key i is es new fits lower higher after = record {
@@ -80,7 +71,7 @@ comparisons_rise es key rising i j d le within =
 pub key_found : {V : Type 0} (key i : ℕ) (es : List (ℕ × V)) (d : ℕ × V) → HoldsAt (λ e. nat_cmp e.0 key ≡ Equal) es i → (get_or es i d).0 ≡ key
 key_found key i es d h = ranked _ key _ (sym (h d))
 
--- a search by halves that found a key, and what stands at its place
+-- a search by halves that found a key, and what is at its place
 pub edit_read : {V : Type 0} (key i : ℕ) (e : ℕ × V) (es : List (ℕ × V)) → KeysRise es → i < length es → e ≡ get_or es i e
     → HoldsAt (λ f. nat_cmp f.0 key ≡ Equal) es i → IsEdit key (Some e.1) (Some e.1) es es
 edit_read {V} key i e es rising within here found =
@@ -88,7 +79,7 @@ edit_read {V} key i e es rising within here found =
     edit_found key i e (Some e.1) es es rising within here at
     (parts_at es i e within here ∙ ap (λ (k : ℕ). take i es ++ (k, e.1) ∷ drop (i + 1) es) at)
 
--- that is written
+-- the value at the key is written
 pub edit_written : {V : Type 0} (key i : ℕ) (e : ℕ × V) (v : V) (es new : List (ℕ × V)) → KeysRise es → i < length es → e ≡ get_or es i e
     → HoldsAt (λ f. nat_cmp f.0 key ≡ Equal) es i → new ≡ set es i (e.0, v) → IsEdit key (Some e.1) (Some v) es new
 edit_written {V} key i e v es new rising within here found written =
@@ -96,14 +87,14 @@ edit_written {V} key i e v es new rising within here found written =
     edit_found key i e (Some v) es new rising within here at
     (written ∙ set_at es i (e.0, v) within ∙ ap (λ (k : ℕ). take i es ++ (k, v) ∷ drop (i + 1) es) at)
 
--- that is put
+-- the value at the key is replaced
 pub edit_put : {V : Type 0} (key i : ℕ) (e : ℕ × V) (v : V) (es new : List (ℕ × V)) → KeysRise es → i < length es → e ≡ get_or es i e
     → HoldsAt (λ f. nat_cmp f.0 key ≡ Equal) es i → new ≡ set es i (e.0, v) → IsEdit key (value_at es key) (Some v) es new
 edit_put {V} key i e v es new rising within here found written =
     let e = edit_written key i e v es new rising within here found written in
     subst (λ w. IsEdit key w (Some v) es new) (edit_was key _ (Some v) es new e) e
 
--- that is taken out
+-- the key is taken out
 pub edit_removed : {V : Type 0} (key i : ℕ) (e : ℕ × V) (es new : List (ℕ × V)) → KeysRise es → i < length es → e ≡ get_or es i e
     → HoldsAt (λ f. nat_cmp f.0 key ≡ Equal) es i → new ≡ remove es i → IsEdit key (Some e.1) None es new
 edit_removed {V} key i e es new rising within here found removed =
@@ -111,7 +102,7 @@ edit_removed {V} key i e es new rising within here found removed =
     edit_found key i e None es new rising within here at
     (removed ∙ ap (λ (n : ℕ). take i es ++ drop n es) (sym (add-one i)))
 
--- the parts around a place at which a key would stand
+-- the parts around a place at which a key would be
 parts_apart : {V : Type 0} (key i : ℕ) (es : List (ℕ × V)) → KeysRise es
     → (IsNonDecreasingBy (λ e. ordering_index (nat_cmp e.0 key)) es → IsPartitionPoint (λ e. nat_cmp e.0 key ≡ Less) (λ e. nat_cmp e.0 key ≡ Greater) es i)
     → AllWithin (λ e. e.0 < key) es 0 i × AllWithin (λ e. key < e.0) es i (length es)
@@ -132,7 +123,7 @@ pub edit_none : {V : Type 0} (key i : ℕ) (es new : List (ℕ × V)) → KeysRi
     → new ≡ es → IsEdit key None None es new
 edit_none key i es new rising fits parted same = edit_absent key i None es new rising fits parted (same ∙ sym (take-append-drop i es))
 
--- or puts it at its place, if memory suffices
+-- the key is put at its place, if memory suffices
 pub edit_put_new : {V : Type 0} (key i : ℕ) (v : V) (es new : List (ℕ × V)) (done : Bool) → KeysRise es → i ≤ length es
     → (IsNonDecreasingBy (λ e. ordering_index (nat_cmp e.0 key)) es → IsPartitionPoint (λ e. nat_cmp e.0 key ≡ Less) (λ e. nat_cmp e.0 key ≡ Greater) es i)
     → new ≡ (if done then insert es i (key, v) else es) → IsEdit key (value_at es key) (if done then Some v else value_at es key) es new

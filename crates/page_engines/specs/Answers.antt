@@ -4,7 +4,7 @@ use Rattle.outcomes.specs.declared.outcome.Answer.{Answer}
 use Rattle.outcomes.specs.declared.outcome.RunOutcome.{RunOutcome}
 use Rattle.outcomes.specs.declared.outcome.RunOutcome.TheVariants.{Answered, Noted, Refused, Memory, Words, Failed}
 use Rattle.history_engines.specs.Answers.{IsJudgeAnswer}
-use Rattle.location_engines.specs.Answers.{IsLocateAnswer}
+use Rattle.location_engines.specs.Answers.{IsLocateAnswer, IsOrderAnswer}
 use Rattle.explain_engines.specs.Answers.{IsExplainAnswer}
 use Rattle.page_text.specs.Pages.{page_text}
 
@@ -25,13 +25,28 @@ IsLocatedText budget text located = (answer : Answer) × IsLocateAnswer budget t
 abbrev pub IsExplainedText : ℕ → List ℕ → List ℕ → Type 0
 IsExplainedText budget text explained = (answer : Answer) × IsExplainAnswer budget text answer explained
 
+-- what is shown of what `locate --order` prints: nothing without an order
+abbrev pub shown_order : Option (List ℕ) → List ℕ → List ℕ
+shown_order None printed = []
+shown_order (Some order) printed = printed
+
+-- this is what is shown of what `locate --order` prints of the text at the budget, whatever it answers
+pub record IsOrderedText (budget : ℕ) (text shown : List ℕ) : Type 0 where
+  pub order : Option (List ℕ)
+  pub answer : Answer
+  pub printed : List ℕ
+  pub is_printed : IsOrderAnswer budget text order answer printed
+  pub shown_is : shown ≡ shown_order order printed
+
 -- what `page` answers to the text at the budget: the answer of `judge`, with the page of the text and
--- of what `judge`, `locate` and `explain` print of it, and no order
+-- of what `judge`, `locate` and `explain` print of it, and `locate --order` if that has an order
 pub record IsPageAnswer (budget : ℕ) (text : List ℕ) (answer : Answer) (bytes : List ℕ) : Type 0 where
   pub judged : List ℕ
   pub located : List ℕ
   pub explained : List ℕ
+  pub ordered : List ℕ
   pub is_judged : IsJudgeAnswer budget text answer judged
   pub is_located : IsLocatedText budget text located
   pub is_explained : IsExplainedText budget text explained
-  pub bytes_are : bytes ≡ page_text text judged located explained []
+  pub is_ordered : IsOrderedText budget text ordered
+  pub bytes_are : bytes ≡ page_text text judged located explained ordered

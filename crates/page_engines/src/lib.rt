@@ -1,5 +1,5 @@
 //! The engine of pages: the verdict on the text of a history as one HTML file. The page shows the
-//! history, and what `judge`, `locate` and `explain` print of it.
+//! history, what `judge`, `locate` and `explain` print of it, and an order.
 #![tactic(auto)]
 
 mod pages;

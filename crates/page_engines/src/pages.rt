@@ -1,5 +1,5 @@
 // `bench page`: a page that shows the verdict on the history on standard input.
-ghost use Rattle.std.specs.Prelude.{◌≡◌, ◌<◌, ◌≤◌, Some, option_map};
+ghost use Rattle.std.specs.Prelude.{◌≡◌, ◌<◌, ◌≤◌, ℕ, List, Some, option_map};
 ghost use Rattle.history_engines.specs.Answers.{IsHistoryRefusal, IsJudgeAnswer};
 ghost use Rattle.history_text.specs.Limits.{text_limit};
 ghost use Rattle.outcomes.specs.Ends.{change};
@@ -7,14 +7,16 @@ ghost use Rattle.outcomes.specs.Outcomes.{IsTextOutcome};
 ghost use Rattle.outcomes.specs.Reads.{IsTextRead};
 ghost use Rattle.outcomes.specs.Runs.{IsRun};
 ghost use Rattle.search.specs.Limits.{budget_limit};
-ghost use Rattle.page_engines.specs.Answers.{IsLocatedText, IsExplainedText, IsPageAnswer, printed};
+ghost use Rattle.location_engines.specs.Answers.{IsFoundAnswer};
+ghost use Rattle.outcomes.specs.declared.outcome.Answer.{Answer};
+ghost use Rattle.page_engines.specs.Answers.{IsLocatedText, IsExplainedText, IsOrderedText, IsPageAnswer, printed};
 ghost use Rattle.page_engines.specs.Outcomes.{IsPageOutcome};
 
 use explain_engines::explain_outcome;
 use history_engines::judge_outcome;
 use history_text::MAX_TEXT;
 use judge::Judge;
-use location_engines::locate_outcome;
+use location_engines::{locate_order_outcome, locate_outcome};
 use outcomes::{Answer, RunOutcome, run_text};
 use page_text::{PageTexts, page_of};
 use std::alloc::Global;
@@ -22,8 +24,8 @@ use std::str;
 use streams::{Sink, Source};
 
 /// Reads a history text to the end of the source, or until it is too long, and judges it. Writes a
-/// page that shows the history with what `judge`, `locate` and `explain` print of it. Returns the
-/// exit status of the verdict.
+/// page that shows the history with what `judge`, `locate` and `explain` print of it, and
+/// `locate --order` if that has an order. Returns the exit status of the verdict.
 pub fn run_page<S: Source, O: Sink, F: Sink, H: Sink, J: Judge>(
     alloc: Global,
     source: &mut S,
@@ -52,7 +54,7 @@ pub fn run_page<S: Source, O: Sink, F: Sink, H: Sink, J: Judge>(
 }
 
 /// Returns the page that shows the history that the text spells, with what `judge`, `locate` and
-/// `explain` print of it at the judge's budget.
+/// `explain` print of it at the judge's budget, and `locate --order` if that has an order.
 pub fn page_outcome<J: Judge>(alloc: Global, text: &[u8], judge: &J) -> RunOutcome
     requires { J.ready judge.now }
     ensures { IsTextOutcome (IsPageAnswer (J.budget judge.now)) IsHistoryRefusal (Some text.now)
@@ -106,17 +108,57 @@ fn explained_page(alloc: Global, verdict: JudgedText<'_>, located: &str) -> RunO
 {
     let outcome = explain_outcome(alloc, verdict.text, verdict.budget);
     if let Some((_, explained)) = printed(&outcome) {
-        return page_with(alloc, verdict, located, explained);
+        return ordered_page(alloc, verdict, located, explained);
     }
     outcome
 }
 
 /// Returns the page of a text that was judged, and of which `locate` and `explain` print these.
-fn page_with(alloc: Global, verdict: JudgedText<'_>, located: &str, explained: &str) -> RunOutcome
+fn ordered_page(
+    alloc: Global,
+    verdict: JudgedText<'_>,
+    located: &str,
+    explained: &str,
+) -> RunOutcome
+    requires budget { (1 ≤ verdict.budget) × (verdict.budget ≤ budget_limit) }
     requires judged { IsJudgeAnswer verdict.budget verdict.text.now verdict.answer
         verdict.judged.now }
     requires located { IsLocatedText verdict.budget verdict.text.now located.now }
     requires explained { IsExplainedText verdict.budget verdict.text.now explained.now }
+    ensures { IsTextOutcome (IsPageAnswer verdict.entry.budget) IsHistoryRefusal
+        (Some verdict.entry.text.now) result }
+{
+    let found = locate_order_outcome(alloc, verdict.text, verdict.budget);
+    if let Some((_, line)) = printed(&found.outcome) {
+        let ordered = shown_order(found.is_found, line);
+        return page_with(alloc, verdict, located, explained, ordered);
+    }
+    found.outcome
+}
+
+/// Returns the line of a location, if it has an order, and nothing otherwise.
+fn shown_order(is_found: bool, line: &str) -> &str
+    ensures { (budget : ℕ) (text : List ℕ) (answer : Answer)
+        → IsFoundAnswer budget is_found text answer line.entry.now
+        → IsOrderedText budget text result.now }
+{
+    if is_found { line } else { "" }
+}
+
+/// Returns the page of a text that was judged, and of which `locate` and `explain` print these, with
+/// what is shown of an order.
+fn page_with(
+    alloc: Global,
+    verdict: JudgedText<'_>,
+    located: &str,
+    explained: &str,
+    ordered: &str,
+) -> RunOutcome
+    requires judged { IsJudgeAnswer verdict.budget verdict.text.now verdict.answer
+        verdict.judged.now }
+    requires located { IsLocatedText verdict.budget verdict.text.now located.now }
+    requires explained { IsExplainedText verdict.budget verdict.text.now explained.now }
+    requires ordered { IsOrderedText verdict.budget verdict.text.now ordered.now }
     ensures { IsTextOutcome (IsPageAnswer verdict.entry.budget) IsHistoryRefusal
         (Some verdict.entry.text.now) result }
 {
@@ -129,7 +171,7 @@ fn page_with(alloc: Global, verdict: JudgedText<'_>, located: &str, explained: &
         judged: verdict.judged,
         located,
         explained,
-        order: "",
+        order: ordered,
     };
     RunOutcome::from_answer(verdict.answer, page_of(alloc, texts))
 }

@@ -14,7 +14,7 @@ use Rattle.page_text.specs.Pages.{mark, escaped_byte, escaped, with_block, Escap
 abbrev pub is_mark : ℕ → Bool
 is_mark byte = byte == 60
 
--- what stands for `<`
+-- what `<` is replaced by
 abbrev pub mark_escape : List ℕ
 mark_escape = codes "\\u003c"
 
@@ -39,7 +39,7 @@ pub escaped-without : (text : List ℕ) → position_or_len is_mark text ≡ len
 escaped-without text none =
     escaped-plain text (λ k below. fails_before_first is_mark text k 0 (subst (λ n. k < n) (sym none) below))
 
--- what stands before the first `<` is as it was
+-- what comes before the first `<` is as it was
 pub escaped-before : (text : List ℕ) → position_or_len is_mark text < length text
     → escaped (before_first is_mark text) ≡ before_first is_mark text
 escaped-before text there = escaped-plain (before_first is_mark text) (λ k below.
@@ -72,7 +72,7 @@ unmarked-stays (x ∷ xs) plain =
     (byte-plain x (no (is_mark x) (λ is. All-head (λ byte. byte ≢ mark) x xs plain (eqb-true x 60 is))))
     ∙ ap (λ (rest : List ℕ). x ∷ rest) (unmarked-stays xs (All-tail (λ byte. byte ≢ mark) x xs plain))
 
--- what stands for a byte is no `<`
+-- what another byte is replaced by is no `<`
 differs : (byte : ℕ) → is_mark byte ≡ false → byte ≢ mark
 differs byte h = λ is. false≢true (sym h ∙ ap is_mark is)
 

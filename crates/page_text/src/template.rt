@@ -3,7 +3,7 @@
 /// The part of the page before the history.
 pub const BEFORE_HISTORY: &str = "\
 <!doctype html>\n<html lang=\"en\">\n  <head>\n    <meta charset=\"utf-8\" />\n    <meta http-equiv=\"Content-Security-Policy\" content=\"default-sr\
-c 'none'; script-src 'sha256-K0E3Eukb05f11pO9i6y0EfkxgFCF6cbOVllZgHFD9ho='; style-src 'sha256-jTJquuO8Y9yyyyTmwua9GNKKHP2KBzV0BBOH9S8Jh7U='; base-ur\
+c 'none'; script-src 'sha256-EWjWDar7orQPgZFMYcD4Pb4dqXa7kn+n9rRQi3u7gCI='; style-src 'sha256-jTJquuO8Y9yyyyTmwua9GNKKHP2KBzV0BBOH9S8Jh7U='; base-ur\
 i 'none'; form-action 'none'\" />\n    <meta name=\"viewport\" content=\"width=device-width, initial-scale=1\" />\n    <meta name=\"referrer\" conte\
 nt=\"no-referrer\" />\n    <title>Potzendai</title>\n    <style>\n:root {\n  color-scheme: light;\n  --bg: #f4f6f8;\n  --panel: #ffffff;\n  --ink: #\
 1d2a33;\n  --soft: #52616b;\n  --faint: #69767f;\n  --line: #dbe2e7;\n  --lane: #ffffff;\n  --lane-odd: #f8fafb;\n  --get: #d7e5f0;\n  --get-line: #\
@@ -451,240 +451,240 @@ verdict !== 'undecided') return [];\n  let other = `The other search, of locate,
 cated.event}, the response of call ${located.call}.`;\n  return [\n    el('h2', {}, 'judge is undecided'),\n    el('p', {}, `The search of the call\
 s at ${segmentWords} met more states than its budget. `, other),\n  ];\n}\nfunction whyWrong() {\n  if (!wrong) return [];\n  const next = front && \
 front.next.length === 1 && front.next[0].call === wrong ? front.next[0] : null;\n  return [\n    el('h2', {}, 'Where it goes wrong'),\n    el(\
-\n      'p',\n      {},\n      `The first ${wrong.to} events have a linearization. With event ${wrong.to} they have none, whatever follows. `,\
-\n      'It is the response of ',\n      named(wrong),\n      ': ',\n      mono(say(wrong.answer).slice(0, 300)),\n      '.',\n    ),\n    next ? wh\
-yNext(next) : null,\n    el('p', { class: 'noprint' }, button('Show it among all calls', showFault)),\n  ];\n}\n// What the map would answer, in on\
-e sentence.\nfunction whyNext({ answer, would }) {\n  const keysThat = differingKeys(answer, would);\n  if (!keysThat.length) {\n    if (say(answer\
-) === say(would)) return null;\n    const parts = [bold(say(would).slice(0, 200), 'good'), ', not ', bold(say(answer).slice(0, 200), 'bad'), '.'];\
-\n    return el('p', {}, 'After the calls below, the map would answer ', parts);\n  }\n  const [got, wanted] = [new Map(answer), new Map(would)];\
-\n  const parts = keysThat.slice(0, 3).map((key, i) => {\n    const comma = i ? ', ' : '';\n    return [comma, bold(say(wanted.get(key)), 'good'), \
-' at key ', mono(key), ', not ', bold(say(got.get(key)), 'bad')];\n  });\n  const rest = keysThat.length > 3 ? `, and differ at ${keysThat.length - \
-3} more keys` : '';\n  return el('p', {}, 'After the calls below, the map would report ', parts, rest, '.');\n}\nfunction whyFew() {\n  if (!few.len\
-gth) return [];\n  const title = few.length === 1 ? 'This call has no order on its own' : `These ${few.length} calls have no order on their own`;\
-\n  const isLeast = few.length > 1 && few.every(it => it.reason === 'order');\n  const least = isLeast ? 'Without any one of them, the others have a\
-n order. ' : '';\n  const grey = few.some(isLeftOut) ? 'Responses in grey are not needed to show it.' : '';\n  return [\n    el('h2', {}, title),\
-\n    beginWords(),\n    el('ol', { class: 'few' }, few.map(fewItem)),\n    least + grey && el('p', { class: 'soft' }, least + grey),\n  ];\n}\n// T\
-he values from which the few calls begin, and who wrote them.\nfunction beginWords(count = 12) {\n  const part = ({ key, value, writer }) => [`key $\
-{key} has `, mono(say(value)), writer ? [', written by ', named(writer)] : ''];\n  if (fewBegin.length < 2) return fewBegin.map(it => el('p', {}, 'T\
-hey begin where ', part(it), '.'));\n  const rest = fewBegin.length > count ? el('li', {}, `${fewBegin.length - count} more.`) : '';\n  return [el('\
-p', {}, 'They begin where:'), el('ul', {}, fewBegin.slice(0, count).map(it => el('li', {}, part(it), '.')), rest)];\n}\nconst REASONS = {\n  spent: \
-'Kept, since without it the search is beyond its budget.',\n  held: 'Kept, since a replace without a response waits for a value that this may have w\
-ritten.',\n};\nfunction fewItem(it) {\n  const { call } = it;\n  const answer = isLeftOut(it) ? say(call.answer).slice(0, 60) : say(it.answer).slice\
-(0, 400);\n  return el(\n    'li',\n    { class: call === wrong ? 'wrong' : '', 'data-call': call.number },\n    callButton(call),\n    isOpen(it) \
-? '' : mono(': ' + answer, isLeftOut(it) ? 'faint' : ''),\n    soft(` call ${call.number}, p${call.process}`),\n    isOpen(it) ? el('div', { class: \
-'soft' }, 'It has no response.') : '',\n    it.misses.map(missed => {\n      const over = `, which was over at event ${missed.to}, before this bega\
-n at ${call.from}.`;\n      return el('div', { class: 'bad' }, 'misses ', named(missed), over);\n    }),\n    REASONS[it.reason] ? el('div', { class\
-: 'soft' }, REASONS[it.reason]) : '',\n  );\n}\nfunction whyFront() {\n  if (!front) return [];\n  const steps = front.calls.map((call, i) => [i ? '\
-, ' : '', `${i + 1}. `, callButton(call)]);\n  const holds = front.holds.length ? mono(say(front.holds).slice(0, 600)) : 'nothing';\n  const next = \
-front.next.length > 1 ? 'What could come next:' : 'Only this could come next:';\n  return [\n    el('h2', {}, 'How far an order of them gets'),\
-\n    el('p', {}, steps.length ? steps : 'Not one of them can come first.'),\n    el('p', {}, 'The map then holds ', holds, '. ', next),\n    front.\
-next.map(nextItem),\n  ];\n}\nfunction nextItem({ call, answer, would }) {\n  const isFitting = say(answer) === say(would) || (answer instanceof Wor\
-d && answer.text === 'open');\n  if (isFitting) return el('p', {}, callButton(call), ': it fits here. The search ended before it, with its budget sp\
-ent.');\n  if (differingKeys(answer, would).length) {\n    return [el('p', {}, callButton(call), ', but it differs:'), differences(answer, would, ['\
-it answered', 'the map would'])];\n  }\n  const parts = [': it answered ', bold(say(answer), 'bad'), ', the map would answer ', bold(say(would), 'go\
-od'), '.'];\n  return el('p', {}, callButton(call), parts);\n}\nfunction whyOrigins() {\n  if (!origins.length) return [];\n  const nobody = 'no cal\
-l that was recorded. A starting pair was forgotten, a thread was not recorded, or the map makes up values';\n  const rows = origins.map(({ key, valu\
-e, start, puts }) => {\n    const from = [puts.length ? namedList(puts) : '', puts.length && start ? ', and ' : '', start ? 'the start' : ''];\n    \
-return el('p', {}, mono(value), ' at key ', mono(key), ': ', puts.length || start ? from : isBad(nobody), '.');\n  });\n  return [el('h2', {}, 'Who \
-wrote what they read'), rows];\n}\nfunction whyOrder() {\n  const sections = [];\n  if (shownVerdict !== 'yes' && order.length) {\n    const whose \
-= orderIsOfFew\n      ? 'The circles are the longest order of these few calls that the search met.'\n      : `The circles are one linearization of t\
-he first ${orderedTo} events, with ${many(order.length, 'call')}. There may be others.`;\n    sections.push(el('h2', {}, 'The circles'), el('p', {}\
-, whose, ' Step through it below the timeline: Map shows what the map then holds.'));\n  }\n  if (judged.calls && judged.calls.length < calls.length\
-) {\n    const count = many(judged.calls.length, 'call');\n    sections.push(el('p', { class: 'soft' }, `judge names the ${count} at ${segmentWords}\
-. No scan joins them to others, so they are judged apart.`));\n  }\n  if (replayFault) {\n    sections.push(el('p', { class: 'bad' }, `This page rep\
-lays the order otherwise than the program: ${replayFault}. Believe the program, and report it.`));\n  }\n  return sections;\n}\n\n// ---- Map: what \
-it holds at a step of the order ----\n\nfunction renderMap() {\n  if (!order.length || (orderIsOfFew && replayFault)) {\n    $('tab-map').replaceChi\
-ldren(el('p', { class: 'soft' }, 'No order is known, so this page cannot say what the map held.'));\n    return;\n  }\n  const call = step ? order[s\
-tep - 1] : null;\n  const where = call\n    ? [`After ${step} of ${many(order.length, 'call')}. The last of them is `, named(call), ': ', mono(answe\
-rWords(call).slice(0, 100)), '.']\n    : 'Before the first call.';\n  const whose = orderIsOfFew ? el('p', { class: 'soft' }, 'These are the few cal\
-ls of Why, not all calls.') : '';\n  const rows = keys.filter(key => meets(filter.few ? null : filter.keys, key, key)).map(key => mapRow(key, call))\
-;\n  const held = rows.filter(row => row.isHeld).length;\n  const kept = rows.filter(row => row.isHeld || row.isTouched || rows.length <= 40);\n  co\
-nst shownRows = kept.filter((row, i) => i < 250 || row.isTouched).map(row => row.element);\n  const more = kept.length > 250 ? el('p', { class: 'sof\
-t' }, 'The first 250 keys are shown. Filter keys to see others.') : '';\n  $('tab-map').replaceChildren(\n    el('p', {}, where),\n    whose,\n    .\
-..mapAtEnd(),\n    el('h2', {}, `The map: ${many(held, 'key')}`),\n    table(['key', 'value', 'written by'], shownRows),\n    more,\n  );\n}\nfuncti\
-on mapRow(key, call) {\n  const life = lifeAt(key, step);\n  const isHeld = Boolean(life && life.value !== null);\n  const isTouched = Boolean((lif\
-e && step && life.step === step) || (call && !isScan(call) && call.key === key));\n  const writer = life && life.call ? [callButton(life.call, `cal\
-l ${life.call.number}`), soft(` p${life.call.process}`)] : soft(life ? 'start' : '');\n  const cells = [mono(key), isHeld ? mono(life.value) : soft(\
-'none'), writer].map(it => el('td', {}, it));\n  return { isHeld, isTouched, element: el('tr', isTouched ? { class: 'touched' } : {}, cells) };\n}\n\
-function mapAtEnd() {\n  if (step !== order.length || !wrong) return [];\n  const would = wouldAnswer(wrong, key => holdsAt(key, step));\n  const is\
-List = differingKeys(wrong.answer, would).length > 0;\n  const parts = ['It answered ', bold(say(wrong.answer), 'bad'), '. At this end of this order\
-, the map would answer ', bold(say(would), ''), '.'];\n  return [\n    el('h2', {}, 'The call that goes wrong'),\n    el('p', {}, named(wrong)),\
-\n    isList ? differences(wrong.answer, would, ['it answered', 'the map here']) : el('p', {}, parts),\n    orderIsOfFew ? '' : el('p', { class: 'so\
-ft' }, 'Other orders of the same events may end with another map. None of them answers so.'),\n  ];\n}\n\n// ---- The selected call ----\n\nfunctio\
-n renderCard() {\n  const card = $('card');\n  card.hidden = !selected;\n  if (!selected) return;\n  const call = selected;\n  const role = call ==\
-= wrong ? el('span', { class: 'bad' }, 'goes wrong here') : fewOf.has(call) ? 'explains the verdict' : '';\n  const rows = cardRows(call).filter(ro\
-w => row[1] !== null);\n  card.replaceChildren(\n    el(\n      'div',\n      { class: 'bar' },\n      el('h2', {}, `Call ${call.number}`),\n      r\
-ole,\n      el('span', { class: 'gap' }),\n      button('← key', () => near(-1), { 'aria-label': 'The call before on this key', title: 'The call bef\
-ore on this key' }),\n      button('key →', () => near(1), { 'aria-label': 'The next call on this key', title: 'The next call on this key' }),\
-\n      button('×', () => select(null), { 'aria-label': 'Close' }),\n    ),\n    el('dl', {}, rows.map(([name, ...content]) => [el('dt', {}, name), \
-el('dd', {}, content)])),\n    pairsTable(call, 120),\n  );\n  card.scrollTop = 0;\n}\nfunction cardRows(call) {\n  const it = fewOf.get(call);\n  c\
-onst value = written(call);\n  const end = isPending(call) ? events.length : call.to;\n  const others = calls.filter(c => c !== call && c.from <= en\
-d && (isPending(c) || c.to > call.from));\n  const pairs = Array.isArray(call.answer) && call.answer.length > 3;\n  const answer = isPending(call) \
-? 'pending: it has no response' : pairs ? many(call.answer.length, 'pair') : mono(say(call.answer));\n  const jump = () => {\n    setStep(call.plac\
-e + 1);\n    pick('map');\n  };\n  const read = reported(call);\n  return [\n    ['call', mono(callWords(call))],\n    ['response', answer],\n    ['\
-process', String(call.process)],\n    ['events', isPending(call) ? `${call.from} on` : `${call.from} to ${call.to}`],\n    ['place', call.place < 0 \
-? null : [`${call.place + 1} of ${order.length} `, button('the map then', jump, { class: 'link' })]],\n    ['read by', value === undefined ? null : \
-namesOrNobody(readers(call.key, value), call)],\n    ['written by', isScan(call) || !read.length ? null : sourceOf(read[0][0], read[0][1], call)],\
-\n    ...(it ? it.misses : []).map(missed => ['misses', named(missed)]),\n    ...few.filter(other => other.misses.includes(call)).map(other => ['mis\
-sed by', named(other.call)]),\n    ['overlaps', many(others.length, 'call')],\n    ['note, invoked', call.note === undefined ? null : mono(noteWords\
-(call.note).slice(0, 4000))],\n    ['note, answered', call.answerNote === undefined ? null : mono(noteWords(call.answerNote).slice(0, 4000))],\n  ];\
-\n}\nfunction namesOrNobody(list, call) {\n  const others = list.filter(it => it !== call);\n  return others.length ? namedList(others, 8) : 'nobody\
-';\n}\nfunction sourceOf(key, value, call) {\n  const list = writers(key, value).filter(it => it !== call);\n  if (list.length) return namedList(lis\
-t);\n  return startValues.get(key) === value ? 'the start' : isBad('no call that was recorded');\n}\nfunction pairsTable(call, count) {\n  if (!isSc\
-an(call) || !Array.isArray(call.answer) || !call.answer.length) return '';\n  const rows = call.answer.slice(0, count).map(([key, value]) => {\n    \
-const writer = writers(key, value)[0];\n    const source = writer ? callButton(writer, `call ${writer.number}`) : startValues.get(key) === value ? '\
-start' : isBad('nobody');\n    return el('tr', {}, [mono(key), mono(value), source].map(it => el('td', {}, it)));\n  });\n  const whole = el('div', \
-{}, table(['key', 'value', 'written by'], rows));\n  if (call.answer.length > count) {\n    whole.append(button(`all ${call.answer.length} pairs`, (\
-) => whole.replaceWith(pairsTable(call, 5000))));\n  }\n  return whole;\n}\n\n// ---- Calls: a list of which only the part in sight is made ----\n\n\
-const ROW = 24;\nconst matchRoles = new Map();\nlet listed = [];\nlet foundWords = '';\nfunction renderList() {\n  listed = matches.length ? matche\
-s : shown;\n  $('list-height').style.height = listed.length * ROW + 'px';\n  const clear = button('clear', () => search(''), { class: 'link' });\n  \
-const head = matches.length ? [foundWords + ' ', clear] : [soft(`${shown.length} of ${many(calls.length, 'call')} pass the filter`)];\n  $('list-hea\
-d').replaceChildren(...head);\n  renderRows();\n}\nfunction renderRows() {\n  if ($('tab-calls').hidden) return;\n  const box = $('list');\n  const \
-from = Math.max(0, Math.floor(box.scrollTop / ROW) - 4);\n  const to = Math.min(listed.length, from + Math.ceil(box.clientHeight / ROW) + 10);\n  $(\
-'rows').style.top = from * ROW + 'px';\n  $('rows').replaceChildren(...listed.slice(from, to).map((call, i) => listRow(call, from + i)));\n  box.set\
-Attribute('aria-activedescendant', selected ? 'row' + selected.number : '');\n}\nfunction listRow(call, place) {\n  const role = matchRoles.has(call\
-) ? matchRoles.get(call) + ' ' : '';\n  const attributes = {\n    class: 'row',\n    role: 'option',\n    id: 'row' + call.number,\n    'aria-select\
-ed': call === selected,\n    'aria-setsize': listed.length,\n    'aria-posinset': place + 1,\n    onclick: () => select(call),\n  };\n  const span \
-= isPending(call) ? `${call.from}–` : `${call.from}–${call.to}`;\n  const text = mono(role + words(call, 120), call === wrong ? 'bad' : '');\n  retu\
-rn el('div', attributes, mono(String(call.number)), mono('p' + call.process), text, mono(span));\n}\nfunction scrollTo(call) {\n  const at = listed.\
-indexOf(call) * ROW;\n  const box = $('list');\n  if (at >= 0 && (at < box.scrollTop || at > box.scrollTop + box.clientHeight - ROW)) box.scrollTop \
-= at - box.clientHeight / 2;\n  renderRows();\n}\n\n// ---- Data: the lines of the program, as they are ----\n\nfunction renderData() {\n  if ($('ta\
-b-data').childElementCount) return;\n  const blocks = ['judge', 'locate', 'explain', 'order'].map(id => {\n    const text = blockText(id).trim();\
-\n    const title = id === 'order' ? 'locate --order' : id;\n    return text ? [el('h2', {}, title), el('pre', { tabindex: 0 }, visible(text).slice(\
-0, 60000))] : [];\n  });\n  const save = () => {\n    const address = URL.createObjectURL(new Blob([blockText('history')], { type: 'application/json\
-' }));\n    el('a', { href: address, download: 'history.json' }).click();\n    setTimeout(() => URL.revokeObjectURL(address), 5000);\n  };\n  $('tab\
--data').append(\n    el('p', { class: 'soft' }, 'The lines of the program, as they are. All that this page draws comes from them and from the histor\
-y.'),\n    ...blocks.flat(),\n    el('h2', {}, 'History'),\n    el('p', {}, `Version ${recorded.version}, ${many(events.length, 'event')}.`),\n    e\
-l('p', {}, button('Save history.json', save)),\n  );\n}\n\n// ---- Searching ----\n\nfunction search(text) {\n  const asked = text.trim();\n  $('sea\
-rch').value = text;\n  matchRoles.clear();\n  matches = find(asked);\n  matchSet = new Set(matches);\n  foundWords = /^\\d+$/.test(asked) ? valueWor\
-ds(plainNumber(asked)) : many(matches.length, 'call');\n  overviewIsStale = true;\n  if (asked) pick('calls');\n  renderList();\n  if (asked && !mat\
-ches.length) $('list-head').replaceChildren(el('span', { class: 'bad' }, 'Nothing is found.'));\n  $('live').textContent = asked ? foundWords : '';\
-\n  draw();\n}\nfunction find(asked) {\n  if (!asked) return [];\n  const [, sign, digits] = /^([#@kp]?)(\\d+)$/.exec(asked) || [];\n  const number \
-= digits && plainNumber(digits);\n  if (sign === '#') return calls.filter(call => String(call.number) === number);\n  if (sign === '@') return calls\
-.filter(call => [call.from, call.to].map(String).includes(number));\n  if (sign === 'k') return calls.filter(call => touches(call, number));\n  if (\
-sign === 'p') return calls.filter(call => String(call.process) === number);\n  if (number) return calls.filter(call => noteRole(call, number));\n  c\
-onst low = asked.toLowerCase();\n  const texts = call => [words(call, 1e9), call.note || '', call.answerNote || ''];\n  return calls.filter(call => \
-texts(call).some(it => it.toLowerCase().includes(low)));\n}\n// What a call does with a value.\nfunction noteRole(call, value) {\n  const reads = (\
-) => reported(call).some(([, found]) => found === value);\n  const writes = call.kind === 'insert' ? call.a === value : call.kind === 'replace' && c\
-all.b === value;\n  const role = writes ? 'writes' : reads() ? 'reads' : call.kind === 'replace' && call.a === value ? 'expects' : '';\n  if (role) \
-matchRoles.set(call, role);\n  return role;\n}\nfunction valueWords(value) {\n  const roles = [...matchRoles.values()];\n  const count = role => rol\
-es.filter(it => it === role).length;\n  const expected = count('expects') ? `, expected by ${count('expects')}` : '';\n  const first = start.some(([\
-, found]) => found === value) ? ', there at the start' : '';\n  return `Value ${value}: written by ${count('writes')}, read by ${count('reads')}${ex\
-pected}${first}`;\n}\n\n// ---- Choosing calls and steps ----\n\nlet tab = 'why';\nconst TABS = ['why', 'map', 'calls', 'data'];\n\nfunction select(\
-call, goes = true) {\n  const before = selected;\n  selected = call;\n  const isOutside = it => it && !explaining.has(it);\n  if (call && !isShown[c\
-all.number] && !filter.few) showAll();\n  else if (filter.few && (isOutside(before) || isOutside(call))) refilter(call);\n  sizeStage();\n  if (cal\
-l && goes) center(call);\n  if (call) $('live').textContent = `Call ${call.number}, process ${call.process}, ${words(call, 120)}, ${spanWords(call)}\
-`;\n  renderCard();\n  if (call) scrollTo(call);\n  else renderRows();\n  for (const item of document.querySelectorAll('ol.few li')) {\n    item.cla\
-ssList.toggle('current', call !== null && Number(item.dataset.call) === call.number);\n  }\n  draw();\n  writeLink();\n}\nfunction setStep(wanted, g\
-oes = true) {\n  step = Math.max(0, Math.min(order.length, wanted));\n  const call = step ? order[step - 1] : null;\n  const text = call ? `${words(\
-call, 60)} (call ${call.number}, p${call.process})` : 'before the first call';\n  $('step').value = step;\n  $('step-words').textContent = order.len\
-gth ? `${step} of ${order.length}: ${text}` : 'No order is known.';\n  $('step').setAttribute('aria-valuetext', $('step-words').textContent);\n  if \
-(tab === 'map') renderMap();\n  if (call && goes) {\n    const column = stepColumn(step - 1);\n    const room = plotWidth() / view.scale;\n    if (c\
-olumn < view.left + 1 || column > view.left + room - 2) moveView(column - room / 2, view.scale);\n  }\n  draw();\n  writeLink();\n}\n// To the next \
-place of a call that is shown.\nfunction walk(by) {\n  let place = step - 1 + by;\n  while (place >= 0 && place < order.length && !isShown[order[pla\
-ce].number]) place += by;\n  setStep(place < 0 ? 0 : place + 1);\n}\n// To the call before, or the next one, on the selected call's key.\nfunction n\
-ear(by) {\n  const same = call => (isScan(selected) ? isScan(call) && call.key === selected.key : touches(call, selected.key));\n  for (let i = sele\
-cted.number + by; i >= 0 && i < calls.length; i += by) {\n    if (same(calls[i])) return select(calls[i]);\n  }\n}\nfunction along(by) {\n  if (!sel\
-ected) return select(wrong && isShown[wrong.number] ? wrong : shown[0] || null);\n  const list = shownBy.get(selected.process) || [];\n  const next \
-= list[list.indexOf(selected) + by];\n  if (next) select(next);\n}\nfunction across(by) {\n  if (!selected) return along(0);\n  const list = shownBy\
-.get(lanes[laneOf(selected) + by]);\n  if (!list) return;\n  const far = call => Math.abs(call.from - selected.from);\n  select(list.reduce((best, c\
-all) => (far(call) < far(best) ? call : best)));\n}\nlet matchPlace = -1;\nfunction nextMatch(by) {\n  if (!matches.length) return;\n  matchPlace = \
-matches.includes(selected) ? matches.indexOf(selected) : by > 0 ? -1 : 0;\n  select(matches[(matchPlace + by + matches.length) % matches.length]);\
-\n  scrollTo(selected);\n}\nfunction pick(name) {\n  tab = name;\n  for (const it of TABS) {\n    $('tab-' + it).hidden = it !== name;\n    $('to-' \
-+ it).setAttribute('aria-selected', it === name);\n    $('to-' + it).tabIndex = it === name ? 0 : -1;\n  }\n  if (name === 'map') renderMap();\n  i\
-f (name === 'data') renderData();\n  if (name === 'calls') renderList();\n  if (name === 'calls' && selected) scrollTo(selected);\n}\n\n// ---- Filt\
-ers ----\n\nfunction showFilter() {\n  $('none').hidden = shown.length > 0;\n  for (const it of $('kinds').children) it.setAttribute('aria-pressed'\
-, filter.few || filter.kinds.has(it.dataset.kind));\n  $('show-few').setAttribute('aria-pressed', filter.few);\n  $('show-all').setAttribute('aria-p\
-ressed', !filter.few && shown.length === calls.length);\n  renderList();\n}\nfunction showAll() {\n  Object.assign(filter, { few: false, kinds: new \
-Set(KINDS), keys: null, processes: null });\n  for (const name of ['keys', 'processes']) {\n    $(name).value = '';\n    $(name).classList.remove('f\
-ault');\n  }\n  refilter(selected);\n  writeLink();\n}\nfunction showFew() {\n  if (!explaining.size) return;\n  filter.few = true;\n  refilter();\
-\n  writeLink();\n}\nfunction showFault() {\n  const call = wrong || (few[0] && few[0].call);\n  if (!call) return;\n  if (filter.few || !isShown[ca\
-ll.number]) showAll();\n  select(call, false);\n  focusOn(call);\n  setStep(order.length, false);\n}\nfunction filterBy(name) {\n  const ranges = re\
-adRanges($(name).value);\n  $(name).classList.toggle('fault', ranges === undefined);\n  if (ranges === undefined) return;\n  filter.few = false;\n  \
-filter[name] = ranges;\n  refilter();\n  if (selected && isShown[selected.number]) center(selected);\n  if (tab === 'map') renderMap();\n  writeLink\
-();\n}\nfunction toggleKind(kind) {\n  if (filter.few) filter.kinds = new Set(KINDS);\n  filter.few = false;\n  if (!filter.kinds.delete(kind)) filt\
-er.kinds.add(kind);\n  refilter();\n}\n\n// ---- Links: what is chosen, in the fragment of the address ----\n\nlet linkTimer = 0;\nlet isStarted = f\
-alse;\nfunction writeLink() {\n  if (!isStarted) return;\n  clearTimeout(linkTimer);\n  linkTimer = setTimeout(() => {\n    const parts = [];\n    i\
-f (selected) parts.push('call=' + selected.number);\n    if (order.length && step !== order.length) parts.push('step=' + step);\n    if (filter.keys\
-) parts.push('keys=' + encodeURIComponent($('keys').value));\n    if (filter.processes) parts.push('processes=' + encodeURIComponent($('processes').\
-value));\n    if (!filter.few && explaining.size) parts.push('all');\n    try {\n      history.replaceState(null, '', '#' + parts.join('&'));\n    \
-} catch {\n      // Some browsers let no file do that.\n    }\n  }, 150);\n}\n// Numbers are read, and anything else is passed over.\nfunction readL\
-ink() {\n  const asked = Object.create(null);\n  for (const part of location.hash.slice(1).split('&')) {\n    const [name, value = ''] = part.split(\
-'=', 2);\n    try {\n      asked[name] = decodeURIComponent(value);\n    } catch {\n      // It is no text.\n    }\n  }\n  const number = name => (/\
-^\\d{1,6}$/.test(asked[name] || '') ? Number(asked[name]) : -1);\n  if (asked.keys !== undefined || asked.processes !== undefined || asked.all !== u\
-ndefined) {\n    filter.few = false;\n    for (const name of ['keys', 'processes']) {\n      filter[name] = readRanges(asked[name] || '') || null;\
-\n      $(name).value = filter[name] ? asked[name] : '';\n    }\n    refilter();\n  }\n  if (number('step') >= 0) setStep(number('step'), false);\
-\n  const call = calls[number('call')] || calls[callAt[number('event')]];\n  if (!call) return;\n  select(call, false);\n  if (!filter.few) focusOn(\
-call);\n}\n\n// ---- Hands and keys ----\n\nfunction showHelp(on) {\n  $('help').hidden = !on;\n  if (on) $('close-help').focus();\n  else canvas.fo\
-cus({ preventScroll: true });\n}\nfunction setTheme(theme) {\n  document.documentElement.dataset.theme = theme;\n  $('theme').textContent = theme ==\
-= 'dark' ? 'Light' : 'Dark';\n  readColours();\n  draw();\n}\nconst otherTheme = () => setTheme(document.documentElement.dataset.theme === 'dark' ? \
-'light' : 'dark');\nfunction tip(text, x, y) {\n  const box = $('tip');\n  box.hidden = !text;\n  box.textContent = text;\n  const size = box.getBou\
-ndingClientRect();\n  const fitsBelow = y + 18 + size.height <= innerHeight;\n  box.style.left = Math.max(4, Math.min(innerWidth - size.width - 8, \
-x + 14)) + 'px';\n  box.style.top = (fitsBelow ? y + 18 : Math.max(4, y - size.height - 10)) + 'px';\n}\nfunction tipOf(call) {\n  const it = fewOf.\
-get(call);\n  const notes = [call.note, call.answerNote].filter(note => note !== undefined);\n  return [\n    `call ${call.number} of process ${call\
-.process}, ${spanWords(call)}`,\n    words(call, 400),\n    call.place < 0 ? '' : `place ${call.place + 1} of ${order.length}`,\n    call === wrong \
-? 'goes wrong here' : '',\n    ...(it ? it.misses : []).map(missed => `misses ${callWords(missed)} (call ${missed.number}, p${missed.process})`),\
-\n    ...notes.map(note => 'note ' + noteWords(note).slice(0, 200)),\n  ].filter(Boolean).join('\\n');\n}\nfunction tipOfStrip({ key, life }) {\n  c\
-onst writer = life.call ? `, written by ${callWords(life.call)} (call ${life.call.number}, p${life.call.process})` : ' from the start';\n  return `k\
-ey ${key} holds ${life.value}${writer}`;\n}\n\nfunction listenToCanvas() {\n  let from = null;\n  let isMoved = false;\n  canvas.addEventListener('p\
-ointerdown', event => {\n    from = [event.offsetX, event.offsetY];\n    isMoved = false;\n    canvas.setPointerCapture(event.pointerId);\n  });\n  \
-canvas.addEventListener('pointermove', event => {\n    const [x, y] = [event.offsetX, event.offsetY];\n    if (!from) return hover(x, y, event);\
-\n    if (!isMoved && Math.abs(x - from[0]) + Math.abs(y - from[1]) <= 4) return;\n    isMoved = true;\n    canvas.classList.add('drag');\n    tip('\
-', 0, 0);\n    moveView(view.left - (x - from[0]) / view.scale, view.scale, view.top - (y - from[1]));\n    from = [x, y];\n  });\n  const end = eve\
-nt => {\n    canvas.classList.remove('drag');\n    if (from && !isMoved && event.type === 'pointerup') {\n      const strip = stripAtPoint(event.off\
-setX, event.offsetY);\n      select(strip ? strip.life.call : callAtPoint(event.offsetX, event.offsetY), false);\n      canvas.focus({ preventScroll\
-: true });\n    }\n    from = null;\n  };\n  canvas.addEventListener('pointerup', end);\n  canvas.addEventListener('pointercancel', end);\n  canvas.\
-addEventListener('pointerleave', () => {\n    hovered = null;\n    tip('', 0, 0);\n    draw();\n  });\n  canvas.addEventListener('wheel', turnWheel\
-, { passive: false });\n}\nfunction hover(x, y, event) {\n  const call = callAtPoint(x, y);\n  const strip = call ? null : stripAtPoint(x, y);\n  i\
-f (call !== hovered) draw();\n  hovered = call;\n  canvas.style.cursor = call || strip ? 'pointer' : '';\n  tip(call ? tipOf(call) : strip ? tipOfSt\
-rip(strip) : '', event.clientX, event.clientY);\n}\n// The wheel zooms; with Shift it moves, and with Alt it scrolls the lanes. Of one column it scr\
-olls the page, unless Ctrl is held.\nfunction turnWheel(event) {\n  if (NARROW.matches && !event.ctrlKey && !event.shiftKey && !event.altKey) return\
-;\n  event.preventDefault();\n  const by = (event.deltaMode ? 16 : 1) * (event.deltaX || event.deltaY);\n  const isAcross = event.shiftKey || Math.a\
-bs(event.deltaX) > Math.abs(event.deltaY);\n  if (isAcross) moveView(view.left + by / view.scale, view.scale);\n  else if (event.altKey) moveView(vi\
-ew.left, view.scale, view.top + by);\n  else zoom(Math.exp(-by * 0.0022), event.offsetX);\n}\nfunction listenToOverview() {\n  let isDragged = false\
-;\n  const go = event => {\n    const box = overview.getBoundingClientRect();\n    const column = ((event.clientX - box.left) / box.width) * columns\
-;\n    moveView(column - plotWidth() / view.scale / 2, view.scale);\n  };\n  overview.onpointerdown = event => {\n    isDragged = true;\n    overvie\
-w.setPointerCapture(event.pointerId);\n    if (view.scale < leastScale() * 1.5 && columns > 80) view.scale = Math.min(26, leastScale() * 8);\n    go\
-(event);\n  };\n  overview.onpointermove = event => isDragged && go(event);\n  overview.onpointerup = overview.onpointercancel = () => {\n    isDrag\
-ged = false;\n  };\n}\n\nconst KEYS = {\n  ',': () => walk(-1),\n  '.': () => walk(1),\n  '+': () => zoom(1.4),\n  '=': () => zoom(1.4),\n  '-': () \
-=> zoom(1 / 1.4),\n  0: () => {\n    fitView();\n    draw();\n  },\n  f: showFault,\n  e: showFew,\n  a: showAll,\n  d: otherTheme,\n  n: () => next\
-Match(1),\n  N: () => nextMatch(-1),\n  '/': () => $('search').select(),\n  '?': () => showHelp(true),\n  Escape: () => (matches.length ? search(''\
-) : select(null)),\n};\nconst ARROWS = { ArrowRight: () => along(1), ArrowLeft: () => along(-1), ArrowDown: () => across(1), ArrowUp: () => across(-\
-1) };\nfunction pressKey(event) {\n  if (event.ctrlKey || event.metaKey || event.altKey) return;\n  if (!$('help').hidden) {\n    if (event.key === \
-'Escape' || event.key === '?') showHelp(false);\n    return;\n  }\n  if (event.target.tagName === 'INPUT' && event.target.type !== 'range') {\n    i\
-f (event.key === 'Escape') canvas.focus();\n    return;\n  }\n  const isFree = event.target === canvas || event.target === document.body;\n  const a\
-ct = KEYS[event.key] || KEYS[event.key.toLowerCase()] || (isFree && ARROWS[event.key]);\n  if (!act) return;\n  event.preventDefault();\n  act();\n}\
-\nfunction pressInTabs(event) {\n  const by = { ArrowRight: 1, ArrowLeft: -1 }[event.key];\n  if (!by) return;\n  pick(TABS[(TABS.indexOf(tab) + by \
-+ TABS.length) % TABS.length]);\n  $('to-' + tab).focus();\n  event.preventDefault();\n}\nfunction pressInList(event) {\n  const by = { ArrowDown: 1\
-, ArrowUp: -1, PageDown: 15, PageUp: -15 }[event.key];\n  if (!by || !listed.length) return;\n  const place = selected ? listed.indexOf(selected) + \
-by : 0;\n  select(listed[Math.max(0, Math.min(listed.length - 1, place))]);\n  scrollTo(selected);\n  event.preventDefault();\n  event.stopPropagati\
-on();\n}\nfunction pressInSearch(event) {\n  if (event.key === 'Escape') search('');\n  if (event.key !== 'Enter') return;\n  if ($('search').value.\
-trim() !== searched) searchNow();\n  nextMatch(event.shiftKey ? -1 : 1);\n}\nlet searchTimer = 0;\nlet searched = '';\nfunction searchNow() {\n  cle\
-arTimeout(searchTimer);\n  searched = $('search').value.trim();\n  search($('search').value);\n}\n\nfunction listenToButtons() {\n  const actions = \
-{ 'show-few': showFew, 'show-all': showAll, 'show-fault': showFault, 'clear-filter': showAll, theme: otherTheme };\n  for (const [id, act] of Object\
-.entries(actions)) $(id).onclick = act;\n  for (const name of ['keys', 'processes']) $(name).oninput = () => filterBy(name);\n  for (const name of T\
-ABS) $('to-' + name).onclick = () => pick(name);\n  $('to-why').parentNode.onkeydown = pressInTabs;\n  $('first').onclick = () => setStep(0);\n  $('\
-back').onclick = () => walk(-1);\n  $('forward').onclick = () => walk(1);\n  $('last').onclick = () => setStep(order.length);\n  $('step').oninput \
-= () => {\n    setStep(Number($('step').value));\n    if (tab !== 'map') pick('map');\n  };\n  $('search').onkeydown = pressInSearch;\n  $('search')\
-.oninput = () => {\n    clearTimeout(searchTimer);\n    searchTimer = setTimeout(searchNow, 120);\n  };\n  $('list').onscroll = renderRows;\n  $('li\
-st').onkeydown = pressInList;\n  $('show-help').onclick = () => showHelp(true);\n  $('close-help').onclick = () => showHelp(false);\n  $('help').onc\
-lick = event => event.target === $('help') && showHelp(false);\n  document.addEventListener('keydown', pressKey);\n}\nfunction listenToWindow() {\
-\n  const dark = matchMedia('(prefers-color-scheme: dark)');\n  setTheme(dark.matches ? 'dark' : 'light');\n  dark.addEventListener('change', () => \
-setTheme(dark.matches ? 'dark' : 'light'));\n  addEventListener('hashchange', readLink);\n  new ResizeObserver(() => {\n    resize();\n    if (filte\
-r.few) fitView();\n  }).observe($('stage'));\n  let before = null;\n  const print = on => {\n    printing = on;\n    if (on) before = document.docum\
-entElement.dataset.theme;\n    setTheme(on ? 'light' : before);\n    canvas.style.width = on ? '100%' : '';\n    resize();\n    paint();\n  };\n  ad\
-dEventListener('beforeprint', () => print(true));\n  addEventListener('afterprint', () => print(false));\n}\n\n// ---- The start ----\n\nconst NARRO\
-W = matchMedia('(max-width: 1000px)');\nfunction headline() {\n  if (wrong) return `Goes wrong at event ${wrong.to}: ${words(wrong, 90)} (call ${wro\
-ng.number} of process ${wrong.process})`;\n  if (verdict === 'yes') return order.length ? `One order of ${many(order.length, 'call')} explains ever\
-y response.` : 'No call has to have an order.';\n  if (verdict === 'no') return `The ${many(judged.calls.length, 'call')} at ${segmentWords} have n\
-o order.`;\n  if (few.length) return `${many(few.length, 'call')} of it have no order on their own. At which event it goes wrong is not known.`;\n  \
-return locatedVerdict === 'yes' ? 'So says locate; judge is undecided.' : 'Its search met more states than the budget.';\n}\nfunction renderHeader(\
-) {\n  $('badge').textContent = { yes: 'Linearizable', no: 'Not linearizable', undecided: 'Undecided' }[shownVerdict];\n  $('badge').className = sho\
-wnVerdict;\n  $('headline').textContent = headline();\n  const counts = [many(calls.length, 'call'), many(processes.length, 'process'), many(keys.le\
-ngth, 'key')];\n  $('facts').textContent = [...counts, 'overlap ' + overlap].join(' · ');\n  document.title = `${$('badge').textContent} · ${counts[\
-0]} · Potzendai`;\n  for (const kind of KINDS.filter(it => calls.some(call => call.kind === it))) {\n    const mark = el('i', { class: 'mark-' + kin\
-d });\n    $('kinds').append(button([mark, kind], () => toggleKind(kind), { class: 'kind', 'data-kind': kind }));\n  }\n  $('step').max = order.leng\
-th;\n  for (const id of ['step', 'first', 'back', 'forward', 'last']) $(id).disabled = !order.length;\n  $('show-few').disabled = !explaining.size;\
-\n  $('show-fault').disabled = !wrong && !few.length;\n}\n\nrenderHeader();\nlistenToButtons();\nlistenToCanvas();\nlistenToOverview();\nlistenToWin\
-dow();\nresize();\nrefilter();\nrenderWhy();\nsetStep(order.length, false);\npick('why');\nreadLink();\nisStarted = true;\n</script>\n  </body>\n</h\
-tml>\n";
+\n      'p',\n      {},\n      `The events before event ${wrong.to} have a linearization. With it they have none, whatever follows. `,\n      'It i\
+s the response of ',\n      named(wrong),\n      ': ',\n      mono(say(wrong.answer).slice(0, 300)),\n      '.',\n    ),\n    next ? whyNext(next) \
+: null,\n    el('p', { class: 'noprint' }, button('Show it among all calls', showFault)),\n  ];\n}\n// What the map would answer, in one sentence.\n\
+function whyNext({ answer, would }) {\n  const keysThat = differingKeys(answer, would);\n  if (!keysThat.length) {\n    if (say(answer) === say(woul\
+d)) return null;\n    const parts = [bold(say(would).slice(0, 200), 'good'), ', not ', bold(say(answer).slice(0, 200), 'bad'), '.'];\n    return el(\
+'p', {}, 'After the calls below, the map would answer ', parts);\n  }\n  const [got, wanted] = [new Map(answer), new Map(would)];\n  const parts = k\
+eysThat.slice(0, 3).map((key, i) => {\n    const comma = i ? ', ' : '';\n    return [comma, bold(say(wanted.get(key)), 'good'), ' at key ', mono(key\
+), ', not ', bold(say(got.get(key)), 'bad')];\n  });\n  const rest = keysThat.length > 3 ? `, and differ at ${keysThat.length - 3} more keys` : '';\
+\n  return el('p', {}, 'After the calls below, the map would report ', parts, rest, '.');\n}\nfunction whyFew() {\n  if (!few.length) return [];\n  \
+const title = few.length === 1 ? 'This call has no order on its own' : `These ${few.length} calls have no order on their own`;\n  const isLeast = fe\
+w.length > 1 && few.every(it => it.reason === 'order');\n  const least = isLeast ? 'Without any one of them, the others have an order. ' : '';\n  co\
+nst grey = few.some(isLeftOut) ? 'Responses in grey are not needed to show it.' : '';\n  return [\n    el('h2', {}, title),\n    beginWords(),\n    \
+el('ol', { class: 'few' }, few.map(fewItem)),\n    least + grey && el('p', { class: 'soft' }, least + grey),\n  ];\n}\n// The values from which the \
+few calls begin, and who wrote them.\nfunction beginWords(count = 12) {\n  const part = ({ key, value, writer }) => [`key ${key} has `, mono(say(val\
+ue)), writer ? [', written by ', named(writer)] : ''];\n  if (fewBegin.length < 2) return fewBegin.map(it => el('p', {}, 'They begin where ', part(i\
+t), '.'));\n  const rest = fewBegin.length > count ? el('li', {}, `${fewBegin.length - count} more.`) : '';\n  return [el('p', {}, 'They begin where\
+:'), el('ul', {}, fewBegin.slice(0, count).map(it => el('li', {}, part(it), '.')), rest)];\n}\nconst REASONS = {\n  spent: 'Kept, since without it t\
+he search is beyond its budget.',\n  held: 'Kept, since a replace without a response waits for a value that this may have written.',\n};\nfunction f\
+ewItem(it) {\n  const { call } = it;\n  const answer = isLeftOut(it) ? say(call.answer).slice(0, 60) : say(it.answer).slice(0, 400);\n  return el(\
+\n    'li',\n    { class: call === wrong ? 'wrong' : '', 'data-call': call.number },\n    callButton(call),\n    isOpen(it) ? '' : mono(': ' + answe\
+r, isLeftOut(it) ? 'faint' : ''),\n    soft(` call ${call.number}, p${call.process}`),\n    isOpen(it) ? el('div', { class: 'soft' }, 'It has no res\
+ponse.') : '',\n    it.misses.map(missed => {\n      const over = `, which was over at event ${missed.to}, before this began at ${call.from}.`;\
+\n      return el('div', { class: 'bad' }, 'misses ', named(missed), over);\n    }),\n    REASONS[it.reason] ? el('div', { class: 'soft' }, REASONS[\
+it.reason]) : '',\n  );\n}\nfunction whyFront() {\n  if (!front) return [];\n  const steps = front.calls.map((call, i) => [i ? ', ' : '', `${i + 1}\
+. `, callButton(call)]);\n  const holds = front.holds.length ? mono(say(front.holds).slice(0, 600)) : 'nothing';\n  const next = front.next.length \
+> 1 ? 'What could come next:' : 'Only this could come next:';\n  return [\n    el('h2', {}, 'How far an order of them gets'),\n    el('p', {}, steps\
+.length ? steps : 'Not one of them can come first.'),\n    el('p', {}, 'The map then holds ', holds, '. ', next),\n    front.next.map(nextItem),\n  \
+];\n}\nfunction nextItem({ call, answer, would }) {\n  const isFitting = say(answer) === say(would) || (answer instanceof Word && answer.text === 'o\
+pen');\n  if (isFitting) return el('p', {}, callButton(call), ': it fits here. The search ended before it, with its budget spent.');\n  if (differin\
+gKeys(answer, would).length) {\n    return [el('p', {}, callButton(call), ', but it differs:'), differences(answer, would, ['it answered', 'the map \
+would'])];\n  }\n  const parts = [': it answered ', bold(say(answer), 'bad'), ', the map would answer ', bold(say(would), 'good'), '.'];\n  return e\
+l('p', {}, callButton(call), parts);\n}\nfunction whyOrigins() {\n  if (!origins.length) return [];\n  const nobody = 'no call that was recorded. A \
+starting pair was forgotten, a thread was not recorded, or the map makes up values';\n  const rows = origins.map(({ key, value, start, puts }) => {\
+\n    const from = [puts.length ? namedList(puts) : '', puts.length && start ? ', and ' : '', start ? 'the start' : ''];\n    return el('p', {}, mon\
+o(value), ' at key ', mono(key), ': ', puts.length || start ? from : isBad(nobody), '.');\n  });\n  return [el('h2', {}, 'Who wrote what they read')\
+, rows];\n}\nfunction whyOrder() {\n  const sections = [];\n  if (shownVerdict !== 'yes' && order.length) {\n    const whose = orderIsOfFew\n      \
+? 'The circles are the longest order of these few calls that the search met.'\n      : `The circles are one linearization of the events before even\
+t ${orderedTo}. Their numbers are places in it, from 1, not numbers of calls. There may be others.`;\n    sections.push(el('h2', {}, 'The circles')\
+, el('p', {}, whose, ' Step through it below the timeline: Map shows what the map then holds.'));\n  }\n  if (judged.calls && judged.calls.length < \
+calls.length) {\n    const count = many(judged.calls.length, 'call');\n    sections.push(el('p', { class: 'soft' }, `judge names the ${count} at ${s\
+egmentWords}. No scan joins them to others, so they are judged apart.`));\n  }\n  if (replayFault) {\n    sections.push(el('p', { class: 'bad' }, `T\
+his page replays the order otherwise than the program: ${replayFault}. Believe the program, and report it.`));\n  }\n  return sections;\n}\n\n// ---\
+- Map: what it holds at a step of the order ----\n\nfunction renderMap() {\n  if (!order.length || (orderIsOfFew && replayFault)) {\n    $('tab-map'\
+).replaceChildren(el('p', { class: 'soft' }, 'No order is known, so this page cannot say what the map held.'));\n    return;\n  }\n  const call = st\
+ep ? order[step - 1] : null;\n  const where = call\n    ? [`After ${step} of ${many(order.length, 'call')}. The last of them is `, named(call), ': '\
+, mono(answerWords(call).slice(0, 100)), '.']\n    : 'Before the first call.';\n  const whose = orderIsOfFew ? el('p', { class: 'soft' }, 'These ar\
+e the few calls of Why, not all calls.') : '';\n  const rows = keys.filter(key => meets(filter.few ? null : filter.keys, key, key)).map(key => mapRo\
+w(key, call));\n  const held = rows.filter(row => row.isHeld).length;\n  const kept = rows.filter(row => row.isHeld || row.isTouched || rows.length \
+<= 40);\n  const shownRows = kept.filter((row, i) => i < 250 || row.isTouched).map(row => row.element);\n  const more = kept.length > 250 ? el('p', \
+{ class: 'soft' }, 'The first 250 keys are shown. Filter keys to see others.') : '';\n  $('tab-map').replaceChildren(\n    el('p', {}, where),\n    \
+whose,\n    ...mapAtEnd(),\n    el('h2', {}, `The map: ${many(held, 'key')}`),\n    table(['key', 'value', 'written by'], shownRows),\n    more,\n  \
+);\n}\nfunction mapRow(key, call) {\n  const life = lifeAt(key, step);\n  const isHeld = Boolean(life && life.value !== null);\n  const isTouched = \
+Boolean((life && step && life.step === step) || (call && !isScan(call) && call.key === key));\n  const writer = life && life.call ? [callButton(life\
+.call, `call ${life.call.number}`), soft(` p${life.call.process}`)] : soft(life ? 'start' : '');\n  const cells = [mono(key), isHeld ? mono(life.val\
+ue) : soft('none'), writer].map(it => el('td', {}, it));\n  return { isHeld, isTouched, element: el('tr', isTouched ? { class: 'touched' } : {}, cel\
+ls) };\n}\nfunction mapAtEnd() {\n  if (step !== order.length || !wrong) return [];\n  const would = wouldAnswer(wrong, key => holdsAt(key, step));\
+\n  const isList = differingKeys(wrong.answer, would).length > 0;\n  const parts = ['It answered ', bold(say(wrong.answer), 'bad'), '. At this end o\
+f this order, the map would answer ', bold(say(would), ''), '.'];\n  return [\n    el('h2', {}, 'The call that goes wrong'),\n    el('p', {}, named(\
+wrong)),\n    isList ? differences(wrong.answer, would, ['it answered', 'the map here']) : el('p', {}, parts),\n    orderIsOfFew ? '' : el('p', { cl\
+ass: 'soft' }, 'Other orders of the same events may end with another map. None of them answers so.'),\n  ];\n}\n\n// ---- The selected call ----\n\n\
+function renderCard() {\n  const card = $('card');\n  card.hidden = !selected;\n  if (!selected) return;\n  const call = selected;\n  const role = c\
+all === wrong ? el('span', { class: 'bad' }, 'goes wrong here') : fewOf.has(call) ? 'explains the verdict' : '';\n  const rows = cardRows(call).filt\
+er(row => row[1] !== null);\n  card.replaceChildren(\n    el(\n      'div',\n      { class: 'bar' },\n      el('h2', {}, `Call ${call.number}`),\
+\n      role,\n      el('span', { class: 'gap' }),\n      button('← key', () => near(-1), { 'aria-label': 'The call before on this key', title: 'Th\
+e call before on this key' }),\n      button('key →', () => near(1), { 'aria-label': 'The next call on this key', title: 'The next call on this key\
+' }),\n      button('×', () => select(null), { 'aria-label': 'Close' }),\n    ),\n    el('dl', {}, rows.map(([name, ...content]) => [el('dt', {}, na\
+me), el('dd', {}, content)])),\n    pairsTable(call, 120),\n  );\n  card.scrollTop = 0;\n}\nfunction cardRows(call) {\n  const it = fewOf.get(call);\
+\n  const value = written(call);\n  const end = isPending(call) ? events.length : call.to;\n  const others = calls.filter(c => c !== call && c.from \
+<= end && (isPending(c) || c.to > call.from));\n  const pairs = Array.isArray(call.answer) && call.answer.length > 3;\n  const answer = isPending(ca\
+ll) ? 'pending: it has no response' : pairs ? many(call.answer.length, 'pair') : mono(say(call.answer));\n  const jump = () => {\n    setStep(call.p\
+lace + 1);\n    pick('map');\n  };\n  const read = reported(call);\n  return [\n    ['call', mono(callWords(call))],\n    ['response', answer],\
+\n    ['process', String(call.process)],\n    ['events', isPending(call) ? `${call.from} on` : `${call.from} to ${call.to}`],\n    ['place', call.pl\
+ace < 0 ? null : [`${call.place + 1} of ${order.length} `, button('the map then', jump, { class: 'link' })]],\n    ['read by', value === undefined \
+? null : namesOrNobody(readers(call.key, value), call)],\n    ['written by', isScan(call) || !read.length ? null : sourceOf(read[0][0], read[0][1], \
+call)],\n    ...(it ? it.misses : []).map(missed => ['misses', named(missed)]),\n    ...few.filter(other => other.misses.includes(call)).map(other =\
+> ['missed by', named(other.call)]),\n    ['overlaps', many(others.length, 'call')],\n    ['note, invoked', call.note === undefined ? null : mono(no\
+teWords(call.note).slice(0, 4000))],\n    ['note, answered', call.answerNote === undefined ? null : mono(noteWords(call.answerNote).slice(0, 4000))]\
+,\n  ];\n}\nfunction namesOrNobody(list, call) {\n  const others = list.filter(it => it !== call);\n  return others.length ? namedList(others, 8) : \
+'nobody';\n}\nfunction sourceOf(key, value, call) {\n  const list = writers(key, value).filter(it => it !== call);\n  if (list.length) return namedL\
+ist(list);\n  return startValues.get(key) === value ? 'the start' : isBad('no call that was recorded');\n}\nfunction pairsTable(call, count) {\n  i\
+f (!isScan(call) || !Array.isArray(call.answer) || !call.answer.length) return '';\n  const rows = call.answer.slice(0, count).map(([key, value]) =\
+> {\n    const writer = writers(key, value)[0];\n    const source = writer ? callButton(writer, `call ${writer.number}`) : startValues.get(key) === \
+value ? 'start' : isBad('nobody');\n    return el('tr', {}, [mono(key), mono(value), source].map(it => el('td', {}, it)));\n  });\n  const whole = e\
+l('div', {}, table(['key', 'value', 'written by'], rows));\n  if (call.answer.length > count) {\n    whole.append(button(`all ${call.answer.length} \
+pairs`, () => whole.replaceWith(pairsTable(call, 5000))));\n  }\n  return whole;\n}\n\n// ---- Calls: a list of which only the part in sight is mad\
+e ----\n\nconst ROW = 24;\nconst matchRoles = new Map();\nlet listed = [];\nlet foundWords = '';\nfunction renderList() {\n  listed = matches.lengt\
+h ? matches : shown;\n  $('list-height').style.height = listed.length * ROW + 'px';\n  const clear = button('clear', () => search(''), { class: 'lin\
+k' });\n  const head = matches.length ? [foundWords + ' ', clear] : [soft(`${shown.length} of ${many(calls.length, 'call')} pass the filter`)];\n  $\
+('list-head').replaceChildren(...head);\n  renderRows();\n}\nfunction renderRows() {\n  if ($('tab-calls').hidden) return;\n  const box = $('list');\
+\n  const from = Math.max(0, Math.floor(box.scrollTop / ROW) - 4);\n  const to = Math.min(listed.length, from + Math.ceil(box.clientHeight / ROW) + \
+10);\n  $('rows').style.top = from * ROW + 'px';\n  $('rows').replaceChildren(...listed.slice(from, to).map((call, i) => listRow(call, from + i)));\
+\n  box.setAttribute('aria-activedescendant', selected ? 'row' + selected.number : '');\n}\nfunction listRow(call, place) {\n  const role = matchRol\
+es.has(call) ? matchRoles.get(call) + ' ' : '';\n  const attributes = {\n    class: 'row',\n    role: 'option',\n    id: 'row' + call.number,\n    '\
+aria-selected': call === selected,\n    'aria-setsize': listed.length,\n    'aria-posinset': place + 1,\n    onclick: () => select(call),\n  };\n  c\
+onst span = isPending(call) ? `${call.from}–` : `${call.from}–${call.to}`;\n  const text = mono(role + words(call, 120), call === wrong ? 'bad' : ''\
+);\n  return el('div', attributes, mono(String(call.number)), mono('p' + call.process), text, mono(span));\n}\nfunction scrollTo(call) {\n  const a\
+t = listed.indexOf(call) * ROW;\n  const box = $('list');\n  if (at >= 0 && (at < box.scrollTop || at > box.scrollTop + box.clientHeight - ROW)) box\
+.scrollTop = at - box.clientHeight / 2;\n  renderRows();\n}\n\n// ---- Data: the lines of the program, as they are ----\n\nfunction renderData() {\
+\n  if ($('tab-data').childElementCount) return;\n  const blocks = ['judge', 'locate', 'explain', 'order'].map(id => {\n    const text = blockText(i\
+d).trim();\n    const title = id === 'order' ? 'locate --order' : id;\n    return text ? [el('h2', {}, title), el('pre', { tabindex: 0 }, visible(te\
+xt).slice(0, 60000))] : [];\n  });\n  const save = () => {\n    const address = URL.createObjectURL(new Blob([blockText('history')], { type: 'applic\
+ation/json' }));\n    el('a', { href: address, download: 'history.json' }).click();\n    setTimeout(() => URL.revokeObjectURL(address), 5000);\n  };\
+\n  $('tab-data').append(\n    el('p', { class: 'soft' }, 'The lines of the program, as they are. All that this page draws comes from them and from \
+the history.'),\n    ...blocks.flat(),\n    el('h2', {}, 'History'),\n    el('p', {}, `Version ${recorded.version}, ${many(events.length, 'event')}.\
+`),\n    el('p', {}, button('Save history.json', save)),\n  );\n}\n\n// ---- Searching ----\n\nfunction search(text) {\n  const asked = text.trim();\
+\n  $('search').value = text;\n  matchRoles.clear();\n  matches = find(asked);\n  matchSet = new Set(matches);\n  foundWords = /^\\d+$/.test(asked) \
+? valueWords(plainNumber(asked)) : many(matches.length, 'call');\n  overviewIsStale = true;\n  if (asked) pick('calls');\n  renderList();\n  if (ask\
+ed && !matches.length) $('list-head').replaceChildren(el('span', { class: 'bad' }, 'Nothing is found.'));\n  $('live').textContent = asked ? foundWo\
+rds : '';\n  draw();\n}\nfunction find(asked) {\n  if (!asked) return [];\n  const [, sign, digits] = /^([#@kp]?)(\\d+)$/.exec(asked) || [];\n  cons\
+t number = digits && plainNumber(digits);\n  if (sign === '#') return calls.filter(call => String(call.number) === number);\n  if (sign === '@') ret\
+urn calls.filter(call => [call.from, call.to].map(String).includes(number));\n  if (sign === 'k') return calls.filter(call => touches(call, number))\
+;\n  if (sign === 'p') return calls.filter(call => String(call.process) === number);\n  if (number) return calls.filter(call => noteRole(call, numbe\
+r));\n  const low = asked.toLowerCase();\n  const texts = call => [words(call, 1e9), call.note || '', call.answerNote || ''];\n  return calls.filter\
+(call => texts(call).some(it => it.toLowerCase().includes(low)));\n}\n// What a call does with a value.\nfunction noteRole(call, value) {\n  const r\
+eads = () => reported(call).some(([, found]) => found === value);\n  const writes = call.kind === 'insert' ? call.a === value : call.kind === 'repla\
+ce' && call.b === value;\n  const role = writes ? 'writes' : reads() ? 'reads' : call.kind === 'replace' && call.a === value ? 'expects' : '';\n  i\
+f (role) matchRoles.set(call, role);\n  return role;\n}\nfunction valueWords(value) {\n  const roles = [...matchRoles.values()];\n  const count = ro\
+le => roles.filter(it => it === role).length;\n  const expected = count('expects') ? `, expected by ${count('expects')}` : '';\n  const first = star\
+t.some(([, found]) => found === value) ? ', there at the start' : '';\n  return `Value ${value}: written by ${count('writes')}, read by ${count('rea\
+ds')}${expected}${first}`;\n}\n\n// ---- Choosing calls and steps ----\n\nlet tab = 'why';\nconst TABS = ['why', 'map', 'calls', 'data'];\n\nfunctio\
+n select(call, goes = true) {\n  const before = selected;\n  selected = call;\n  const isOutside = it => it && !explaining.has(it);\n  if (call && !\
+isShown[call.number] && !filter.few) showAll();\n  else if (filter.few && (isOutside(before) || isOutside(call))) refilter(call);\n  sizeStage();\
+\n  if (call && goes) center(call);\n  if (call) $('live').textContent = `Call ${call.number}, process ${call.process}, ${words(call, 120)}, ${spanW\
+ords(call)}`;\n  renderCard();\n  if (call) scrollTo(call);\n  else renderRows();\n  for (const item of document.querySelectorAll('ol.few li')) {\
+\n    item.classList.toggle('current', call !== null && Number(item.dataset.call) === call.number);\n  }\n  draw();\n  writeLink();\n}\nfunction set\
+Step(wanted, goes = true) {\n  step = Math.max(0, Math.min(order.length, wanted));\n  const call = step ? order[step - 1] : null;\n  const text = ca\
+ll ? `${words(call, 60)} (call ${call.number}, p${call.process})` : 'before the first call';\n  $('step').value = step;\n  $('step-words').textConte\
+nt = order.length ? `${step} of ${order.length}: ${text}` : 'No order is known.';\n  $('step').setAttribute('aria-valuetext', $('step-words').textCo\
+ntent);\n  if (tab === 'map') renderMap();\n  if (call && goes) {\n    const column = stepColumn(step - 1);\n    const room = plotWidth() / view.sca\
+le;\n    if (column < view.left + 1 || column > view.left + room - 2) moveView(column - room / 2, view.scale);\n  }\n  draw();\n  writeLink();\n}\n/\
+/ To the next place of a call that is shown.\nfunction walk(by) {\n  let place = step - 1 + by;\n  while (place >= 0 && place < order.length && !isS\
+hown[order[place].number]) place += by;\n  setStep(place < 0 ? 0 : place + 1);\n}\n// To the call before, or the next one, on the selected call's ke\
+y.\nfunction near(by) {\n  const same = call => (isScan(selected) ? isScan(call) && call.key === selected.key : touches(call, selected.key));\n  fo\
+r (let i = selected.number + by; i >= 0 && i < calls.length; i += by) {\n    if (same(calls[i])) return select(calls[i]);\n  }\n}\nfunction along(by\
+) {\n  if (!selected) return select(wrong && isShown[wrong.number] ? wrong : shown[0] || null);\n  const list = shownBy.get(selected.process) || [];\
+\n  const next = list[list.indexOf(selected) + by];\n  if (next) select(next);\n}\nfunction across(by) {\n  if (!selected) return along(0);\n  cons\
+t list = shownBy.get(lanes[laneOf(selected) + by]);\n  if (!list) return;\n  const far = call => Math.abs(call.from - selected.from);\n  select(list\
+.reduce((best, call) => (far(call) < far(best) ? call : best)));\n}\nlet matchPlace = -1;\nfunction nextMatch(by) {\n  if (!matches.length) return;\
+\n  matchPlace = matches.includes(selected) ? matches.indexOf(selected) : by > 0 ? -1 : 0;\n  select(matches[(matchPlace + by + matches.length) % ma\
+tches.length]);\n  scrollTo(selected);\n}\nfunction pick(name) {\n  tab = name;\n  for (const it of TABS) {\n    $('tab-' + it).hidden = it !== name\
+;\n    $('to-' + it).setAttribute('aria-selected', it === name);\n    $('to-' + it).tabIndex = it === name ? 0 : -1;\n  }\n  if (name === 'map') ren\
+derMap();\n  if (name === 'data') renderData();\n  if (name === 'calls') renderList();\n  if (name === 'calls' && selected) scrollTo(selected);\n}\n\
+\n// ---- Filters ----\n\nfunction showFilter() {\n  $('none').hidden = shown.length > 0;\n  for (const it of $('kinds').children) it.setAttribute('\
+aria-pressed', filter.few || filter.kinds.has(it.dataset.kind));\n  $('show-few').setAttribute('aria-pressed', filter.few);\n  $('show-all').setAttr\
+ibute('aria-pressed', !filter.few && shown.length === calls.length);\n  renderList();\n}\nfunction showAll() {\n  Object.assign(filter, { few: false\
+, kinds: new Set(KINDS), keys: null, processes: null });\n  for (const name of ['keys', 'processes']) {\n    $(name).value = '';\n    $(name).classL\
+ist.remove('fault');\n  }\n  refilter(selected);\n  writeLink();\n}\nfunction showFew() {\n  if (!explaining.size) return;\n  filter.few = true;\n  \
+refilter();\n  writeLink();\n}\nfunction showFault() {\n  const call = wrong || (few[0] && few[0].call);\n  if (!call) return;\n  if (filter.few || \
+!isShown[call.number]) showAll();\n  select(call, false);\n  focusOn(call);\n  setStep(order.length, false);\n}\nfunction filterBy(name) {\n  const \
+ranges = readRanges($(name).value);\n  $(name).classList.toggle('fault', ranges === undefined);\n  if (ranges === undefined) return;\n  filter.few \
+= false;\n  filter[name] = ranges;\n  refilter();\n  if (selected && isShown[selected.number]) center(selected);\n  if (tab === 'map') renderMap();\
+\n  writeLink();\n}\nfunction toggleKind(kind) {\n  if (filter.few) filter.kinds = new Set(KINDS);\n  filter.few = false;\n  if (!filter.kinds.delet\
+e(kind)) filter.kinds.add(kind);\n  refilter();\n}\n\n// ---- Links: what is chosen, in the fragment of the address ----\n\nlet linkTimer = 0;\nlet \
+isStarted = false;\nfunction writeLink() {\n  if (!isStarted) return;\n  clearTimeout(linkTimer);\n  linkTimer = setTimeout(() => {\n    const part\
+s = [];\n    if (selected) parts.push('call=' + selected.number);\n    if (order.length && step !== order.length) parts.push('step=' + step);\n    i\
+f (filter.keys) parts.push('keys=' + encodeURIComponent($('keys').value));\n    if (filter.processes) parts.push('processes=' + encodeURIComponent($\
+('processes').value));\n    if (!filter.few && explaining.size) parts.push('all');\n    try {\n      history.replaceState(null, '', '#' + parts.join\
+('&'));\n    } catch {\n      // Some browsers let no file do that.\n    }\n  }, 150);\n}\n// Numbers are read, and anything else is passed over.\nf\
+unction readLink() {\n  const asked = Object.create(null);\n  for (const part of location.hash.slice(1).split('&')) {\n    const [name, value = ''] \
+= part.split('=', 2);\n    try {\n      asked[name] = decodeURIComponent(value);\n    } catch {\n      // It is no text.\n    }\n  }\n  const numbe\
+r = name => (/^\\d{1,6}$/.test(asked[name] || '') ? Number(asked[name]) : -1);\n  if (asked.keys !== undefined || asked.processes !== undefined || a\
+sked.all !== undefined) {\n    filter.few = false;\n    for (const name of ['keys', 'processes']) {\n      filter[name] = readRanges(asked[name] || \
+'') || null;\n      $(name).value = filter[name] ? asked[name] : '';\n    }\n    refilter();\n  }\n  if (number('step') >= 0) setStep(number('step')\
+, false);\n  const call = calls[number('call')] || calls[callAt[number('event')]];\n  if (!call) return;\n  select(call, false);\n  if (!filter.few\
+) focusOn(call);\n}\n\n// ---- Hands and keys ----\n\nfunction showHelp(on) {\n  $('help').hidden = !on;\n  if (on) $('close-help').focus();\n  els\
+e canvas.focus({ preventScroll: true });\n}\nfunction setTheme(theme) {\n  document.documentElement.dataset.theme = theme;\n  $('theme').textConten\
+t = theme === 'dark' ? 'Light' : 'Dark';\n  readColours();\n  draw();\n}\nconst otherTheme = () => setTheme(document.documentElement.dataset.theme =\
+== 'dark' ? 'light' : 'dark');\nfunction tip(text, x, y) {\n  const box = $('tip');\n  box.hidden = !text;\n  box.textContent = text;\n  const size \
+= box.getBoundingClientRect();\n  const fitsBelow = y + 18 + size.height <= innerHeight;\n  box.style.left = Math.max(4, Math.min(innerWidth - size.\
+width - 8, x + 14)) + 'px';\n  box.style.top = (fitsBelow ? y + 18 : Math.max(4, y - size.height - 10)) + 'px';\n}\nfunction tipOf(call) {\n  const \
+it = fewOf.get(call);\n  const notes = [call.note, call.answerNote].filter(note => note !== undefined);\n  return [\n    `call ${call.number} of pro\
+cess ${call.process}, ${spanWords(call)}`,\n    words(call, 400),\n    call.place < 0 ? '' : `place ${call.place + 1} of ${order.length}`,\n    cal\
+l === wrong ? 'goes wrong here' : '',\n    ...(it ? it.misses : []).map(missed => `misses ${callWords(missed)} (call ${missed.number}, p${missed.pro\
+cess})`),\n    ...notes.map(note => 'note ' + noteWords(note).slice(0, 200)),\n  ].filter(Boolean).join('\\n');\n}\nfunction tipOfStrip({ key, life \
+}) {\n  const writer = life.call ? `, written by ${callWords(life.call)} (call ${life.call.number}, p${life.call.process})` : ' from the start';\n  \
+return `key ${key} holds ${life.value}${writer}`;\n}\n\nfunction listenToCanvas() {\n  let from = null;\n  let isMoved = false;\n  canvas.addEventLi\
+stener('pointerdown', event => {\n    from = [event.offsetX, event.offsetY];\n    isMoved = false;\n    canvas.setPointerCapture(event.pointerId);\
+\n  });\n  canvas.addEventListener('pointermove', event => {\n    const [x, y] = [event.offsetX, event.offsetY];\n    if (!from) return hover(x, y, \
+event);\n    if (!isMoved && Math.abs(x - from[0]) + Math.abs(y - from[1]) <= 4) return;\n    isMoved = true;\n    canvas.classList.add('drag');\
+\n    tip('', 0, 0);\n    moveView(view.left - (x - from[0]) / view.scale, view.scale, view.top - (y - from[1]));\n    from = [x, y];\n  });\n  cons\
+t end = event => {\n    canvas.classList.remove('drag');\n    if (from && !isMoved && event.type === 'pointerup') {\n      const strip = stripAtPoin\
+t(event.offsetX, event.offsetY);\n      select(strip ? strip.life.call : callAtPoint(event.offsetX, event.offsetY), false);\n      canvas.focus({ pr\
+eventScroll: true });\n    }\n    from = null;\n  };\n  canvas.addEventListener('pointerup', end);\n  canvas.addEventListener('pointercancel', end);\
+\n  canvas.addEventListener('pointerleave', () => {\n    hovered = null;\n    tip('', 0, 0);\n    draw();\n  });\n  canvas.addEventListener('wheel'\
+, turnWheel, { passive: false });\n}\nfunction hover(x, y, event) {\n  const call = callAtPoint(x, y);\n  const strip = call ? null : stripAtPoint(x\
+, y);\n  if (call !== hovered) draw();\n  hovered = call;\n  canvas.style.cursor = call || strip ? 'pointer' : '';\n  tip(call ? tipOf(call) : stri\
+p ? tipOfStrip(strip) : '', event.clientX, event.clientY);\n}\n// The wheel zooms; with Shift it moves, and with Alt it scrolls the lanes. Of one co\
+lumn it scrolls the page, unless Ctrl is held.\nfunction turnWheel(event) {\n  if (NARROW.matches && !event.ctrlKey && !event.shiftKey && !event.alt\
+Key) return;\n  event.preventDefault();\n  const by = (event.deltaMode ? 16 : 1) * (event.deltaX || event.deltaY);\n  const isAcross = event.shiftKe\
+y || Math.abs(event.deltaX) > Math.abs(event.deltaY);\n  if (isAcross) moveView(view.left + by / view.scale, view.scale);\n  else if (event.altKey) \
+moveView(view.left, view.scale, view.top + by);\n  else zoom(Math.exp(-by * 0.0022), event.offsetX);\n}\nfunction listenToOverview() {\n  let isDrag\
+ged = false;\n  const go = event => {\n    const box = overview.getBoundingClientRect();\n    const column = ((event.clientX - box.left) / box.width\
+) * columns;\n    moveView(column - plotWidth() / view.scale / 2, view.scale);\n  };\n  overview.onpointerdown = event => {\n    isDragged = true;\
+\n    overview.setPointerCapture(event.pointerId);\n    if (view.scale < leastScale() * 1.5 && columns > 80) view.scale = Math.min(26, leastScale() \
+* 8);\n    go(event);\n  };\n  overview.onpointermove = event => isDragged && go(event);\n  overview.onpointerup = overview.onpointercancel = () => \
+{\n    isDragged = false;\n  };\n}\n\nconst KEYS = {\n  ',': () => walk(-1),\n  '.': () => walk(1),\n  '+': () => zoom(1.4),\n  '=': () => zoom(1.4)\
+,\n  '-': () => zoom(1 / 1.4),\n  0: () => {\n    fitView();\n    draw();\n  },\n  f: showFault,\n  e: showFew,\n  a: showAll,\n  d: otherTheme,\n  \
+n: () => nextMatch(1),\n  N: () => nextMatch(-1),\n  '/': () => $('search').select(),\n  '?': () => showHelp(true),\n  Escape: () => (matches.lengt\
+h ? search('') : select(null)),\n};\nconst ARROWS = { ArrowRight: () => along(1), ArrowLeft: () => along(-1), ArrowDown: () => across(1), ArrowUp: (\
+) => across(-1) };\nfunction pressKey(event) {\n  if (event.ctrlKey || event.metaKey || event.altKey) return;\n  if (!$('help').hidden) {\n    if (e\
+vent.key === 'Escape' || event.key === '?') showHelp(false);\n    return;\n  }\n  if (event.target.tagName === 'INPUT' && event.target.type !== 'ran\
+ge') {\n    if (event.key === 'Escape') canvas.focus();\n    return;\n  }\n  const isFree = event.target === canvas || event.target === document.bod\
+y;\n  const act = KEYS[event.key] || KEYS[event.key.toLowerCase()] || (isFree && ARROWS[event.key]);\n  if (!act) return;\n  event.preventDefault();\
+\n  act();\n}\nfunction pressInTabs(event) {\n  const by = { ArrowRight: 1, ArrowLeft: -1 }[event.key];\n  if (!by) return;\n  pick(TABS[(TABS.index\
+Of(tab) + by + TABS.length) % TABS.length]);\n  $('to-' + tab).focus();\n  event.preventDefault();\n}\nfunction pressInList(event) {\n  const by = \
+{ ArrowDown: 1, ArrowUp: -1, PageDown: 15, PageUp: -15 }[event.key];\n  if (!by || !listed.length) return;\n  const place = selected ? listed.indexO\
+f(selected) + by : 0;\n  select(listed[Math.max(0, Math.min(listed.length - 1, place))]);\n  scrollTo(selected);\n  event.preventDefault();\n  event\
+.stopPropagation();\n}\nfunction pressInSearch(event) {\n  if (event.key === 'Escape') search('');\n  if (event.key !== 'Enter') return;\n  if ($('s\
+earch').value.trim() !== searched) searchNow();\n  nextMatch(event.shiftKey ? -1 : 1);\n}\nlet searchTimer = 0;\nlet searched = '';\nfunction search\
+Now() {\n  clearTimeout(searchTimer);\n  searched = $('search').value.trim();\n  search($('search').value);\n}\n\nfunction listenToButtons() {\n  co\
+nst actions = { 'show-few': showFew, 'show-all': showAll, 'show-fault': showFault, 'clear-filter': showAll, theme: otherTheme };\n  for (const [id, \
+act] of Object.entries(actions)) $(id).onclick = act;\n  for (const name of ['keys', 'processes']) $(name).oninput = () => filterBy(name);\n  for (c\
+onst name of TABS) $('to-' + name).onclick = () => pick(name);\n  $('to-why').parentNode.onkeydown = pressInTabs;\n  $('first').onclick = () => setS\
+tep(0);\n  $('back').onclick = () => walk(-1);\n  $('forward').onclick = () => walk(1);\n  $('last').onclick = () => setStep(order.length);\n  $('st\
+ep').oninput = () => {\n    setStep(Number($('step').value));\n    if (tab !== 'map') pick('map');\n  };\n  $('search').onkeydown = pressInSearch;\
+\n  $('search').oninput = () => {\n    clearTimeout(searchTimer);\n    searchTimer = setTimeout(searchNow, 120);\n  };\n  $('list').onscroll = rende\
+rRows;\n  $('list').onkeydown = pressInList;\n  $('show-help').onclick = () => showHelp(true);\n  $('close-help').onclick = () => showHelp(false);\
+\n  $('help').onclick = event => event.target === $('help') && showHelp(false);\n  document.addEventListener('keydown', pressKey);\n}\nfunction list\
+enToWindow() {\n  const dark = matchMedia('(prefers-color-scheme: dark)');\n  setTheme(dark.matches ? 'dark' : 'light');\n  dark.addEventListener('c\
+hange', () => setTheme(dark.matches ? 'dark' : 'light'));\n  addEventListener('hashchange', readLink);\n  new ResizeObserver(() => {\n    resize();\
+\n    if (filter.few) fitView();\n  }).observe($('stage'));\n  let before = null;\n  const print = on => {\n    printing = on;\n    if (on) before \
+= document.documentElement.dataset.theme;\n    setTheme(on ? 'light' : before);\n    canvas.style.width = on ? '100%' : '';\n    resize();\n    pain\
+t();\n  };\n  addEventListener('beforeprint', () => print(true));\n  addEventListener('afterprint', () => print(false));\n}\n\n// ---- The start ---\
+-\n\nconst NARROW = matchMedia('(max-width: 1000px)');\nfunction headline() {\n  if (wrong) return `Goes wrong at event ${wrong.to}: ${words(wrong, \
+90)} (call ${wrong.number} of process ${wrong.process})`;\n  if (verdict === 'yes') return order.length ? `One order of ${many(order.length, 'call')\
+} explains every response.` : 'No call has to have an order.';\n  if (verdict === 'no') return `The ${many(judged.calls.length, 'call')} at ${segmen\
+tWords} have no order.`;\n  if (few.length) return `${many(few.length, 'call')} of it have no order on their own. At which event it goes wrong is no\
+t known.`;\n  return locatedVerdict === 'yes' ? 'So says locate; judge is undecided.' : 'Its search met more states than the budget.';\n}\nfunction \
+renderHeader() {\n  $('badge').textContent = { yes: 'Linearizable', no: 'Not linearizable', undecided: 'Undecided' }[shownVerdict];\n  $('badge').cl\
+assName = shownVerdict;\n  $('headline').textContent = headline();\n  const counts = [many(calls.length, 'call'), many(processes.length, 'process')\
+, many(keys.length, 'key')];\n  $('facts').textContent = [...counts, 'overlap ' + overlap].join(' · ');\n  document.title = `${$('badge').textConten\
+t} · ${counts[0]} · Potzendai`;\n  for (const kind of KINDS.filter(it => calls.some(call => call.kind === it))) {\n    const mark = el('i', { class\
+: 'mark-' + kind });\n    $('kinds').append(button([mark, kind], () => toggleKind(kind), { class: 'kind', 'data-kind': kind }));\n  }\n  $('step').m\
+ax = order.length;\n  for (const id of ['step', 'first', 'back', 'forward', 'last']) $(id).disabled = !order.length;\n  $('show-few').disabled = !ex\
+plaining.size;\n  $('show-fault').disabled = !wrong && !few.length;\n}\n\nrenderHeader();\nlistenToButtons();\nlistenToCanvas();\nlistenToOverview()\
+;\nlistenToWindow();\nresize();\nrefilter();\nrenderWhy();\nsetStep(order.length, false);\npick('why');\nreadLink();\nisStarted = true;\n</script>\
+\n  </body>\n</html>\n";

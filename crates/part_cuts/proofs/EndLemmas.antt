@@ -1,18 +1,10 @@
 -- The first answer of the calls that are left, and whether keys are tied to others, call by call.
-use Rattle.std.proofs.Common.{◌≡◌, ℕ, ◌+◌, ◌<◌, ◌≤◌, Bool, true, false, List, length, get_or, Option, Some, None, Vec, Global, inl, inr, refl, sym, ap, ◌∙◌, subst, ⊎_elim, arith}
-use Rattle.std.specs.Prelude.{◌⊎◌, All, AllPairs, Contains, IfSome, MatchOption, slice_get}
-use Rattle.std.proofs.lemmas.Bool.{le-ltb, cases_lt, both_ways}
-use Rattle.std.proofs.lemmas.Option.{same_Some, slice_get_within}
-use Rattle.list_laws.proofs.Lists.{All-at, All-from_contains, AllPairs-at}
-use Rattle.events.specs.declared.operation.Operation.{Operation}
-use Rattle.events.specs.declared.operation.Response.{Response}
-use Rattle.events.specs.Precedence.{is_before, NonePrecedesItself, precedes}
-use Rattle.map_object.specs.MapObject.{Contents}
-use Rattle.key_effects.specs.KeyedCalls.{concerns_key, place_of}
-use Rattle.part_cuts.specs.Positions.{left_of, IsLeftAt, IsFirstEnded, EndsFirst, DoesNotTie, AreBranchKeys, IsBranching, HasBranchKey, IsBranchAt, MayComeAt, IsReadAt, kept_at}
-use Rattle.part_cuts.specs.declared.branching.Branching.{Branching}
-use Rattle.part_cuts.specs.declared.position.Position.{Position}
-use Rattle.quiet_cuts.specs.Replies.{IsRead}
+use Rattle.part_cuts.proofs.Common.{◌≡◌, ℕ, ◌+◌, ◌<◌, ◌≤◌, Bool, true, false, List, length, get_or, Option, Some, None, Vec, Global, inl, inr, refl}
+use Rattle.part_cuts.proofs.Common.{sym, ap, ◌∙◌, subst, ⊎_elim, arith, ◌⊎◌, All, AllPairs, Contains, IfSome, MatchOption, slice_get, le-ltb}
+use Rattle.part_cuts.proofs.Common.{cases_lt, both_ways, same_Some, slice_get_within, All-at, All-from_contains, AllPairs-at, Operation, Response}
+use Rattle.part_cuts.proofs.Common.{is_before, NonePrecedesItself, precedes, Contents, concerns_key, place_of, left_of, IsLeftAt, IsFirstEnded}
+use Rattle.part_cuts.proofs.Common.{EndsFirst, DoesNotTie, AreBranchKeys, IsBranching, HasBranchKey, IsBranchAt, MayComeAt, IsReadAt, kept_at}
+use Rattle.part_cuts.proofs.Common.{Branching, Position, IsRead}
 use Rattle.part_cuts.proofs.LeftLemmas.{left_there, left_in}
 use Rattle.part_cuts.proofs.StepLemmas.{before_less}
 
@@ -75,7 +67,7 @@ ends_take calls taken moment size earliest first a answered is_left answer less 
   is = record { call = a; is_left = is_left; answer = answer; early = omega (arith, less, so_far.within); same = refl };
 }
 
--- where all others are late, the answer is known
+-- if all others are late, the answer is known
 ends_are : (calls : List Operation) (taken : List Bool) (moment size earliest : ℕ) (first : Option (ℕ × ℕ))
     → ((n : ℕ) (o : Operation) → size ≤ n → IsLeftAt calls taken n o → is_before o.response earliest ≡ false)
     → EndsSoFar calls taken moment size earliest first

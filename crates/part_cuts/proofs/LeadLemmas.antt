@@ -1,16 +1,11 @@
--- Lists of pasts that stand in place of others.
-use Rattle.std.proofs.Common.{ℕ, List, [], ◌∷◌, ◌++◌, refl, sym, ◌∙◌, subst, ⊎_elim, append_assoc, append-nil}
-use Rattle.std.specs.Prelude.{Contains}
-use Rattle.std.proofs.lemmas.List.Elements.{All-contains, Contains-append_left, Contains-append_right, Contains-append_cases}
-use Rattle.list_laws.proofs.Lists.{All-from_contains, Contains-first, Contains-later, Contains-nil, Contains-cases, Contains-at, place_of-Contains}
+-- Lists of pasts that replace others.
+use Rattle.part_cuts.proofs.Common.{ℕ, List, [], ◌∷◌, ◌++◌, refl, sym, ◌∙◌, subst, ⊎_elim, append_assoc, append-nil, Contains, All-contains}
+use Rattle.part_cuts.proofs.Common.{Contains-append_left, Contains-append_right, Contains-append_cases, All-from_contains, Contains-first}
+use Rattle.part_cuts.proofs.Common.{Contains-later, Contains-nil, Contains-cases, Contains-at, place_of-Contains, Choice, StandFor, KeptPast, IsPast}
+use Rattle.part_cuts.proofs.Common.{ArePasts, AreKeptAlike, OpenReadsBeganAfter, Setting, Stand, Leads, Becomes, AreEnough}
 use Rattle.list_laws.proofs.ZipLemmas.{zip_left, zip_right}
-use Rattle.key_effects.specs.Choices.{Choice}
-use Rattle.key_parts.specs.Parts.{StandFor}
-use Rattle.kept_pasts.specs.Pasts.{KeptPast, IsPast, ArePasts, AreKeptAlike, OpenReadsBeganAfter}
 use Rattle.kept_pasts.proofs.AlikeLemmas.{alike_pasts_go}
 use Rattle.kept_pasts.proofs.DropLemmas.{pasts_in_any_order}
-use Rattle.kept_pasts.specs.Leads.{Setting, Stand, Leads}
-use Rattle.part_cuts.specs.PartCuts.{Becomes, AreEnough}
 
 -- ---- kept alike
 
@@ -77,7 +72,7 @@ enough_turned kept others = enough_of_same (kept ++ others) (others ++ kept) (tu
         (λ r. Contains-append_left others kept a r)
         (Contains-append_cases kept others a a_in)
 
--- ---- some that are enough stand
+-- ---- some that are enough represent the calls
 
 module _ (moment : ℕ) (s : Setting) where
   abbrev StandFrom : List Choice → Type 0

@@ -1,21 +1,13 @@
 -- The calls that are left, by their places, and after one more is taken.
-use Rattle.std.proofs.Common.{◌≡◌, ◌≢◌, ℕ, zero, suc, ◌<◌, Bool, true, false, not, ◌==◌, List, [], ◌∷◌, length, map, get_or, set, Option, Some, None, inl, inr, refl, sym, ap, ◌∙◌, subst, ⊎_elim, arith, eq-eqb}
-use Rattle.std.specs.Prelude.{◌⊎◌, All, AllPairs, Contains, slice_get}
-use Rattle.std.proofs.lemmas.Bool.{cases_eq, eqb-true, false≢true, false_from_ne_true, ne_eqb}
-use Rattle.std.proofs.lemmas.Option.{same_Some, none-some}
-use Rattle.std.proofs.lemmas.List.Elements.{All-contains, Contains-append_left, Contains-append_right, Contains-append_cases}
-use Rattle.list_laws.proofs.Lists.{All-at, All-from_contains, AllPairs-head, AllPairs-tail, Contains-first, Contains-later, Contains-nil, Contains-cases, Contains-at, Contains-filter, Contains-from_filter, place_of-Contains, filter_all}
-use Rattle.events.specs.declared.operation.Operation.{Operation}
-use Rattle.events.specs.declared.operation.Response.{Response}
-use Rattle.events.specs.Keys.{low_key}
-use Rattle.map_object.specs.MapObject.{Contents}
+use Rattle.part_cuts.proofs.Common.{◌≡◌, ◌≢◌, ℕ, zero, suc, ◌<◌, Bool, true, false, not, ◌==◌, List, [], ◌∷◌, length, map, get_or, set, Option, Some}
+use Rattle.part_cuts.proofs.Common.{None, inl, inr, refl, sym, ap, ◌∙◌, subst, ⊎_elim, arith, eq-eqb, ◌⊎◌, All, AllPairs, Contains, slice_get}
+use Rattle.part_cuts.proofs.Common.{cases_eq, false≢true, false_from_ne_true, ne_eqb, same_Some, none-some, All-contains, Contains-append_left}
+use Rattle.part_cuts.proofs.Common.{Contains-append_right, Contains-append_cases, All-at, All-from_contains, AllPairs-head, AllPairs-tail}
+use Rattle.part_cuts.proofs.Common.{Contains-first, Contains-later, Contains-nil, Contains-cases, Contains-at, Contains-filter, Contains-from_filter}
+use Rattle.part_cuts.proofs.Common.{place_of-Contains, filter_all, Operation, Response, low_key, Contents, without_call, FoundAt, KeptPast}
+use Rattle.part_cuts.proofs.Common.{IsPastAfter, found_by, IsMadeOf, found_at, left_of, IsLeftAt, kept_at, IsAfterTaking, Position}
+use Rattle.std.proofs.lemmas.Bool.{eqb-true}
 use Rattle.quiet_cuts.proofs.SetLemmas.{same_call}
-use Rattle.key_parts.specs.Operations.{without_call}
-use Rattle.kept_pasts.specs.Pasts.{FoundAt, KeptPast, IsPastAfter, found_by}
-use Rattle.kept_pasts.specs.Leads.{IsMadeOf}
-use Rattle.part_cuts.specs.PartCuts.{found_at}
-use Rattle.part_cuts.specs.Positions.{left_of, IsLeftAt, kept_at, IsAfterTaking}
-use Rattle.part_cuts.specs.declared.position.Position.{Position}
 
 pub left_there : (calls : List Operation) (taken : List Bool) (o : Operation) → Contains (left_of calls taken) o
     → (n : ℕ) × IsLeftAt calls taken n o
@@ -90,7 +82,7 @@ past_after calls n o old new rising within here free after = record {
 
 -- ---- what a past is made of
 
--- it was found before, or by a pending call that was left
+-- what was found was found before, or by a pending call that was left
 abbrev WasFound : KeptPast → FoundAt → Type 0
 WasFound past f = Contains past.found f ⊎ ((o : Operation) × Contains past.left o × (o.inv ≡ f.inv) × (o.response ≡ None))
 

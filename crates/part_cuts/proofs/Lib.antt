@@ -1,3 +1,4 @@
+mod Common
 mod ReadLemmas
 mod LeftLemmas
 mod LeadLemmas
@@ -5,3 +6,4 @@ mod StepLemmas
 mod EndLemmas
 mod WalkLemmas
 mod MadeLemmas
+mod AloneLemmas

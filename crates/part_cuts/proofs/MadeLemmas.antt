@@ -1,25 +1,15 @@
 -- The pasts that walks begin at and come to.
-use Rattle.std.proofs.Common.{◌≡◌, ℕ, zero, suc, ◌+◌, ◌<◌, ◌≤◌, Bool, true, false, cond, List, [], ◌∷◌, ◌++◌, length, map, take, get_or, Option, Some, None, refl, sym, ap, ◌∙◌, subst, ⊎_elim, arith, add-one}
-use Rattle.std.specs.Prelude.{All, AllPairs, Any, Contains, IsSomeAnd, slice_get}
-use Rattle.std.proofs.lemmas.Bool.{false≢true}
-use Rattle.std.proofs.lemmas.List.{map-append, map_push, take_more, take_all}
-use Rattle.std.proofs.lemmas.Option.{same_Some, none-some, slice_get_within, get_or_from_slice_get}
-use Rattle.std.proofs.lemmas.List.Elements.{All-nil, All-head, All-tail, All-push, All-contains, Contains-append_left, Contains-push_cases}
+use Rattle.part_cuts.proofs.Common.{◌≡◌, ℕ, zero, suc, ◌+◌, ◌<◌, ◌≤◌, Bool, true, false, cond, List, [], ◌∷◌, ◌++◌, length, map, take, get_or, Option}
+use Rattle.part_cuts.proofs.Common.{Some, None, refl, sym, ap, ◌∙◌, subst, ⊎_elim, arith, add-one, All, AllPairs, Any, Contains, IsSomeAnd, slice_get}
+use Rattle.part_cuts.proofs.Common.{false≢true, map-append, map_push, take_more, take_all, same_Some, none-some, slice_get_within}
+use Rattle.part_cuts.proofs.Common.{get_or_from_slice_get, All-nil, All-head, All-tail, All-push, All-contains, Contains-append_left}
+use Rattle.part_cuts.proofs.Common.{Contains-push_cases, Contains-map, Contains-from_map, All-at, All-from_contains, AllPairs-nil, AllPairs-head}
+use Rattle.part_cuts.proofs.Common.{AllPairs-tail, Contains-at, Operation, precedes, NonePrecedesItself, Contents, KeptPast, FoundAt, AreKeptAlike}
+use Rattle.part_cuts.proofs.Common.{HasInvocation, Leads, IsMadeOf, found_at, kept_of, AreShaped, Becomes, AreEnough, IsCutAt, IsMade, left_of}
+use Rattle.part_cuts.proofs.Common.{kept_at, kept_in, IsFrom, IsWalkFrom, IsAtStart, AreEnded, HaveGoneOn, IsPastAt, AreMadeOf, Found, Past, Position}
 use Rattle.std.proofs.lemmas.List.Kept.{AllPairs-cons}
-use Rattle.list_laws.proofs.FilterLemmas.{Contains-map, Contains-from_map}
-use Rattle.list_laws.proofs.Lists.{All-at, All-from_contains, AllPairs-nil, AllPairs-head, AllPairs-tail, Contains-at}
-use Rattle.events.specs.declared.operation.Operation.{Operation}
-use Rattle.events.specs.Precedence.{precedes, NonePrecedesItself}
-use Rattle.map_object.specs.MapObject.{Contents}
-use Rattle.kept_pasts.specs.Pasts.{KeptPast, FoundAt, AreKeptAlike, HasInvocation}
-use Rattle.kept_pasts.specs.Leads.{Leads, IsMadeOf}
-use Rattle.part_cuts.specs.PartCuts.{found_at, kept_of, AreShaped, Becomes, AreEnough, IsCutAt, IsMade}
-use Rattle.part_cuts.specs.Positions.{left_of, kept_at, kept_in, IsFrom, IsWalkFrom, IsAtStart, AreEnded, HaveGoneOn, IsPastAt, AreMadeOf}
 use Rattle.part_cuts.specs.declared.cut.Cut.{Cut}
 use Rattle.part_cuts.specs.declared.cut.Cut.TheVariants.{Pasts, Spent}
-use Rattle.part_cuts.specs.declared.past.Found.{Found}
-use Rattle.part_cuts.specs.declared.past.Past.{Past}
-use Rattle.part_cuts.specs.declared.position.Position.{Position}
 use Rattle.part_cuts.proofs.LeftLemmas.{left_in_calls, made_itself}
 use Rattle.part_cuts.proofs.LeadLemmas.{enough_all, enough_both, enough_become, becomes_then, becomes_leads}
 use Rattle.part_cuts.proofs.WalkLemmas.{kept_here, kept_from, from_here}
@@ -119,7 +109,7 @@ left_push calls taken n o left more same here mark pushed is =
     next ∙ ap (λ (b : Bool). left_of (take n calls) (take n taken) ++ cond b [] (o ∷ [])) mark in
     rw add-one (pushed ∙ (ap (λ (l : List Operation). l ++ o ∷ []) is ∙ sym stays))
 
--- what is left stands as it stood
+-- what is left keeps its order
 left_rises : (calls : List Operation) (taken : List Bool) → AllPairs (λ a b. a.inv < b.inv) calls → AllPairs (λ a b. a.inv < b.inv) (left_of calls taken)
 left_rises [] taken rising = AllPairs-nil (λ (a b : Operation). a.inv < b.inv)
 left_rises (c ∷ calls) [] rising = rising

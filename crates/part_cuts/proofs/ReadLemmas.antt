@@ -1,17 +1,12 @@
 -- A read leaves each key as it is.
 use Rattle.events.specs.declared.event.Reply.TheVariants as replies
-use Rattle.std.proofs.Common.{◌≡◌, ℕ, Bool, true, false, not, ◌==◌, ◌||◌, ◌&&◌, cond, Option, Some, None, refl, sym, ap, ◌∙◌, eqb-true, eq-eqb}
-use Rattle.std.specs.Prelude.{nat_le, IsSomeAnd}
-use Rattle.std.proofs.lemmas.Bool.{false≢true, not-true}
-use Rattle.events.specs.declared.event.Call.{Call}
-use Rattle.events.specs.declared.event.Call.TheVariants.{Get, Insert, Remove, Scan, Replace}
+use Rattle.part_cuts.proofs.Common.{◌≡◌, ℕ, Bool, true, false, not, ◌==◌, ◌||◌, ◌&&◌, cond, Option, Some, None, refl, sym, ap, ◌∙◌, eqb-true, eq-eqb}
+use Rattle.part_cuts.proofs.Common.{nat_le, IsSomeAnd, false≢true, not-true, Call, Get, Insert, Remove, Scan, Replace, Operation, Response, value_at}
+use Rattle.part_cuts.proofs.Common.{is_just, value_reply, is_none_or_other, says_unchanged, no_effect, is_answer, point_effect, told_effect}
+use Rattle.part_cuts.proofs.Common.{effect_at, effect_of_key, read_of, keyed}
 use Rattle.events.specs.declared.event.Reply.{Reply}
-use Rattle.events.specs.declared.operation.Operation.{Operation}
-use Rattle.events.specs.declared.operation.Response.{Response}
-use Rattle.map_object.specs.MapObject.{value_at, is_just, value_reply, is_none_or_other}
-use Rattle.quiet_cuts.specs.Replies.{says_unchanged, IsRead as IsQuietCall}
+use Rattle.quiet_cuts.specs.Replies.{IsRead as IsQuietCall}
 use Rattle.quiet_cuts.specs.Values.{value_behind, value_behind_reply}
-use Rattle.key_effects.specs.KeyedCalls.{no_effect, is_answer, point_effect, told_effect, effect_at, effect_of_key, read_of, keyed}
 use Rattle.key_effects.specs.Apart.{IsRead}
 
 just_is : (value : Option ℕ) (told : ℕ) → is_just value told ≡ true → value ≡ Some told

@@ -1,34 +1,21 @@
 -- Steps of a walk: a past becomes those after each call that may come next, or the one after a read.
-use Rattle.std.proofs.Common.{◌≡◌, ℕ, ◌+◌, ◌<◌, ◌≤◌, Bool, true, false, not, ◌&&◌, ◌||◌, ◌==◌, List, [], ◌∷◌, ◌++◌, Option, Some, None, Vec, Global, inl, inr, refl, sym, subst, ⊎_elim, arith, eq-eqb, eqb-true, ap, ◌∙◌}
-use Rattle.std.specs.Prelude.{Contains, IfSome, is_some, nat_le, All}
+use Rattle.part_cuts.proofs.Common.{◌≡◌, ℕ, ◌+◌, ◌<◌, ◌≤◌, Bool, true, false, not, ◌&&◌, ◌||◌, ◌==◌, List, [], ◌∷◌, ◌++◌, Option, Some, None, Vec}
+use Rattle.part_cuts.proofs.Common.{Global, inl, inr, refl, sym, subst, ⊎_elim, arith, eq-eqb, eqb-true, ap, ◌∙◌, Contains, IfSome, is_some, nat_le}
+use Rattle.part_cuts.proofs.Common.{All, and_parts, and_from, or_left, or_right, or_cases, false≢true, ltb-false, le-ltb, leb-true, same_Some}
+use Rattle.part_cuts.proofs.Common.{none-some, All-contains, All-append, All-cons, All-head, All-tail, All-from_contains, Contains-nil}
+use Rattle.part_cuts.proofs.Common.{Contains-first, Contains-later, Contains-cases, Contains-filter, Operation, Response, is_before, IsRead, place_of}
+use Rattle.part_cuts.proofs.Common.{KeyedCall, concerns_key, is_completed, Choice, StandFor, HasSomeKeyIn, OperationMayCome, KeptPast, IsPast}
+use Rattle.part_cuts.proofs.Common.{IsPastAfter, OpenReadsBeganAfter, FoundAt, IsNameKept, found_by, Setting, Stand, EndsFirst, HasSomeOf}
+use Rattle.part_cuts.proofs.Common.{AreBranchKeys, IsBranching, IsNextAt, AreNexts, BecomesAfter, Branching, Call, Get, Insert, Remove, Scan, Replace}
+use Rattle.part_cuts.proofs.Common.{low_key, high_key, value_at}
 use Rattle.std.specs.List.{AllZip}
-use Rattle.std.proofs.lemmas.Bool.{and_parts, and_from, or_left, or_right, or_cases, false≢true, ltb-false, le-ltb, leb-true}
-use Rattle.std.proofs.lemmas.Option.{same_Some, none-some}
-use Rattle.std.proofs.lemmas.List.Elements.{All-contains, All-append, All-cons, All-head, All-tail}
-use Rattle.list_laws.proofs.Lists.{All-from_contains, Contains-nil, Contains-first, Contains-later, Contains-cases, Contains-filter}
-use Rattle.events.specs.declared.operation.Operation.{Operation}
-use Rattle.events.specs.declared.operation.Response.{Response}
-use Rattle.events.specs.Precedence.{is_before}
-use Rattle.quiet_cuts.specs.Replies.{IsRead}
 use Rattle.quiet_cuts.proofs.ReplyLemmas.{read_completed}
-use Rattle.key_effects.specs.KeyedCalls.{place_of, KeyedCall, concerns_key, is_completed}
-use Rattle.key_effects.specs.Choices.{Choice}
 use Rattle.key_effects.specs.Cuts.{Keys}
-use Rattle.key_parts.specs.Parts.{StandFor}
-use Rattle.key_parts.specs.Operations.{HasSomeKeyIn, OperationMayCome}
 use Rattle.key_parts.specs.Left.{HasKeysIn}
-use Rattle.kept_pasts.specs.Pasts.{KeptPast, IsPast, IsPastAfter, OpenReadsBeganAfter, FoundAt, IsNameKept, found_by}
 use Rattle.kept_pasts.specs.Cuts.{AreOwnOrBarredBy}
 use Rattle.kept_pasts.proofs.BarredLemmas.{unbarred_pasts_come_next}
 use Rattle.kept_pasts.proofs.NextLemmas.{reads_of_pasts_come_next}
-use Rattle.kept_pasts.specs.Leads.{Setting, Stand}
-use Rattle.part_cuts.specs.Positions.{EndsFirst, HasSomeOf, AreBranchKeys, IsBranching, IsNextAt, AreNexts, BecomesAfter}
-use Rattle.part_cuts.specs.declared.branching.Branching.{Branching}
 use Rattle.part_cuts.proofs.ReadLemmas.{quiet_read}
-use Rattle.events.specs.declared.event.Call.{Call}
-use Rattle.events.specs.declared.event.Call.TheVariants.{Get, Insert, Remove, Scan, Replace}
-use Rattle.events.specs.Keys.{low_key, high_key}
-use Rattle.map_object.specs.MapObject.{value_at}
 use Rattle.key_effects.specs.KeyedOrders.{AreKeyedCalls}
 use Rattle.key_effects.proofs.OrderLemmas.{same_call}
 

@@ -1,29 +1,19 @@
--- Walks: what becomes of the pasts where they stand.
-use Rattle.std.proofs.Common.{◌≡◌, ℕ, ◌+◌, ◌<◌, ◌≤◌, Bool, true, false, List, [], ◌∷◌, ◌++◌, length, map, get_or, Option, Some, None, inl, inr, refl, sym, ap, ◌∙◌, subst, ⊎_elim, arith, append_assoc, append-nil}
-use Rattle.std.specs.Prelude.{All, AllPairs, Contains, slice_get, IsSomeAnd}
-use Rattle.std.proofs.lemmas.List.{map-append, map_push, length-set}
-use Rattle.std.proofs.lemmas.Bool.{cases_lt}
-use Rattle.std.proofs.lemmas.Option.{same_Some, slice_get_within}
-use Rattle.std.proofs.lemmas.List.Elements.{All-nil, All-tail, All-push, Contains-append_left, Contains-push, Contains-push_cases}
-use Rattle.list_laws.proofs.FilterLemmas.{Contains-map, Contains-from_map}
-use Rattle.list_laws.proofs.Lists.{Contains-nil}
-use Rattle.events.specs.declared.operation.Operation.{Operation}
-use Rattle.events.specs.Precedence.{is_before}
-use Rattle.map_object.specs.MapObject.{Contents}
-use Rattle.quiet_cuts.specs.Replies.{IsRead}
-use Rattle.kept_pasts.specs.Pasts.{KeptPast, IsPastAfter, AreKeptAlike, HasInvocation}
-use Rattle.part_cuts.specs.PartCuts.{found_at, kept_of, Becomes, AreEnough, IsCutAt}
-use Rattle.part_cuts.specs.Positions.{left_of, kept_at, calls_of, kept_in, IsFrom, IsWalkFrom, IsCopy, IsAfterTaking, ArePositionsAlike, IsAdded, IsFirstEnded, IsFirstEndedIn, IsBranching, IsBranchAt, IsNextAt, MayComeAt, IsReadAt, AreNexts, BecomesAfter, AreAdded, AreEnded, HaveGoneOn}
-use Rattle.part_cuts.specs.declared.past.Found.{Found}
-use Rattle.part_cuts.specs.declared.past.Past.{Past}
-use Rattle.part_cuts.specs.declared.position.Position.{Position}
-use Rattle.part_cuts.specs.declared.branching.Branching.{Branching}
+-- Walks: what becomes of their pasts.
+use Rattle.part_cuts.proofs.Common.{◌≡◌, ℕ, ◌+◌, ◌<◌, ◌≤◌, Bool, true, false, List, [], ◌∷◌, ◌++◌, length, map, get_or, Option, Some, None, inl, inr}
+use Rattle.part_cuts.proofs.Common.{refl, sym, ap, ◌∙◌, subst, ⊎_elim, arith, append_assoc, append-nil, All, AllPairs, Contains, slice_get, IsSomeAnd}
+use Rattle.part_cuts.proofs.Common.{map-append, map_push, length-set, cases_lt, same_Some, slice_get_within, All-nil, All-tail, All-push}
+use Rattle.part_cuts.proofs.Common.{Contains-append_left, Contains-push, Contains-push_cases, Contains-map, Contains-from_map, Contains-nil}
+use Rattle.part_cuts.proofs.Common.{Operation, is_before, Contents, IsRead, KeptPast, IsPastAfter, AreKeptAlike, HasInvocation, found_at, kept_of}
+use Rattle.part_cuts.proofs.Common.{Becomes, AreEnough, IsCutAt, left_of, kept_at, calls_of, kept_in, IsFrom, IsWalkFrom, IsCopy, IsAfterTaking}
+use Rattle.part_cuts.proofs.Common.{ArePositionsAlike, IsAdded, IsFirstEnded, IsFirstEndedIn, IsBranching, IsBranchAt, IsNextAt, MayComeAt, IsReadAt}
+use Rattle.part_cuts.proofs.Common.{AreNexts, BecomesAfter, AreAdded, AreEnded, HaveGoneOn, Found, Past, Position, Branching}
 use Rattle.part_cuts.proofs.LeftLemmas.{left_there, left_in, past_after, made_after}
-use Rattle.part_cuts.proofs.LeadLemmas.{enough_all, enough_through, enough_both, enough_without, enough_turned, enough_become, becomes_itself, becomes_then, becomes_both}
+use Rattle.part_cuts.proofs.LeadLemmas.{enough_all, enough_through, enough_both, enough_without, enough_turned, enough_become, becomes_itself}
+use Rattle.part_cuts.proofs.LeadLemmas.{becomes_then, becomes_both}
 use Rattle.part_cuts.proofs.StepLemmas.{branch_becomes, read_becomes}
 use Rattle.part_cuts.proofs.EndLemmas.{last_or_before, ends_first}
 
--- ---- where a walk stands
+-- ---- the position of a walk
 
 pub kept_here : (pasts : List Past) (past : Past) (position : Position) → slice_get pasts position.base ≡ Some past
     → kept_in pasts position ≡ kept_at past.calls.items position
@@ -218,7 +208,7 @@ branched_take pasts past b position copy after o size old new newer here rising 
       made_of = made_after (kept_of past) (kept_at past.calls.items position) (kept_at past.calls.items after) o rising walk.made_of o_next.is_left comes_here;
     }
 
--- the same by the calls of the past as they are read
+-- the pasts after one more call, by the calls of the past as they are read
 pub branched_more : (pasts : List Past) (past : Past) (calls : List Operation) (b : Branching) (position copy after : Position) (o : Operation)
     (size : ℕ) (old new newer : List Position) → calls ≡ past.calls.items → slice_get pasts position.base ≡ Some past
     → AllPairs (λ a b. a.inv < b.inv) past.calls.items → IsFrom pasts position → slice_get calls size ≡ Some o
@@ -296,7 +286,7 @@ way_read pasts past moment first answered start now new place o there rising is_
     comes : IsPastAfter (kept_at past.calls.items now) o (kept_at past.calls.items new)
     comes = past_after past.calls.items place o now new rising within at is_read.may.is_left.free is_after
 
--- the same by the calls and marks as they are read
+-- a walk goes on by reads, by the calls and marks as they are read
 pub way_marks : (pasts : List Past) (past : Past) (moment : ℕ) (calls : List Operation) (start now : Position) → calls ≡ past.calls.items
     → slice_get pasts start.base ≡ Some past → IsOnTheWay pasts moment start now → length now.taken.items ≡ length calls
 way_marks pasts past moment calls start now same there way =
@@ -327,7 +317,7 @@ module _ (pasts : List Past) (moment : ℕ) (start : Position) (next ended : Lis
   abbrev E : List KeptPast
   E = map (kept_in pasts) ended
 
-  -- what a walk becomes stands beside the others
+  -- what a walk becomes is added to the others
   beside : (some nexts : List KeptPast) → Becomes moment (kept_in pasts start ∷ []) some → Becomes moment (some ++ (N ++ E)) nexts
       → Becomes moment (map (kept_in pasts) (start ∷ next ++ ended)) nexts
   beside some nexts first second =

@@ -15,11 +15,11 @@ found_at f = record { inv = f.inv; key = f.key; value = f.value }
 abbrev pub kept_of : Past → KeptPast
 kept_of past = record { pairs = past.map; left = past.calls.items; found = map found_at past.found.items }
 
--- the calls of pasts stand by rising invocation, and none precedes itself
+-- the calls of pasts are sorted by invocation, and none precedes itself
 abbrev pub AreShaped : List Past → Type 0
 AreShaped pasts = All (λ past. AllPairs (λ a b. a.inv < b.inv) past.calls.items × NonePrecedesItself past.calls.items) pasts
 
--- so they do among further ones
+-- at the moment, these pasts may replace those, among any further ones
 abbrev pub Becomes : ℕ → List KeptPast → List KeptPast → Type 0
 Becomes moment kept nexts = (others : List KeptPast) → Leads moment (kept ++ others) (nexts ++ others)
 
@@ -32,7 +32,8 @@ pub record AreEnough (kept some : List KeptPast) : Type 0 where
 abbrev pub IsCutAt : ℕ → KeptPast → Type 0
 IsCutAt moment kept = All (λ o. is_before o.response moment ≡ false) kept.left
 
--- pasts at the moment, which stand in place of the others: each is made of one of these, with nothing left that ended before the moment
+-- pasts at the moment, which replace the others: each is made of one of these, with nothing left
+-- that ended before the moment
 pub record AreCut (moment most : ℕ) (pasts made : List Past) : Type 0 where
   pub leads : Leads moment (map kept_of pasts) (map kept_of made)
   pub made_of : All (λ next. Any (λ past. IsMadeOf past next) (map kept_of pasts)) (map kept_of made)

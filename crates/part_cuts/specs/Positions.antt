@@ -1,4 +1,4 @@
--- Where walks from pasts stand, as pasts that are kept.
+-- How far walks from pasts have come, as pasts that are kept.
 use Rattle.std.specs.Prelude.{◌≡◌, ◌⊎◌, ◌↔◌, ℕ, ◌<◌, ◌≤◌, Bool, true, false, List, [], ◌∷◌, ◌++◌, length, map, Option, Some, None, slice_get, slice_index_or, slice_set, All, Contains, IfSome, IsSomeAnd, ⊤}
 use Rattle.events.specs.declared.operation.Operation.{Operation}
 use Rattle.map_object.specs.MapObject.{Contents, value_at}
@@ -28,7 +28,7 @@ pub record IsLeftAt (calls : List Operation) (taken : List Bool) (n : ℕ) (o : 
   pub here : slice_get calls n ≡ Some o
   pub free : slice_index_or taken n false ≡ false
 
--- what is kept of a past where a walk from calls stands
+-- what is kept of a past at a position of a walk from some calls
 abbrev pub kept_at : List Operation → Position → KeptPast
 kept_at calls position =
     record { pairs = position.map; left = left_of calls position.taken.items; found = map found_at position.found.items }
@@ -37,11 +37,11 @@ abbrev pub calls_of : Option Past → List Operation
 calls_of None = []
 calls_of (Some past) = past.calls.items
 
--- where a walk from one of the pasts stands
+-- what is kept of one of the pasts at a position of a walk
 abbrev pub kept_in : List Past → Position → KeptPast
 kept_in pasts position = kept_at (calls_of (slice_get pasts position.base)) position
 
--- a walk from a past: where it stands is made of this past
+-- a walk from a past: its position is made of this past
 pub record IsWalkFrom (past : Past) (position : Position) : Type 0 where
   pub marks : length position.taken.items ≡ length past.calls.items
   pub made_of : IsMadeOf (kept_of past) (kept_at past.calls.items position)
@@ -58,7 +58,7 @@ pub record IsAtStart (n : ℕ) (past : Past) (position : Position) : Type 0 wher
   pub none : All (λ mark. mark ≡ false) position.taken.items
   pub found : position.found.items ≡ past.found.items
 
--- the same position, made again
+-- a copy of a position
 pub record IsCopy (position copy : Position) : Type 0 where
   pub base : copy.base ≡ position.base
   pub pairs : copy.map ≡ position.map
@@ -90,14 +90,14 @@ pub record EndsFirst (answered : ℕ) (left : List Operation) (ended : Operation
   pub answer : place_of ended.response ≡ Some answered
   pub first : (o : Operation) → Contains left o → is_before o.response answered ≡ false
 
--- by its place
+-- the call at this place ended first among those that are left
 pub record IsFirstEnded (calls : List Operation) (taken : List Bool) (place answered : ℕ) : Type 0 where
   pub call : Operation
   pub is_left : IsLeftAt calls taken place call
   pub answer : place_of call.response ≡ Some answered
   pub first : (n : ℕ) (o : Operation) → IsLeftAt calls taken n o → is_before o.response answered ≡ false
 
--- of the calls of the past that a walk began at
+-- the first call that ended, and when, among those of the past that a walk began at
 abbrev pub IsFirstEndedIn : List Past → Position → ℕ → ℕ → Type 0
 IsFirstEndedIn pasts position place answered =
     IsFirstEnded (calls_of (slice_get pasts position.base)) position.taken.items place answered
@@ -143,19 +143,19 @@ pub record IsNextAt (answered : ℕ) (kept : KeptPast) (o : Operation) : Type 0 
   pub early : o.inv ≤ answered
   pub legal : IsLegalCall kept.pairs o.call o.response
 
--- the call at a place may
+-- the call at a place may come next
 pub record MayComeAt (answered : ℕ) (calls : List Operation) (position : Position) (place : ℕ) : Type 0 where
   pub call : Operation
   pub is_left : IsLeftAt calls position.taken.items place call
   pub early : call.inv ≤ answered
   pub legal : IsLegalCall position.map call.call call.response
 
--- and is a read
+-- the call at a place may come next, and is a read
 pub record IsReadAt (answered : ℕ) (calls : List Operation) (position : Position) (place : ℕ) : Type 0 where
   pub may : MayComeAt answered calls position place
   pub quiet : IsRead may.call
 
--- or has some of the keys at which a walk branches
+-- the call at a place may come next, and has some of the keys at which a walk branches
 pub record IsBranchAt (b : Branching) (calls : List Operation) (position : Position) (place : ℕ) : Type 0 where
   pub may : MayComeAt b.answered calls position place
   pub of_key : HasBranchKey b may.call
@@ -166,7 +166,7 @@ pub record AreNexts (b : Branching) (kept : KeptPast) (nexts : List KeptPast) : 
       → (next : KeptPast) × Contains nexts next × IsPastAfter kept o next
   pub back : (next : KeptPast) → Contains nexts next → (o : Operation) × IsNextAt b.answered kept o × IsPastAfter kept o next
 
--- wherever pasts stand before a moment after that answer, these stand in place of one
+-- at each moment after that answer, these pasts may replace this one
 abbrev pub BecomesAfter : ℕ → KeptPast → List KeptPast → Type 0
 BecomesAfter answered kept nexts = (moment : ℕ) → answered < moment → Becomes moment (kept ∷ []) nexts
 

@@ -93,11 +93,14 @@ fn tying_call(
         → o.inv ≤ answered → DoesNotTie keys.now position.now.map o }
 {
     for place in 0..calls.len() {
+        if position.taken[place] {
+            continue;
+        }
         let call = &calls[place];
         if answered < call.inv {
             return None;
         }
-        if !position.taken[place] && ties(call, keys, &position.map) {
+        if ties(call, keys, &position.map) {
             return Some(place);
         }
     }

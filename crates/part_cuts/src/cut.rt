@@ -6,6 +6,7 @@ ghost use Rattle.part_cuts.specs.PartCuts.{AreEnough, AreShaped, IsMade, kept_of
 ghost use Rattle.part_cuts.specs.Positions.{AreMadeOf, IsFrom, IsPastAt, kept_in};
 ghost use Rattle.part_cuts.specs.declared.past.Past.{Past as PastValue};
 
+use crate::alone::past_alone;
 use crate::levels::next_level;
 use crate::past::Past;
 use crate::position::{Position, at_start, have_same_found, have_same_pairs};
@@ -15,9 +16,9 @@ use std::alloc::Global;
 /// How much a cut may take. If it would take more, its answer is `Spent`.
 #[derive(Clone, Copy)]
 pub struct Limits {
-    /// The most positions at which walks stand as a level begins, and the most at which walks have
-    /// ended, while others go on. So a cut may begin at no more pasts. Within a level there may be
-    /// more for a while: for each position one for each call that may come next.
+    /// The most positions that walks may have as a level begins, and the most at which walks may
+    /// have ended while others go on. So a cut may begin at no more pasts. Within a level there may
+    /// be more for a while: for each position one for each call that may come next.
     pub width: usize,
     /// The most levels. A walk of n calls needs n + 2, without the reads that it takes at once.
     pub levels: usize,
@@ -39,6 +40,20 @@ pub enum Cut {
 /// that memory ran out. Each new position is compared with the others of its level, so a level
 /// takes time in proportion to the square of its width.
 pub fn pasts_at(alloc: Global, pasts: &[Past], moment: usize, limits: Limits) -> Result<Cut, Memory>
+    requires { AreShaped pasts.now }
+    ensures { IfOk result (IsMade moment limits.pasts pasts.now) }
+{
+    if limits.pasts == 0 {
+        return Ok(Cut::Spent);
+    }
+    match past_alone(alloc, pasts, moment)? {
+        Some(past) => Ok(Cut::Pasts(vec![in alloc; past]?)),
+        None => walked(alloc, pasts, moment, limits),
+    }
+}
+
+/// The pasts at a moment, by walks from all pasts.
+fn walked(alloc: Global, pasts: &[Past], moment: usize, limits: Limits) -> Result<Cut, Memory>
     requires { AreShaped pasts.now }
     ensures { IfOk result (IsMade moment limits.pasts pasts.now) }
 {

@@ -63,7 +63,7 @@ fn go_on(
     Ok(())
 }
 
-/// Adds a position to others, where none is alike.
+/// Adds a position to others, if none is alike.
 pub(crate) fn add_new(
     positions: &mut Vec<Position>,
     position: Position,

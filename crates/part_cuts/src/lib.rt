@@ -9,6 +9,7 @@
 //! one of them: some call of these keys has to come before the scan.
 #![tactic(auto)]
 
+mod alone;
 mod branching;
 mod cut;
 mod levels;

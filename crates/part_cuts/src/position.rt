@@ -1,4 +1,4 @@
-// Where a walk from a past stands.
+// How far a walk from a past has come.
 ghost use Rattle.std.specs.Prelude.{◌≡◌, ◌↔◌, ◌<◌, length, Contains, IfOk, IsTrue, OnOk};
 ghost use Rattle.part_cuts.specs.declared.past.Found.{Found as FoundValue};
 ghost use Rattle.part_cuts.specs.Positions.{ArePositionsAlike, IsAfterTaking, IsAtStart, IsCopy};
@@ -9,8 +9,8 @@ use map_object::SortedMap;
 use orders::apply;
 use std::alloc::Global;
 
-/// Where a walk stands: the place of the past that it began at, the map there, which calls of that
-/// past are taken, and what pending calls found.
+/// How far a walk has come: the place of the past that it began at, the map there, which calls of
+/// that past are taken, and what pending calls found.
 pub(crate) struct Position {
     pub base: usize,
     pub map: SortedMap,
@@ -42,7 +42,7 @@ pub(crate) fn at_start(alloc: Global, base: usize, past: &Past) -> Result<Positi
     })
 }
 
-/// The same position again.
+/// A copy of a position.
 pub(crate) fn copied(alloc: Global, position: &Position) -> Result<Position, Memory>
     ensures { IfOk result (IsCopy position.now) }
 {

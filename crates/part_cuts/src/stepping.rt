@@ -16,7 +16,8 @@ use orders::may_come_next;
 use quiet_cuts::is_read;
 use std::alloc::Global;
 
-/// Of the calls left that ended before the moment the place of the one that ended first, and when.
+/// The place of the call that ended first among those left that ended before the moment, and when
+/// it ended.
 pub(crate) fn first_ended(
     calls: &[Operation],
     taken: &[bool],
@@ -32,11 +33,14 @@ pub(crate) fn first_ended(
     let mut first = None;
     let mut earliest = moment;
     for place in 0..calls.len() {
+        if taken[place] {
+            continue;
+        }
         if earliest <= calls[place].inv {
             return first;
         }
         let answered = answer_before(&calls[place], earliest);
-        if !taken[place] && answered < earliest {
+        if answered < earliest {
             earliest = answered;
             first = Some((place, answered));
         }
@@ -45,7 +49,7 @@ pub(crate) fn first_ended(
 }
 
 /// When a call ended, if that was before a place, and else the place.
-fn answer_before(call: &Operation, place: usize) -> usize
+pub(crate) fn answer_before(call: &Operation, place: usize) -> usize
     ensures answer { result < place → place_of call.now.response ≡ Some result }
     ensures late { place ≤ result → is_before call.now.response place ≡ false }
 {
@@ -71,6 +75,9 @@ pub(crate) fn next_read(calls: &[Operation], position: &Position, answered: usiz
     ensures { IfSome result (IsReadAt answered calls.now position.now) }
 {
     for place in 0..calls.len() {
+        if position.taken[place] {
+            continue;
+        }
         let call = &calls[place];
         if answered < call.inv {
             return None;
@@ -123,6 +130,9 @@ fn branch_by(
 {
     let calls = pasts[position.base].calls.as_slice();
     for place in 0..calls.len() {
+        if position.taken[place] {
+            continue;
+        }
         if branching.answered < calls[place].inv {
             return Ok(());
         }

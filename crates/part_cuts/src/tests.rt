@@ -271,7 +271,7 @@ fn cut_after_put(alloc: Global, first: u64, second: u64) -> Result<Cut, Memory> 
     pasts_at(alloc, &pasts, 2, AMPLE)
 }
 
-// What a call found that was answered is not noted, so nothing tells the two pasts apart.
+// What an answered call found is not noted, so the two pasts no longer differ.
 #[test]
 fn pasts_that_become_alike_are_one(rt: HostRuntime) -> Result<(), Fail> {
     let cut = cut_after_put(rt.alloc(), 5, 6)?;

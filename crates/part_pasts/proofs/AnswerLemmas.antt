@@ -1,32 +1,20 @@
 -- What an answer makes of a past.
-use Rattle.std.proofs.Common.{◌≡◌, ℕ, ◌+◌, ◌<◌, ◌==◌, Bool, true, false, not, append-nil, List, [], ◌∷◌, ◌++◌, map, length, take, drop, add-one, Some, inl, inr, refl, sym, ap, ◌∙◌, subst, ⊎_elim, eq-eqb, arith}
-use Rattle.std.specs.Prelude.{◌≢◌, ◌⊎◌, slice_get, slice_set, filter, All, AllPairs, Contains}
-use Rattle.std.specs.List.{remove}
-use Rattle.std.proofs.lemmas.Bool.{ne_eqb}
-use Rattle.std.proofs.lemmas.List.{append_assoc, take-append-drop, take-set, drop-set}
-use Rattle.std.proofs.lemmas.List.Elements.{All-contains, All-tail, All-weaker}
-use Rattle.std.proofs.lemmas.Option.{get_or_from_slice_get, slice_get_within, same_Some}
-use Rattle.list_laws.proofs.NumberLemmas.{slice_get-below}
-use Rattle.list_laws.proofs.Lists.{All-at, AllPairs-append, AllPairs-front, AllPairs-back, AllPairs-tail, AllPairs-across, AllPairs-at, Contains-filter, Contains-from_filter, place_of-Contains}
-use Rattle.list_laws.proofs.FilterLemmas.{Contains-map, Contains-from_map}
+use Rattle.part_pasts.proofs.Common.{◌≡◌, ℕ, ◌+◌, ◌<◌, ◌==◌, Bool, true, false, not, append-nil, List, [], ◌∷◌, ◌++◌, map, length, take, drop}
+use Rattle.part_pasts.proofs.Common.{add-one, Some, inl, inr, refl, sym, ap, ◌∙◌, subst, ⊎_elim, arith, ◌≢◌, ◌⊎◌, slice_get, slice_set, filter, All}
+use Rattle.part_pasts.proofs.Common.{AllPairs, Contains, remove, ne_eqb, append_assoc, take-append-drop, take-set, drop-set, All-contains, All-tail}
+use Rattle.part_pasts.proofs.Common.{All-weaker, get_or_from_slice_get, slice_get_within, same_Some, slice_get-below, All-at, AllPairs-append}
+use Rattle.part_pasts.proofs.Common.{AllPairs-front, AllPairs-back, AllPairs-tail, AllPairs-across, AllPairs-at, Contains-filter}
+use Rattle.part_pasts.proofs.Common.{Contains-from_filter, place_of-Contains, Contains-map, Contains-from_map, Operation, Response, low_key}
+use Rattle.part_pasts.proofs.Common.{may_change, Contents, is_refused, effect_at, KeptPast, FoundAt, IsAfterAnswer, AreAfterAnswer, IsKnownIn}
+use Rattle.part_pasts.proofs.Common.{found_at, Found, IsAnswerOf}
+use Rattle.std.proofs.Common.{eq-eqb}
 use Rattle.list_laws.proofs.Places.{parts_at}
-use Rattle.events.specs.declared.operation.Operation.{Operation}
-use Rattle.events.specs.declared.operation.Response.{Response}
-use Rattle.events.specs.Keys.{low_key, may_change}
-use Rattle.map_object.specs.MapObject.{Contents}
-use Rattle.key_effects.specs.KeyedCalls.{is_refused, effect_at}
-use Rattle.kept_pasts.specs.Pasts.{KeptPast, FoundAt}
-use Rattle.kept_parts.specs.Events.{IsAfterAnswer, AreAfterAnswer}
-use Rattle.kept_parts.specs.Steps.{IsKnownIn}
-use Rattle.part_cuts.specs.PartCuts.{found_at}
-use Rattle.part_cuts.specs.declared.past.Found.{Found}
-use Rattle.part_pasts.specs.Pasts.{IsAnswerOf}
 
 -- a past, as it is kept
 abbrev kept : Contents → List Operation → List Found → KeptPast
 kept pairs calls found = record { pairs = pairs; left = calls; found = map found_at found }
 
--- the call of an invocation, which is known in a past, is the one that stands there
+-- the call of an invocation, which is known in a past, is the one that is there
 pub is_the_call : (pairs : Contents) (calls : List Operation) (found : List Found) (place : ℕ) (a o : Operation)
     → AllPairs (λ x y. x.inv < y.inv) calls → slice_get calls place ≡ Some a → a.inv ≡ o.inv → IsKnownIn o (kept pairs calls found) → a ≡ o
 is_the_call pairs calls found place a o rising at same known =
@@ -48,7 +36,7 @@ is_the_call pairs calls found place a o rising at same known =
         (λ is. same_Some a o (sym at ∙ (ap (slice_get calls) (sym is) ∙ here)))
         (λ after. let lt = less place i a o after at here in absurd (omega (arith, lt, same))) rest) h
 
--- the same of a past that is the same
+-- what comes after the answer of a past comes after that of an equal past
 pub same_after : (o : Operation) (response : Response) (past : KeptPast) (pairs others : Contents) (calls others_left : List Operation)
     (found others_found : List Found) → others ≡ pairs → others_left ≡ calls → others_found ≡ found
     → IsAfterAnswer o response past (kept pairs calls found ∷ []) → IsAfterAnswer o response past (kept others others_left others_found ∷ [])
@@ -136,7 +124,7 @@ has_found pairs calls found o operation response none answer known =
     ))
     known
 
--- where the answer fits that, it is kept no more
+-- if the answer fits that, it is kept no more
 pub found_as_answered : (pairs : Contents) (calls : List Operation) (found others : List Found) (o operation : Operation) (response : Response)
     (f : Found) → Contains found f → f.inv ≡ operation.inv → f.key ≡ low_key operation.call
     → is_refused operation.response ≡ false → (effect_at operation.call operation.response (low_key operation.call)).fits f.value ≡ true
@@ -212,7 +200,7 @@ AreAfterAnswer-more o response (x ∷ pasts) nexts past first done one = (
   AreAfterAnswer-more o response pasts done.1 past first done.4 one,
 )
 
--- calls without one stand by rising invocation still
+-- calls without one are still sorted by invocation
 pub rising_without : (calls : List Operation) (place : ℕ) → place < length calls → AllPairs (λ x y. x.inv < y.inv) calls
     → AllPairs (λ x y. x.inv < y.inv) (remove calls place)
 rising_without calls place within rising =

@@ -1,27 +1,11 @@
 -- Pasts are answered in turn, and searched in turn.
-use Rattle.std.proofs.Common.{◌≡◌, ℕ, ◌<◌, true, List, [], ◌∷◌, ◌++◌, length, get_or, map, append-nil, arith, refl, sym, ap, ◌∙◌, subst}
-use Rattle.std.specs.Prelude.{Option, None, Some, All, AllPairs, Any, Contains}
-use Rattle.std.specs.List.{remove}
-use Rattle.std.proofs.lemmas.List.{append_assoc}
-use Rattle.std.proofs.lemmas.List.Elements.{All-nil, All-cons, All-head, All-tail, All-append}
-use Rattle.list_laws.proofs.Lists.{All-front, All-back}
-use Rattle.events.specs.declared.operation.Operation.{Operation}
-use Rattle.events.specs.declared.operation.Response.{Response}
-use Rattle.events.specs.Keys.{may_change}
-use Rattle.events.specs.Precedence.{NonePrecedesItself}
-use Rattle.map_object.specs.MapObject.{Contents}
-use Rattle.kept_orders.specs.Answers.{IsAnswer}
+use Rattle.part_pasts.proofs.Common.{◌≡◌, ℕ, ◌<◌, true, List, [], ◌∷◌, ◌++◌, length, get_or, map, append-nil, arith, refl, sym, ap, ◌∙◌, subst, All}
+use Rattle.part_pasts.proofs.Common.{AllPairs, Any, Contains, remove, append_assoc, All-nil, All-cons, All-head, All-tail, All-append, All-front}
+use Rattle.part_pasts.proofs.Common.{All-back, Operation, Response, may_change, NonePrecedesItself, Contents, IsAnswer, Kept, Order, NoOrder, Spent}
+use Rattle.part_pasts.proofs.Common.{KeptPast, IsAfterAnswer, AreAfterAnswer, IsKnownIn, AreShaped, found_at, kept_of, Found, Past, AreAlive}
+use Rattle.part_pasts.proofs.Common.{AreDoubtful, AreLeftAfter, IsAnswerOf, IsDead, kept_if, lefts, lefts_of_kept, past_of}
+use Rattle.std.specs.Prelude.{Option, None, Some}
 use Rattle.kept_orders.specs.Views.{KeptOrderView}
-use Rattle.kept_orders.specs.declared.kept.Kept.{Kept}
-use Rattle.kept_orders.specs.declared.kept.Kept.TheVariants.{Order, NoOrder, Spent}
-use Rattle.kept_pasts.specs.Pasts.{KeptPast}
-use Rattle.kept_parts.specs.Events.{IsAfterAnswer, AreAfterAnswer}
-use Rattle.kept_parts.specs.Steps.{IsKnownIn}
-use Rattle.part_cuts.specs.PartCuts.{AreShaped, found_at, kept_of}
-use Rattle.part_cuts.specs.declared.past.Found.{Found}
-use Rattle.part_cuts.specs.declared.past.Past.{Past}
-use Rattle.part_pasts.specs.Pasts.{AreAlive, AreDoubtful, AreLeftAfter, IsAnswerOf, IsDead, kept_if, lefts, lefts_of_kept}
-use Rattle.part_pasts.specs.Views.{past_of}
 use Rattle.part_pasts.proofs.AnswerLemmas.{AreAfterAnswer-more}
 use Rattle.part_pasts.proofs.LeftLemmas.{AreLeftOf, left_more}
 
@@ -93,7 +77,7 @@ left_ends operation pasts left so_far =
 abbrev pub IsPastOk : Past → Type 0
 IsPastOk p = AllPairs (λ a b. a.inv < b.inv) p.calls.items × NonePrecedesItself p.calls.items
 
--- the calls of the next past stand by rising invocation
+-- the calls of the next past are sorted by invocation
 pub next_rises : (operation : Operation) (pasts left rest : List Past) (past : Past) → AreShaped pasts
     → AreAnswering operation pasts left (past ∷ rest) → AllPairs (λ a b. a.inv < b.inv) past.calls.items
 next_rises operation pasts left rest past shaped so_far =
@@ -139,7 +123,7 @@ found_alive budget pasts tried first found others so_far = record {
       (sym (same_searched so_far.pairs first.start so_far.calls first.calls found so_far.answer.same_start so_far.answer.same_calls));
 }
 
--- the past that was searched beyond the budget stands between the others again
+-- the past that was searched beyond the budget is between the others again
 pub found_doubtful : (budget : ℕ) (pasts : List KeptPast) (tried : List Past) (past : Past) (others again : List Past)
     → SearchesOn budget pasts tried (Spent past.map past.calls) past.found.items others → again ≡ (tried ++ past ∷ []) ++ others
     → (map kept_of again ≡ pasts) × AreDoubtful budget pasts

@@ -1,24 +1,10 @@
 -- The keys at which pasts are busy.
-use Rattle.std.proofs.Common.{◌≡◌, ℕ, ◌+◌, ◌<◌, ◌≤◌, ◌==◌, Bool, true, false, List, [], ◌∷◌, length, get_or, take, Option, Some, None, inl, inr, refl, sym, ap, ◌∙◌, subst, ⊎_elim, arith}
-use Rattle.std.specs.Prelude.{◌⊎◌, ◌&&◌, nat_le, All, Any}
-use Rattle.std.specs.List.{list_any}
-use Rattle.std.proofs.lemmas.Bool.{eq-eqb, eqb-true, false≢true, cases_Bool, or_cases, or_left, or_right}
-use Rattle.std.proofs.lemmas.List.{take_all, get_or_default}
-use Rattle.std.proofs.lemmas.List.Elements.{All-more, All-weaker}
-use Rattle.std.proofs.lemmas.List.Folds.{Any-from_list_any, list_any_at}
-use Rattle.std.proofs.lemmas.Option.{none-some, same_Some}
-use Rattle.events.specs.declared.event.Call.{Call}
-use Rattle.events.specs.declared.event.Call.TheVariants.{Get, Insert, Remove, Scan, Replace}
-use Rattle.events.specs.declared.operation.Operation.{Operation}
-use Rattle.events.specs.Keys.{low_key, high_key}
-use Rattle.map_object.specs.MapObject.{value_at}
-use Rattle.key_effects.specs.KeyedCalls.{concerns_key}
-use Rattle.key_effects.specs.Cuts.{Keys}
-use Rattle.part_cuts.specs.declared.past.Found.{Found}
-use Rattle.part_cuts.specs.declared.past.Past.{Past}
-use Rattle.part_pasts.specs.Ranges.{covered}
-use Rattle.part_pasts.specs.Resting.{AreBusy, IsBusyFor, IsOfKey, HasCalls, HasFound, HasDiffering}
-use Rattle.part_pasts.specs.declared.ranges.Range.{Range}
+use Rattle.part_pasts.proofs.Common.{◌≡◌, ℕ, ◌+◌, ◌<◌, ◌≤◌, ◌==◌, Bool, true, false, List, [], ◌∷◌, length, get_or, take, Option, Some, None, inl}
+use Rattle.part_pasts.proofs.Common.{inr, refl, sym, ap, ◌∙◌, subst, ⊎_elim, arith, ◌⊎◌, ◌&&◌, nat_le, All, Any, list_any, eq-eqb, eqb-true}
+use Rattle.part_pasts.proofs.Common.{false≢true, cases_Bool, or_cases, or_left, or_right, take_all, get_or_default, All-more, All-weaker}
+use Rattle.part_pasts.proofs.Common.{Any-from_list_any, list_any_at, none-some, same_Some, Call, Get, Insert, Remove, Scan, Replace, Operation}
+use Rattle.part_pasts.proofs.Common.{low_key, high_key, value_at, concerns_key, Keys, Found, Past, covered, AreBusy, IsBusyFor, IsOfKey, HasCalls}
+use Rattle.part_pasts.proofs.Common.{HasFound, HasDiffering, Range}
 use Rattle.part_pasts.proofs.RestingLemmas.{one_key}
 
 -- the keys of a call are those of its range
@@ -35,7 +21,7 @@ any_as P Q xs implies (k, x, within, here, holds) = (k, x, within, here, implies
 any_at : {X : Type 0} (P : X → Type 0) (xs : List X) (i : ℕ) (d : X) → i < length xs → P (get_or xs i d) → Any P xs
 any_at P xs i d within holds = (i, get_or xs i d, within, get_or_default xs i (get_or xs i d) d within, holds)
 
--- values that fails pair tells apart are the same
+-- values that no pair distinguishes are the same
 values_same : (a b : Option ℕ) → ((v : ℕ) → a ≡ Some v → (b ≡ Some v → ⊥) → ⊥) → ((v : ℕ) → b ≡ Some v → (a ≡ Some v → ⊥) → ⊥) → a ≡ b
 values_same None None one other = refl
 values_same None (Some v) one other = absurd (other v refl (λ same. none-some v same))

@@ -1,15 +1,11 @@
 -- Answers that fit what a call found at its key.
 use Rattle.events.specs.declared.event.Reply.TheVariants as replies
-use Rattle.std.proofs.Common.{◌≡◌, ℕ, ◌==◌, Bool, true, false, cond, Option, Some, None, inl, inr, refl, sym, ap, ⊎_elim, eq-eqb, eqb-true}
-use Rattle.std.specs.Prelude.{◌⊎◌, ◌↔◌, IsTrue}
-use Rattle.events.specs.declared.event.Call.{Call}
-use Rattle.events.specs.declared.event.Call.TheVariants.{Get, Insert, Remove, Scan, Replace}
+use Rattle.part_pasts.proofs.Common.{◌≡◌, ℕ, ◌==◌, Bool, true, false, cond, Option, Some, None, inl, inr, refl, sym, ap, ⊎_elim, ◌⊎◌, ◌↔◌, IsTrue}
+use Rattle.part_pasts.proofs.Common.{Call, Get, Insert, Remove, Scan, Replace, Response, low_key, may_change, value_reply, TellsOf, no_effect}
+use Rattle.part_pasts.proofs.Common.{is_answer, point_effect, effect_at}
+use Rattle.std.proofs.Common.{eq-eqb, eqb-true}
 use Rattle.events.specs.declared.event.Reply.{Reply}
-use Rattle.events.specs.declared.operation.Response.{Response}
-use Rattle.events.specs.Keys.{low_key, may_change}
-use Rattle.map_object.specs.MapObject.{value_reply, TellsOf}
 use Rattle.quiet_cuts.specs.Values.{MayBeAnswered}
-use Rattle.key_effects.specs.KeyedCalls.{no_effect, is_answer, point_effect, effect_at}
 
 -- a value or none may be answered so exactly where it passes
 answers : (call : Call) (reply : Reply) (value : Option ℕ)

@@ -1,21 +1,12 @@
 -- Calls that are left after an answer.
-use Rattle.std.proofs.Common.{◌≡◌, ℕ, ◌+◌, ◌<◌, List, [], ◌∷◌, ◌++◌, take, drop, Some, inl, inr, refl, sym, ap, ◌∙◌, subst, ⊎_elim, arith}
-use Rattle.std.specs.Prelude.{slice_get, All, AllPairs, Any, Contains}
-use Rattle.std.specs.List.{remove}
-use Rattle.std.proofs.lemmas.List.Elements.{All-nil, All-cons, All-head, All-tail, All-weaker, All-append, Contains-append_left, Contains-append_right, Contains-append_cases}
-use Rattle.std.proofs.lemmas.List.Kept.{AllPairs-cons}
-use Rattle.std.proofs.lemmas.Option.{slice_get_within}
-use Rattle.list_laws.proofs.Lists.{Any-first, Any-later, AllPairs-append, AllPairs-front, AllPairs-back, AllPairs-head, AllPairs-tail, AllPairs-across, Contains-at, Contains-cases, Contains-later}
-use Rattle.events.specs.declared.operation.Operation.{Operation}
-use Rattle.events.specs.declared.operation.Response.{Response}
-use Rattle.map_object.specs.MapObject.{Contents}
-use Rattle.kept_orders.specs.Answers.{IsAnswer}
-use Rattle.kept_orders.specs.Views as views
-use Rattle.kept_orders.specs.declared.kept.Kept.{Kept}
-use Rattle.kept_orders.specs.declared.kept.Kept.TheVariants.{Order, NoOrder, Spent}
-use Rattle.kept_pasts.specs.Pasts.{KeptPast}
-use Rattle.part_pasts.specs.Pasts.{AreLeftAfter, IsLeftKept}
+use Rattle.part_pasts.proofs.Common.{◌≡◌, ℕ, ◌+◌, ◌<◌, List, [], ◌∷◌, ◌++◌, take, drop, Some, inl, inr, refl, sym, ap, ◌∙◌, subst, ⊎_elim, arith}
+use Rattle.part_pasts.proofs.Common.{slice_get, All, AllPairs, Any, Contains, remove, All-nil, All-cons, All-head, All-tail, All-weaker, All-append}
+use Rattle.part_pasts.proofs.Common.{Contains-append_left, Contains-append_right, Contains-append_cases, AllPairs-cons, slice_get_within, Any-first}
+use Rattle.part_pasts.proofs.Common.{Any-later, AllPairs-append, AllPairs-front, AllPairs-back, AllPairs-head, AllPairs-tail, AllPairs-across}
+use Rattle.part_pasts.proofs.Common.{Contains-at, Contains-cases, Contains-later, Operation, Response, Contents, IsAnswer, Kept, Order, NoOrder}
+use Rattle.part_pasts.proofs.Common.{Spent, KeptPast, AreLeftAfter, IsLeftKept}
 use Rattle.part_pasts.proofs.AnswerLemmas.{parts_here, remove_parts, rising_without, set_parts}
+use Rattle.kept_orders.specs.Views as views
 
 abbrev Rises : Operation → Operation → Type 0
 Rises x y = x.inv < y.inv
@@ -73,7 +64,7 @@ left_set operation calls more place a at same rising is = record {
     all : AllPairs Rises (front ++ a ∷ back)
     all = subst (AllPairs Rises) (parts_here calls place a at) rising
 
--- by the answer alone
+-- what is left after an answer depends only on the answer
 pub left_as : (operation other : Operation) (calls more : List Operation) → other.response ≡ operation.response
     → AreLeftAfter other calls more → AreLeftAfter operation calls more
 left_as operation other calls more same h = record {
@@ -96,13 +87,13 @@ left_kept operation calls more start budget (Order next) left answer = subst (Ar
 left_kept operation calls more start budget (NoOrder start_back calls_back) left answer = tt
 left_kept operation calls more start budget (Spent start_back calls_back) left answer = tt
 
--- of one past
+-- what is known of one past holds of a list of it
 pub left_of_one : (operation : Operation) (calls : List Operation) (next : KeptPast) → AreLeftAfter operation calls next.left
     → All (λ p. AreLeftAfter operation calls p.left) (next ∷ [])
 left_of_one operation calls next h =
     All-cons (λ (p : KeptPast). AreLeftAfter operation calls p.left) next [] h (All-nil (λ (p : KeptPast). AreLeftAfter operation calls p.left))
 
--- of each past of a list, one of another
+-- what is left after each past of a list is left after one of another list
 abbrev pub AreLeftOf : Operation → List KeptPast → List KeptPast → Type 0
 AreLeftOf operation pasts nexts = All (λ next. Any (λ past. AreLeftAfter operation past.left next.left) pasts) nexts
 

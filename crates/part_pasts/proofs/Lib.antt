@@ -1,3 +1,4 @@
+mod Common
 mod PastLemmas
 pub mod UnionLemmas
 pub mod TogetherLemmas

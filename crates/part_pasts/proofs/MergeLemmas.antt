@@ -1,20 +1,14 @@
 -- The pairs and the calls of two pasts together.
 use Rattle.events.specs.declared.event.Reply.TheVariants as replies
-use Rattle.std.proofs.Common.{◌≡◌, ℕ, zero, suc, ◌<◌, ◌≤◌, ◌+◌, ◌==◌, Bool, true, false, cond, List, [], ◌∷◌, ◌++◌, length, get_or, take, drop, Option, Some, None, inl, inr, refl, sym, ap, ◌∙◌, subst, ⊎_elim, arith}
-use Rattle.std.specs.Prelude.{◌⊎◌, ◌↔◌, ◌≢◌, All, AllPairs, Contains, slice_get}
-use Rattle.std.specs.List.{insert}
-use Rattle.std.proofs.lemmas.Bool.{eqb-true, eq-eqb, false≢true, cases_order}
-use Rattle.std.proofs.lemmas.List.{drop_more, take_more, take_all}
-use Rattle.std.proofs.lemmas.List.Elements.{All-cons, All-contains, Contains-append_left, Contains-append_right, Contains-append_cases, Contains-push_cases, Contains-push}
-use Rattle.std.proofs.lemmas.List.Kept.{AllPairs-cons}
-use Rattle.list_laws.proofs.Lists.{All-from_contains, AllPairs-append, AllPairs-front, AllPairs-back, AllPairs-across, AllPairs-at, Contains-first, Contains-later, Contains-cases, place_before-Contains}
-use Rattle.events.specs.declared.event.Call.TheVariants.{Insert}
-use Rattle.events.specs.declared.operation.Operation.{Operation}
-use Rattle.map_object.specs.MapObject.{Contents, IsRising, value_at, below, above, put}
-use Rattle.map_object.proofs.MapLemmas.{AreBelow-below, AreAbove-above, AreAbove-first, IsRising-insert, value_at_found, value_at_above}
+use Rattle.part_pasts.proofs.Common.{◌≡◌, ℕ, zero, suc, ◌<◌, ◌≤◌, ◌+◌, ◌==◌, Bool, true, false, cond, List, [], ◌∷◌, ◌++◌, length, get_or, take, drop}
+use Rattle.part_pasts.proofs.Common.{Option, Some, None, inl, inr, refl, sym, ap, ◌∙◌, subst, ⊎_elim, arith, ◌⊎◌, ◌↔◌, ◌≢◌, All, AllPairs, Contains}
+use Rattle.part_pasts.proofs.Common.{slice_get, insert, eqb-true, eq-eqb, false≢true, cases_order, drop_more, take_more, take_all, All-cons}
+use Rattle.part_pasts.proofs.Common.{All-contains, Contains-append_left, Contains-append_right, Contains-append_cases, Contains-push_cases}
+use Rattle.part_pasts.proofs.Common.{Contains-push, AllPairs-cons, All-from_contains, AllPairs-append, AllPairs-front, AllPairs-back, AllPairs-across}
+use Rattle.part_pasts.proofs.Common.{AllPairs-at, Contains-first, Contains-later, Contains-cases, place_before-Contains, Insert, Operation, Contents}
+use Rattle.part_pasts.proofs.Common.{IsRising, value_at, below, above, put, AreBelow-below, AreAbove-above, AreAbove-first, IsRising-insert}
+use Rattle.part_pasts.proofs.Common.{value_at_found, value_at_above, or_else, IsPlaceFor}
 use Rattle.quiet_cuts.proofs.ValueLemmas.{value_left}
-use Rattle.part_pasts.specs.Ranges.{or_else}
-use Rattle.part_pasts.specs.Pasts.{IsPlaceFor}
 
 take_and_drop : {X : Type 0} (xs : List X) (i : ℕ) → take i xs ++ drop i xs ≡ xs
 take_and_drop xs zero = refl

@@ -1,11 +1,6 @@
 -- When pending reads began.
-use Rattle.std.proofs.Common.{◌≡◌, ℕ, ◌<◌, ◌≤◌, ◌+◌, false, List, [], ◌∷◌, ◌++◌, length, get_or, take, Option, None, Some, sym, subst, ⊎_elim, arith}
-use Rattle.std.specs.Prelude.{MatchOption, IfSome}
-use Rattle.std.proofs.lemmas.List.{take_more}
-use Rattle.std.proofs.lemmas.List.Elements.{Contains-push_cases}
-use Rattle.part_pasts.specs.Ranges.{covered}
-use Rattle.part_pasts.specs.Moments.{AreBegunAfter, HaveNoRead}
-use Rattle.part_pasts.specs.declared.ranges.Range.{Range}
+use Rattle.part_pasts.proofs.Common.{◌≡◌, ℕ, ◌<◌, ◌≤◌, ◌+◌, false, List, [], ◌∷◌, ◌++◌, length, get_or, take, Option, None, Some, sym, subst, ⊎_elim}
+use Rattle.part_pasts.proofs.Common.{arith, MatchOption, IfSome, take_more, Contains-push_cases, covered, AreBegunAfter, HaveNoRead, Range}
 use Rattle.part_pasts.specs.declared.moments.OpenRead.{OpenRead}
 
 -- none of these reads is of the ranges, or they began no earlier than the first

@@ -1,13 +1,9 @@
 -- Pairs that come to a map one after another (`more_pairs`), as values at keys.
-use Rattle.std.proofs.Common.{◌≡◌, ℕ, ◌+◌, ◌<◌, ◌==◌, ◌≢◌, Bool, true, false, cond, [], ◌∷◌, ◌++◌, length, get_or, take, Option, None, Some, refl, sym, ap, ◌∙◌, subst, ⊎_elim, arith}
-use Rattle.std.specs.Prelude.{if◌then◌else◌, All}
-use Rattle.std.proofs.lemmas.Bool.{cases_Bool, eqb-true, eqb-false, ne_eqb}
-use Rattle.std.proofs.lemmas.List.{take_more, get_or-take, get_or_default, length-take}
-use Rattle.std.proofs.lemmas.Option.{none-some}
-use Rattle.std.proofs.lemmas.List.Elements.{All-head, All-tail}
-use Rattle.map_object.specs.MapObject.{Contents, IsRising, value_at}
+use Rattle.part_pasts.proofs.Common.{◌≡◌, ℕ, ◌+◌, ◌<◌, ◌==◌, Bool, true, false, cond, [], ◌∷◌, ◌++◌, length, get_or, take, Option, None, Some, refl}
+use Rattle.part_pasts.proofs.Common.{sym, ap, ◌∙◌, subst, ⊎_elim, arith, if◌then◌else◌, All, cases_Bool, eqb-true, eqb-false, ne_eqb, take_more}
+use Rattle.part_pasts.proofs.Common.{get_or-take, get_or_default, length-take, none-some, All-head, All-tail, Contents, IsRising, value_at, or_else}
+use Rattle.std.proofs.Common.{◌≢◌}
 use Rattle.packed_map.specs.Entries.{value_at as packed_at}
-use Rattle.part_pasts.specs.Ranges.{or_else}
 
 -- what a map has at a key
 pub packed_same : (m : Contents) (key : ℕ) → packed_at m key ≡ value_at m key
@@ -28,7 +24,7 @@ value_at-lower ((k, v) ∷ m) key lower =
     let apart : (k == key) ≡ false = ne_eqb k key (λ e. absurd (omega (arith, low, e))) in
     rw (apart, value_at-lower m key (All-tail (λ (pair : ℕ × ℕ). pair.0 < key) (k, v) m lower))
 
--- of two numbers at most one is a key
+-- at most one of two numbers is a key
 apart_swap : (j w k v key : ℕ) (found : Option ℕ) → j ≢ k
     → (if j == key then Some w else (if key == k then Some v else found)) ≡ (if key == k then Some v else (if j == key then Some w else found))
 apart_swap j w k v key found apart = ⊎_elim

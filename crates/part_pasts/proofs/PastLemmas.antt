@@ -1,12 +1,8 @@
 -- Calls of pasts, by rising invocation.
-use Rattle.std.proofs.Common.{◌≡◌, ℕ, ◌+◌, ◌<◌, ◌≤◌, true, false, List, length, get_or, take, drop, sym, subst, arith, nat_lt, ⊎_elim}
-use Rattle.std.specs.Prelude.{◌≢◌, ◌⊎◌, All, AllPairs}
-use Rattle.std.specs.List.{AllWithin}
+use Rattle.part_pasts.proofs.Common.{◌≡◌, ℕ, ◌+◌, ◌<◌, ◌≤◌, true, false, List, length, get_or, take, drop, sym, subst, arith, nat_lt, ⊎_elim, ◌≢◌}
+use Rattle.part_pasts.proofs.Common.{◌⊎◌, All, AllPairs, AllWithin, ltb-true, ltb-false, get_or-take, get_or-drop, length-drop, length-take}
+use Rattle.part_pasts.proofs.Common.{Operation, IsPlaceFor}
 use Rattle.std.specs.List.Sorted.{IsNonDecreasingBy}
-use Rattle.std.proofs.lemmas.Bool.{ltb-true, ltb-false}
-use Rattle.std.proofs.lemmas.List.{get_or-take, get_or-drop, length-drop, length-take}
-use Rattle.events.specs.declared.operation.Operation.{Operation}
-use Rattle.part_pasts.specs.Pasts.{IsPlaceFor}
 
 -- calls by rising invocation are so weakly
 pub rising_weakly : (calls : List Operation) → AllPairs (λ x y. x.inv < y.inv) calls → IsNonDecreasingBy (λ x. x.inv) calls
@@ -33,7 +29,7 @@ no_less inv calls i h k d within =
     subst (λ a. inv ≤ a.inv) (sym (get_or-drop i calls k d))
     (ltb-false (get_or calls (i + k) d).inv inv (h (i + k) d (omega arith) there))
 
--- a call of an invocation stands at the place for it, or there is none
+-- a call of an invocation is at the place for it, or there is none
 pub none_at : (inv : ℕ) (calls : List Operation) (place : ℕ) → IsPlaceFor calls inv place
     → (place < length calls → (d : Operation) → (get_or calls place d).inv ≢ inv) → AllPairs (λ x y. x.inv < y.inv) calls
     → All (λ a. a.inv ≢ inv) calls

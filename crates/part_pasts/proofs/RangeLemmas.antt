@@ -1,12 +1,7 @@
 -- Keys in ranges.
-use Rattle.std.proofs.Common.{◌≡◌, ℕ, ◌≤◌, ◌+◌, Bool, true, false, List, [], ◌∷◌, ◌++◌, length, get_or, take, refl, sym, ap, ◌∙◌, arith}
-use Rattle.std.specs.Prelude.{◌&&◌, ◌||◌, nat_le, max}
-use Rattle.std.proofs.Math.ListN.{set, length-set}
-use Rattle.std.proofs.lemmas.Bool.Decides.{nat_tests}
-use Rattle.std.proofs.lemmas.List.{take_all, take_more, take_more_set}
-use Rattle.std.proofs.lemmas.List.Folds.{list_any-append}
-use Rattle.part_pasts.specs.Ranges.{covered}
-use Rattle.part_pasts.specs.declared.ranges.Range.{Range}
+use Rattle.part_pasts.proofs.Common.{◌≡◌, ℕ, ◌≤◌, ◌+◌, Bool, true, false, List, [], ◌∷◌, ◌++◌, length, get_or, take, refl, sym, ap, ◌∙◌, arith, ◌&&◌}
+use Rattle.part_pasts.proofs.Common.{nat_le, max, set, length-set, nat_tests, take_all, take_more, take_more_set, list_any-append, covered, Range}
+use Rattle.std.specs.Prelude.{◌||◌}
 
 -- whether a key is in a range
 abbrev pub is_in : ℕ → Range → Bool

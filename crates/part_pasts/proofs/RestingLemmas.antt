@@ -1,18 +1,9 @@
 -- Keys in further ranges, and the pairs of some keys.
-use Rattle.std.proofs.Common.{◌≡◌, ℕ, ◌<◌, ◌≤◌, ◌==◌, Bool, true, false, not, cond, List, [], ◌∷◌, length, take, Option, Some, None, inl, inr, refl, sym, ap, ◌∙◌, subst, ⊎_elim, arith}
-use Rattle.std.specs.Prelude.{◌&&◌, ◌||◌, nat_le, filter}
-use Rattle.std.specs.List.{list_any}
-use Rattle.std.proofs.lemmas.Bool.{eq-eqb, eqb-true, false≢true, or_cases, or_left, or_right}
-use Rattle.std.proofs.lemmas.Bool.Decides.{nat_tests}
-use Rattle.std.proofs.lemmas.List.{take_all}
-use Rattle.std.proofs.lemmas.List.Kept.{AllPairs-filter}
-use Rattle.std.proofs.lemmas.Option.{none-some, same_Some}
-use Rattle.map_object.specs.MapObject.{Contents, IsRising, value_at}
-use Rattle.map_object.proofs.MapLemmas.{AreAbove-first, IsRising-rest, value_at_above}
-use Rattle.key_effects.specs.KeyedCalls.{is_same_value}
-use Rattle.part_pasts.specs.Ranges.{covered}
-use Rattle.part_pasts.specs.Resting.{HasDiffering}
-use Rattle.part_pasts.specs.declared.ranges.Range.{Range}
+use Rattle.part_pasts.proofs.Common.{◌≡◌, ℕ, ◌<◌, ◌≤◌, ◌==◌, Bool, true, false, not, cond, List, [], ◌∷◌, length, take, Option, Some, None, inl, inr}
+use Rattle.part_pasts.proofs.Common.{refl, sym, ap, ◌∙◌, subst, ⊎_elim, arith, ◌&&◌, nat_le, filter, list_any, eq-eqb, eqb-true, false≢true, or_cases}
+use Rattle.part_pasts.proofs.Common.{or_left, or_right, nat_tests, take_all, AllPairs-filter, none-some, same_Some, Contents, IsRising, value_at}
+use Rattle.part_pasts.proofs.Common.{AreAbove-first, IsRising-rest, value_at_above, is_same_value, covered, HasDiffering, Range}
+use Rattle.std.specs.Prelude.{◌||◌}
 
 -- the keys of all elements, as those of the elements so far
 pub covers_all : {X : Type 0} (test : X → Bool) (xs : List X) (i : ℕ) (old ranges : List Range) (key : ℕ) → length xs ≤ i

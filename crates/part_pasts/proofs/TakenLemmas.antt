@@ -1,21 +1,11 @@
 -- The keys at rest of a range are taken out.
-use Rattle.std.proofs.Common.{◌≡◌, ℕ, ◌<◌, ◌≤◌, ◌+◌, ◌==◌, Bool, true, false, cond, ◌||◌, List, [], ◌∷◌, ◌++◌, map, take, length, get_or, Option, Some, None, refl, sym, ap, ◌∙◌, subst, arith}
-use Rattle.std.specs.Prelude.{◌↔◌, nat_le, AllPairs, Contains, Result, Ok, Err, IfOk, OnOk}
-use Rattle.std.specs.Option.{IsSome}
-use Rattle.std.proofs.lemmas.Bool.{eqb-true, eq-eqb, false≢true, and_parts, and_from, leb-true, le-leb}
-use Rattle.std.proofs.lemmas.List.{map-append, take_more, take_all}
-use Rattle.std.proofs.lemmas.Option.{none-some, get_or_from_slice_get}
-use Rattle.std.proofs.lemmas.List.Elements.{Contains-get_or}
-use Rattle.list_laws.specs.Lists.{has_number}
-use Rattle.list_laws.proofs.FilterLemmas.{AllPairs-from_map}
-use Rattle.list_laws.proofs.Lists.{place_before-Contains}
-use Rattle.list_laws.proofs.NumberLemmas.{has_number-Contains, has_number-from_Contains, has_number-push}
-use Rattle.map_object.specs.MapObject.{Contents, IsRising, value_at}
-use Rattle.map_object.proofs.ValueLemmas.{same_pairs}
+use Rattle.part_pasts.proofs.Common.{◌≡◌, ℕ, ◌<◌, ◌≤◌, ◌+◌, ◌==◌, Bool, true, false, cond, ◌||◌, List, [], ◌∷◌, ◌++◌, map, take, length, get_or}
+use Rattle.part_pasts.proofs.Common.{Option, Some, None, refl, sym, ap, ◌∙◌, subst, arith, ◌↔◌, nat_le, AllPairs, Contains, Result, Ok, Err, IfOk}
+use Rattle.part_pasts.proofs.Common.{OnOk, IsSome, eqb-true, eq-eqb, false≢true, and_parts, and_from, leb-true, le-leb, map-append, take_more}
+use Rattle.part_pasts.proofs.Common.{take_all, none-some, get_or_from_slice_get, Contains-get_or, has_number, AllPairs-from_map}
+use Rattle.part_pasts.proofs.Common.{place_before-Contains, has_number-Contains, has_number-from_Contains, has_number-push, Contents, IsRising}
+use Rattle.part_pasts.proofs.Common.{value_at, same_pairs, pairs_at, from_to, ArePairsOf}
 use Rattle.packed_map.specs.Entries.{value_at as packed_at}
-use Rattle.key_parts.specs.Left.{pairs_at}
-use Rattle.part_pasts.specs.Ranges.{from_to}
-use Rattle.part_pasts.specs.Uniting.{ArePairsOf}
 use Rattle.part_pasts.proofs.UnionLemmas.{pairs_rise, none_either, values_at_some}
 
 pub same_value : (pairs : Contents) (key : ℕ) → packed_at pairs key ≡ value_at pairs key

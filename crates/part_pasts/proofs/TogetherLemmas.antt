@@ -1,27 +1,12 @@
 -- Pasts of different keys as one, and what is known of parts that became one.
-use Rattle.std.proofs.Common.{◌≡◌, ℕ, ◌<◌, ◌≤◌, ◌+◌, Bool, true, false, ◌&&◌, ◌||◌, List, [], ◌∷◌, ◌++◌, length, get_or, take, map, refl, sym, ap, ◌∙◌, subst, ⊎_elim, append_assoc, append-nil, arith}
-use Rattle.std.specs.Prelude.{◌≢◌, nat_le, All, AllPairs, Contains}
-use Rattle.std.specs.List.{AllZip}
-use Rattle.std.proofs.lemmas.List.{take_more, take_all}
-use Rattle.std.proofs.lemmas.List.Folds.{list_any-append}
-use Rattle.std.proofs.lemmas.List.Elements.{All-nil, All-head, All-tail, All-contains}
-use Rattle.list_laws.proofs.FilterLemmas.{Contains-map, Contains-from_map}
-use Rattle.list_laws.proofs.Lists.{All-from_contains, Contains-first, Contains-nil, Contains-cases, AllPairs-nil, AllPairs-head, AllPairs-tail}
-use Rattle.events.specs.declared.operation.Operation.{Operation}
-use Rattle.events.specs.Precedence.{precedes, NonePrecedesItself}
-use Rattle.map_object.specs.MapObject.{Contents}
-use Rattle.kept_pasts.specs.Pasts.{KeptPast}
-use Rattle.part_cuts.specs.PartCuts.{AreShaped, found_at, kept_of}
-use Rattle.part_cuts.specs.declared.past.Found.{Found}
-use Rattle.part_cuts.specs.declared.past.Past.{Past}
-use Rattle.part_pasts.specs.Ranges.{covered, from_to}
-use Rattle.part_pasts.specs.Views.{kept_part, past_of}
-use Rattle.part_pasts.specs.Shapes.{IsPastShaped, IsPartShaped, AreBesidePasts, AreBesideEachOther}
-use Rattle.part_pasts.specs.Uniting.{AreOne, HasRow, AreAllPairs, ArePairsOf, IsTakenFrom, IsTogetherWith}
-use Rattle.kept_parts.specs.KeptParts.{at_rest}
-use Rattle.part_pasts.specs.declared.part.Part.{Part}
-use Rattle.part_pasts.specs.declared.ranges.Range.{Range}
-use Rattle.part_pasts.specs.declared.uniting.United.{United}
+use Rattle.part_pasts.proofs.Common.{◌≡◌, ℕ, ◌<◌, ◌≤◌, ◌+◌, Bool, true, false, ◌||◌, List, [], ◌∷◌, ◌++◌, length, get_or, take, map, refl, sym, ap}
+use Rattle.part_pasts.proofs.Common.{◌∙◌, subst, ⊎_elim, append-nil, arith, ◌≢◌, nat_le, All, AllPairs, Contains, AllZip, take_more, take_all}
+use Rattle.part_pasts.proofs.Common.{list_any-append, All-nil, All-head, All-tail, All-contains, Contains-map, Contains-from_map, All-from_contains}
+use Rattle.part_pasts.proofs.Common.{Contains-first, Contains-nil, Contains-cases, AllPairs-nil, AllPairs-head, AllPairs-tail, Operation, precedes}
+use Rattle.part_pasts.proofs.Common.{NonePrecedesItself, Contents, KeptPast, AreShaped, found_at, kept_of, Found, Past, covered, from_to, kept_part}
+use Rattle.part_pasts.proofs.Common.{past_of, IsPastShaped, IsPartShaped, AreBesidePasts, AreBesideEachOther, AreOne, HasRow, AreAllPairs, ArePairsOf}
+use Rattle.part_pasts.proofs.Common.{IsTakenFrom, IsTogetherWith, at_rest, Part, Range, United}
+use Rattle.std.proofs.Common.{◌&&◌, append_assoc}
 use Rattle.part_pasts.proofs.UnionLemmas.{UniteAll, pair_of}
 
 -- ---- shapes
@@ -99,7 +84,7 @@ pasts_apart united part own same beside =
 
 -- ---- the loop over the parts
 
--- so far the first parts came to the keys at rest; those that are left may come
+-- the first parts have come to the keys at rest; those that are left may come
 pub record AreUniting (met : List Part) (united : United) (left : List Part) (first : United) : Type 0 where
   pub all : (last : United) → UniteAll united left last → UniteAll first met last
   pub shaped : AreShaped united.pasts.items

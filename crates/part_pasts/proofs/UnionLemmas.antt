@@ -1,36 +1,21 @@
 -- Parts that meet a range and the keys at rest become one (`united_become`).
-use Rattle.std.proofs.Common.{◌≡◌, ℕ, ◌<◌, ◌==◌, Bool, true, false, cond, not, ◌&&◌, ◌||◌, List, [], ◌∷◌, ◌++◌, map, Option, None, Some, inl, inr, refl, sym, ap, ◌∙◌, subst, ⊎_elim}
-use Rattle.std.specs.Prelude.{◌⊎◌, All, Any, Contains}
-use Rattle.std.specs.List.{AllZip}
-use Rattle.std.proofs.lemmas.Bool.{false≢true, and_parts, and_from, or_cases, or_left, or_right, eqb-true}
-use Rattle.std.proofs.lemmas.List.{map-append}
-use Rattle.std.proofs.lemmas.List.Elements.{All-nil, All-cons, All-head, All-tail, All-contains, Contains-append_left, Contains-append_right, Contains-append_cases}
-use Rattle.std.proofs.lemmas.List.Kept.{AllPairs-filter}
-use Rattle.list_laws.proofs.FilterLemmas.{Contains-map, Contains-from_map}
-use Rattle.list_laws.proofs.Lists.{All-from_contains, AllPairs-nil, Any-first, Any-later, Contains-first, Contains-later, Contains-nil, Contains-cases}
-use Rattle.events.specs.declared.operation.Operation.{Operation}
-use Rattle.map_object.specs.MapObject.{Contents, IsRising, value_at}
-use Rattle.map_object.proofs.ValueLemmas.{same_pairs}
-use Rattle.key_effects.specs.Cuts.{Keys}
+use Rattle.part_pasts.proofs.Common.{◌≡◌, ℕ, ◌<◌, ◌==◌, Bool, true, false, cond, not, ◌||◌, List, [], ◌∷◌, ◌++◌, map, Option, None, Some, inl, inr}
+use Rattle.part_pasts.proofs.Common.{refl, sym, ap, ◌∙◌, subst, ⊎_elim, ◌⊎◌, All, Any, Contains, AllZip, false≢true, and_parts, and_from, or_cases}
+use Rattle.part_pasts.proofs.Common.{or_left, or_right, eqb-true, map-append, All-nil, All-cons, All-head, All-tail, All-contains}
+use Rattle.part_pasts.proofs.Common.{Contains-append_left, Contains-append_right, Contains-append_cases, AllPairs-filter, Contains-map}
+use Rattle.part_pasts.proofs.Common.{Contains-from_map, All-from_contains, AllPairs-nil, Any-first, Any-later, Contains-first, Contains-later}
+use Rattle.part_pasts.proofs.Common.{Contains-nil, Contains-cases, Operation, Contents, IsRising, value_at, same_pairs, Keys, HasKeysIn, pairs_at}
+use Rattle.part_pasts.proofs.Common.{FoundAt, KeptPast, KeptPart, IsKeptAs, AreKept, at_rest, IsWithinKeys, found_at, kept_of, Past, covered, from_to}
+use Rattle.part_pasts.proofs.Common.{or_else, kept_part, ArePairsOf, IsTakenFrom, AreOne, AreAllPairs, IsTogetherWith, IsIn, resting, outside, Become}
+use Rattle.part_pasts.proofs.Common.{Part, Range, United}
+use Rattle.std.proofs.Common.{◌&&◌}
 use Rattle.key_effects.specs.Apart.{AreApart}
 use Rattle.key_parts.specs.Parts.{Part as ChosenPart}
-use Rattle.key_parts.specs.Left.{HasKeysIn, pairs_at}
-use Rattle.kept_pasts.specs.Pasts.{FoundAt, KeptPast}
 use Rattle.kept_pasts.specs.Unions.{both_keys, IsTogether, ArePairs, FallsApart}
-use Rattle.kept_parts.specs.KeptParts.{KeptPart, IsKeptAs, AreKept, at_rest}
-use Rattle.kept_parts.specs.Steps.{IsWithinKeys}
 use Rattle.kept_parts.proofs.PartLemmas.{IsKeptFirst, first_of, others_apart}
 use Rattle.kept_parts.proofs.PastLemmas.{zip_back, kept_pasts_are_within}
 use Rattle.kept_parts.proofs.StepLemmas.{any_to, parts_move}
 use Rattle.kept_parts.proofs.UniteLemmas.{kept_parts_unite, kept_parts_fall_apart}
-use Rattle.part_cuts.specs.PartCuts.{found_at, kept_of}
-use Rattle.part_cuts.specs.declared.past.Past.{Past}
-use Rattle.part_pasts.specs.Ranges.{covered, from_to, or_else}
-use Rattle.part_pasts.specs.Views.{kept_part}
-use Rattle.part_pasts.specs.Uniting.{ArePairsOf, IsTakenFrom, AreOne, AreAllPairs, IsTogetherWith, IsIn, resting, outside, Become}
-use Rattle.part_pasts.specs.declared.part.Part.{Part}
-use Rattle.part_pasts.specs.declared.ranges.Range.{Range}
-use Rattle.part_pasts.specs.declared.uniting.United.{United}
 
 -- ---- tests
 

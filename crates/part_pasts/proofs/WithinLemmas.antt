@@ -1,15 +1,8 @@
 -- The pairs of the keys of a range, one key after another.
-use Rattle.std.proofs.Common.{◌≡◌, ℕ, ◌+◌, ◌<◌, ◌≤◌, ◌==◌, Bool, true, false, not, cond, ◌||◌, List, [], ◌∷◌, ◌++◌, map, length, get_or, take, Option, Some, None, refl, sym, ap, ◌∙◌, subst}
-use Rattle.std.specs.Prelude.{◌↔◌, AllPairs, Contains}
-use Rattle.std.specs.Option.{IsSome}
-use Rattle.std.proofs.lemmas.Bool.{eq-eqb, eqb-true, false≢true}
-use Rattle.std.proofs.lemmas.List.{map-append, take_more, take_all}
-use Rattle.list_laws.specs.Lists.{has_number}
-use Rattle.list_laws.proofs.NumberLemmas.{has_number-push}
-use Rattle.map_object.specs.MapObject.{Contents, IsRising, value_at}
+use Rattle.part_pasts.proofs.Common.{◌≡◌, ℕ, ◌+◌, ◌<◌, ◌≤◌, ◌==◌, Bool, true, false, not, cond, ◌||◌, List, [], ◌∷◌, ◌++◌, map, length, get_or, take}
+use Rattle.part_pasts.proofs.Common.{Option, Some, None, refl, sym, ap, ◌∙◌, subst, ◌↔◌, AllPairs, Contains, IsSome, eq-eqb, eqb-true, false≢true}
+use Rattle.part_pasts.proofs.Common.{map-append, take_more, take_all, has_number, has_number-push, Contents, IsRising, value_at, pairs_at, from_to}
 use Rattle.packed_map.specs.Entries.{value_at as packed_at}
-use Rattle.key_parts.specs.Left.{pairs_at}
-use Rattle.part_pasts.specs.Ranges.{from_to}
 use Rattle.part_pasts.proofs.PairLemmas.{value_at-push}
 use Rattle.part_pasts.proofs.TakenLemmas.{same_value, fresh_at, taken_all}
 use Rattle.part_pasts.proofs.UnionLemmas.{pairs_rise, values_at_some}

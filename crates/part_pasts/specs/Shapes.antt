@@ -6,12 +6,12 @@ use Rattle.kept_pasts.specs.Pasts.{KeptPast}
 use Rattle.part_pasts.specs.Views.{kept_part}
 use Rattle.part_pasts.specs.declared.part.Part.{Part}
 
--- the calls that are left of a past stand by rising invocation, and none precedes itself
+-- the calls that are left of a past are sorted by invocation, and none precedes itself
 pub record IsPastShaped (past : KeptPast) : Type 0 where
   pub rising : AllPairs (λ a b. a.inv < b.inv) past.left
   pub apart : NonePrecedesItself past.left
 
--- so do those of all pasts of a part, of which the first has an order
+-- the calls that are left of all pasts of a part are so, and the first past has an order
 pub record IsPartShaped (part : Part) : Type 0 where
   pub first : IsKeptOrder part.first
   pub pasts : All IsPastShaped (kept_part part).pasts

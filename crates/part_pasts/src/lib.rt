@@ -5,6 +5,7 @@
 mod moments;
 mod part;
 mod pasts;
+mod placing;
 mod ranges;
 mod resting;
 mod uniting;
@@ -15,6 +16,7 @@ pub use pasts::{
     GoneOn, agrees, answer_pasts, any_alive, first_alive, found_of, place_for, place_of,
     was_refused,
 };
+pub use placing::places_with;
 pub use ranges::{Range, meet, span};
 pub use resting::{busy_ranges, only_pasts, pairs_within, resting_pairs};
-pub use uniting::{United, places_at, unite};
+pub use uniting::{United, unite};

@@ -7,6 +7,9 @@ use crate::ranges::{Range, meet};
 use events::{Memory, Operation};
 use std::alloc::Global;
 
+/// How many calls a part has at least when it moves on with some of them open.
+const LEAST_CALLS: usize = 40;
+
 /// A read that is pending: the place of its invocation, and its keys.
 #[derive(Clone, Copy)]
 pub struct OpenRead {
@@ -23,7 +26,7 @@ pub fn is_time(part: &Part) -> bool {
         return false;
     }
     let open = part.found.len().saturating_add(count_pending(calls));
-    open == 0 || size >= 16 && size / 3 >= open
+    open == 0 || size >= LEAST_CALLS && size / 3 >= open
 }
 
 /// The moment to which a part may move on, if there is one. No pending read of its keys began before.
@@ -80,8 +83,8 @@ fn first_read(ranges: &[Range], reads: &[OpenRead]) -> Option<usize>
     first
 }
 
-/// The moment after an answer before `hold`, with half of the answers before it, at which the fewest
-/// calls were open that may change the map, and the latest of these.
+/// The moment for a cut: one after an answer before `hold`, with half of the answers before it. It
+/// is the one at which the fewest open calls may change the map, and the latest of these.
 fn best_moment(alloc: Global, calls: &[Operation], hold: usize) -> Result<Option<usize>, Memory> {
     let ends = ends_of(alloc, calls)?;
     let half = ends.len() / 2;

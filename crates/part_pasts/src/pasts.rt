@@ -199,7 +199,7 @@ pub fn answer_pasts(
     Ok(left)
 }
 
-/// A past with the answer of a call that may change the map, if it does not gainsay what the call
+/// A past with the answer of a call that may change the map, unless it contradicts what the call
 /// found there.
 fn answer_past(alloc: Global, past: Past, operation: &Operation) -> Result<Option<Past>, Memory>
     requires { AllPairs (λ a b. a.inv < b.inv) past.calls.items }

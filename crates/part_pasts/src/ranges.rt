@@ -38,7 +38,7 @@ pub fn span(ranges: &[Range], low: u64, high: u64) -> bool
     false
 }
 
-/// The same keys in fewer ranges, where some of them meet.
+/// The keys of some ranges in fewer ranges, if some of them meet.
 pub(crate) fn tidied(alloc: Global, mut ranges: Vec<Range>) -> Result<Vec<Range>, Memory>
     ensures { IfOk result (λ tidy. (key : ℕ)
         → covered tidy.items key ≡ covered ranges.items key) }
@@ -51,7 +51,7 @@ pub(crate) fn tidied(alloc: Global, mut ranges: Vec<Range>) -> Result<Vec<Range>
     Ok(tidy)
 }
 
-/// Adds the keys of a range, to the last one where both meet.
+/// Adds the keys of a range, to the last range if both meet.
 fn add_range(tidy: &mut Vec<Range>, range: Range) -> Result<(), Memory>
     ensures { OnOk result ((key : ℕ) → covered tidy.new.items key
         ≡ covered (tidy.old.items ++ range ∷ []) key) }

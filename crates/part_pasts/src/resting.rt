@@ -67,7 +67,7 @@ fn add_differing(busy: &mut Vec<Range>, map: &SortedMap, other: &SortedMap) -> R
     Ok(())
 }
 
-/// The pairs of a past but for those of busy keys.
+/// The pairs of a past except for those of busy keys.
 pub fn resting_pairs(alloc: Global, busy: &[Range], past: &Past) -> Result<Vec<(u64, u64)>, Memory>
     ensures { IfOk result (λ pairs. AreResting (covered busy.now) past.now.map pairs.items) }
 {

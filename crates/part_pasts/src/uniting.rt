@@ -8,7 +8,7 @@ ghost use Rattle.part_pasts.specs.Shapes.{AreBesideEachOther, AreBesidePasts, Is
 ghost use Rattle.part_pasts.specs.Uniting.{AreAllPairs, ArePairsOf, AreOne, HasRow, IsTakenFrom, IsTogetherWith, IsUnited};
 
 use crate::part::Part;
-use crate::pasts::{place_for, place_of};
+use crate::pasts::place_for;
 use crate::ranges::{Range, tidied};
 use events::{Call, Memory, Operation};
 use kept_orders::KeptOrder;
@@ -17,8 +17,8 @@ use packed_map::PackedMap;
 use part_cuts::Past;
 use std::alloc::Global;
 
-/// Parts that became one: its keys and pasts, and a moment for each call of the orders that were kept,
-/// with the call's invocation, by rising moments.
+/// Parts that became one: the keys and the pasts of the new part. It also has a moment for each
+/// call of the orders that were kept, with the call's invocation, by rising moments.
 pub struct United {
     pub ranges: Vec<Range>,
     pub tried: usize,
@@ -176,35 +176,6 @@ fn add_points(
     Ok(())
 }
 
-/// The places of calls by these moments, and of one more call at the end.
-pub fn places_at(
-    alloc: Global,
-    calls: &[Operation],
-    points: &[(usize, usize)],
-    last: usize,
-) -> Result<Vec<u32>, Memory>
-    requires { AllPairs (λ a b. a.inv < b.inv) calls.now }
-{
-    let mut places = Vec::with_capacity(alloc, points.len())?;
-    for point in points {
-        add_place(&mut places, calls, point.1)?;
-    }
-    add_place(&mut places, calls, last)?;
-    Ok(places)
-}
-
-/// Adds the place of the call with an invocation, if it has one that fits.
-fn add_place(places: &mut Vec<u32>, calls: &[Operation], inv: usize) -> Result<(), Memory>
-    requires { AllPairs (λ a b. a.inv < b.inv) calls.now }
-{
-    if let Some(place) = place_of(calls, inv) {
-        if let Ok(place) = u32::try_from(place) {
-            places.push(place)?;
-        }
-    }
-    Ok(())
-}
-
 /// All pairs of two lists of pasts, each pair as one past.
 fn all_pairs(alloc: Global, pasts: &[Past], others: &[Past]) -> Result<Vec<Past>, Memory>
     requires shaped { AreShaped pasts.now }
@@ -251,7 +222,7 @@ fn together(alloc: Global, past: &Past, other: &Past) -> Result<Past, Memory>
     Ok(Past { map, calls, found })
 }
 
-/// Pairs with those of other keys, which come in place of them where they have the same key.
+/// Pairs with those of other keys, which come in their place if they have the same key.
 fn pairs_together(alloc: Global, pairs: &SortedMap, others: &SortedMap) -> Result<SortedMap, Memory>
     ensures rises { IfOk result IsRising }
     ensures values { IfOk result (λ both. (key : ℕ) → value_at both key

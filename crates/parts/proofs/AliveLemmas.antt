@@ -1,15 +1,7 @@
 -- Pasts without some that are dead, as far as they were tried.
-use Rattle.std.proofs.Common.{◌≡◌, ◌<◌, List, [], ◌∷◌, ◌++◌, map, inl, inr, append_assoc, append-nil, refl, sym, ap, ◌∙◌, subst}
-use Rattle.std.specs.Prelude.{AllPairs}
-use Rattle.std.proofs.lemmas.List.Elements.{All-head, All-tail}
+use Rattle.parts.proofs.Common.{◌≡◌, ◌<◌, List, [], ◌∷◌, ◌++◌, map, inl, inr, append_assoc, append-nil, refl, sym, ap, ◌∙◌, subst, AllPairs, All-head}
+use Rattle.parts.proofs.Common.{All-tail, Operation, NonePrecedesItself, KeptPast, AreShaped, kept_of, Past, IsDead, AreThoseAlive}
 use mathlib.Core.List.{map-append}
-use Rattle.events.specs.declared.operation.Operation.{Operation}
-use Rattle.events.specs.Precedence.{NonePrecedesItself}
-use Rattle.kept_pasts.specs.Pasts.{KeptPast}
-use Rattle.part_cuts.specs.PartCuts.{AreShaped, kept_of}
-use Rattle.part_cuts.specs.declared.past.Past.{Past}
-use Rattle.part_pasts.specs.Pasts.{IsDead}
-use Rattle.parts.specs.Settled.{AreThoseAlive}
 
 abbrev IsPastShaped : Past → Type 0
 IsPastShaped past = AllPairs (λ (a b : Operation). a.inv < b.inv) past.calls.items × NonePrecedesItself past.calls.items

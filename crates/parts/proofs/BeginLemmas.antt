@@ -1,10 +1,6 @@
 -- A call that begins in each past of a list.
-use Rattle.std.proofs.Common.{◌≡◌, ℕ, suc, ◌<◌, List, [], ◌∷◌, map, length, get_or, refl, ap, ◌∙◌, arith}
-use Rattle.events.specs.declared.operation.Operation.{Operation}
-use Rattle.kept_pasts.specs.Pasts.{KeptPast}
-use Rattle.kept_parts.specs.Events.{with_begun}
-use Rattle.part_cuts.specs.PartCuts.{kept_of}
-use Rattle.part_cuts.specs.declared.past.Past.{Past}
+use Rattle.parts.proofs.Common.{◌≡◌, ℕ, suc, ◌<◌, List, [], ◌∷◌, map, length, get_or, refl, ap, ◌∙◌, arith, Operation, KeptPast, with_begun, kept_of}
+use Rattle.parts.proofs.Common.{Past}
 
 -- where it began in each place, it began in all
 pub begun_in_each : (o : Operation) (olds news : List Past) → length news ≡ length olds

@@ -1,41 +1,15 @@
 -- A call begins: what is kept of the calls (`change_begins`, `read_begins`), also where a key that was at rest becomes a part (`key_is_taken`).
-use Rattle.std.proofs.Common.{◌≡◌, ℕ, suc, ◌==◌, Bool, true, false, not, ◌||◌, cond, List, [], ◌∷◌, ◌++◌, map, Option, None, Some, append-nil, refl, sym, ap, ◌∙◌, subst, ⊎_elim, eqb-true, arith}
-use Rattle.std.specs.Prelude.{◌⊎◌, ◌<◌, if◌then◌else◌, All, Contains}
-use Rattle.std.specs.List.{list_any}
-use Rattle.std.proofs.lemmas.List.Elements.{All-nil, All-head, Contains-append_left, Contains-push}
-use Rattle.std.proofs.lemmas.List.Folds.{list_any-append, list_any_none}
-use Rattle.std.proofs.lemmas.List.Kept.{AllPairs-cons, AllPairs-filter}
-use Rattle.list_laws.proofs.Lists.{AllPairs-nil, Contains-nil}
+use Rattle.parts.proofs.Common.{◌≡◌, ℕ, suc, ◌==◌, Bool, true, false, not, ◌||◌, cond, List, [], ◌∷◌, ◌++◌, map, Option, None, Some, append-nil, refl}
+use Rattle.parts.proofs.Common.{sym, ap, ◌∙◌, subst, ⊎_elim, eqb-true, arith, ◌⊎◌, if◌then◌else◌, All, Contains, list_any, All-nil, All-head}
+use Rattle.parts.proofs.Common.{Contains-append_left, Contains-push, list_any-append, list_any_none, AllPairs-cons, AllPairs-filter, AllPairs-nil}
+use Rattle.parts.proofs.Common.{Contains-nil, Operation, low_key, high_key, may_change, Contents, IsRising, value_at, same_pairs, Keys, AreApart}
+use Rattle.parts.proofs.Common.{HasKeysIn, pairs_at, KeptPast, FoundAt, both_keys, FallsApart, KeptPart, AreKept, at_rest, with_begun, IsWithinKeys}
+use Rattle.parts.proofs.Common.{last_or_old, changes_begin, kept_pasts_are_within, parts_move, kept_parts_fall_apart, found_at, kept_of, Found, Past}
+use Rattle.parts.proofs.Common.{entry_if, covered, kept_part, past_of, Part, OpenRead, is_at_rest, kept_rest, AreReadsOf, IsBegunIn, IsPartOf}
+use Rattle.parts.proofs.Common.{IsTakenOut}
+use Rattle.std.specs.Prelude.{◌<◌}
 use mathlib.Core.List.{map-append}
 use mathlib.Core.Path.{fun_ext}
-use Rattle.events.specs.declared.operation.Operation.{Operation}
-use Rattle.events.specs.Keys.{low_key, high_key, may_change}
-use Rattle.map_object.specs.MapObject.{Contents, IsRising, value_at}
-use Rattle.map_object.proofs.ValueLemmas.{same_pairs}
-use Rattle.key_effects.specs.Cuts.{Keys}
-use Rattle.key_effects.specs.Apart.{AreApart}
-use Rattle.key_parts.specs.Left.{HasKeysIn, pairs_at}
-use Rattle.kept_pasts.specs.Pasts.{KeptPast, FoundAt}
-use Rattle.kept_pasts.specs.Unions.{both_keys, FallsApart}
-use Rattle.kept_parts.specs.KeptParts.{KeptPart, AreKept, at_rest}
-use Rattle.kept_parts.specs.Events.{with_begun}
-use Rattle.kept_parts.specs.Steps.{IsWithinKeys}
-use Rattle.kept_parts.proofs.CallLemmas.{last_or_old}
-use Rattle.kept_parts.proofs.EventLemmas.{changes_begin}
-use Rattle.kept_parts.proofs.PastLemmas.{kept_pasts_are_within}
-use Rattle.kept_parts.proofs.StepLemmas.{parts_move}
-use Rattle.kept_parts.proofs.UniteLemmas.{kept_parts_fall_apart}
-use Rattle.part_cuts.specs.PartCuts.{found_at, kept_of}
-use Rattle.part_cuts.specs.declared.past.Found.{Found}
-use Rattle.part_cuts.specs.declared.past.Past.{Past}
-use Rattle.packed_map.specs.Entries.{entry_if}
-use Rattle.part_pasts.specs.Ranges.{covered}
-use Rattle.part_pasts.specs.Views.{kept_part, past_of}
-use Rattle.part_pasts.specs.declared.part.Part.{Part}
-use Rattle.part_pasts.specs.declared.moments.OpenRead.{OpenRead}
-use Rattle.parts.specs.Views.{is_at_rest, kept_rest}
-use Rattle.parts.specs.Keeping.{AreReadsOf}
-use Rattle.parts.specs.Steps.{IsBegunIn, IsPartOf, IsTakenOut}
 
 -- ---- pending reads
 

@@ -1,38 +1,16 @@
 -- The shape of what is kept, as a call begins (`shaped_change`, `shaped_read`), and as a key that was at rest becomes a part (`shaped_key`).
-use Rattle.std.proofs.Common.{◌≡◌, ◌≢◌, ℕ, suc, ◌<◌, false, List, [], ◌∷◌, ◌++◌, map, Option, None, Some, refl, sym, ap, ◌∙◌, subst, ⊎_elim, arith, get_or}
-use Rattle.std.specs.Prelude.{◌==◌, ◌&&◌, ◌||◌, nat_le, if◌then◌else◌, All, AllPairs}
-use Rattle.std.proofs.lemmas.List.Elements.{All-nil, All-cons, All-tail, All-same, All-append, All-push, All-weaker, All-map, All-contains}
-use Rattle.std.proofs.lemmas.List.Kept.{AllPairs-cons}
-use Rattle.list_laws.proofs.Lists.{AllPairs-nil, AllPairs-head, AllPairs-tail, AllPairs-append, AllPairs-front, AllPairs-back, AllPairs-across, All-front, All-back}
-use Rattle.events.specs.declared.operation.Operation.{Operation}
-use Rattle.events.specs.declared.operation.Response.{Response}
-use Rattle.events.specs.declared.event.Call.{Call}
-use Rattle.events.specs.Keys.{may_change}
-use Rattle.events.specs.Precedence.{precedes, is_before}
-use Rattle.map_object.specs.MapObject.{Contents, IsRising, value_at}
-use Rattle.kept_orders.specs.Views.{IsKeptOrder, KeptOrderView}
-use Rattle.kept_pasts.specs.Pasts.{KeptPast, FoundAt}
-use Rattle.kept_parts.specs.KeptParts.{at_rest}
-use Rattle.kept_parts.specs.Events.{with_begun}
-use Rattle.kept_parts.proofs.CallLemmas.{last_or_old}
-use Rattle.kept_parts.proofs.EventLemmas.{reads_begin}
-use Rattle.part_cuts.specs.PartCuts.{found_at, kept_of}
-use Rattle.part_cuts.specs.declared.past.Found.{Found}
-use Rattle.part_cuts.specs.declared.past.Past.{Past}
-use Rattle.part_pasts.specs.Views.{kept_part, past_of}
-use Rattle.part_pasts.proofs.PairLemmas.{packed_same}
-use Rattle.part_pasts.specs.Ranges.{covered}
-use Rattle.part_pasts.specs.declared.ranges.Range.{Range}
-use Rattle.part_pasts.specs.Shapes.{AreBesideEachOther}
-use Rattle.part_pasts.specs.declared.part.Part.{Part}
-use Rattle.part_pasts.specs.declared.moments.OpenRead.{OpenRead}
-use Rattle.packed_map.specs.Entries.{entry_if, value_at as packed_at}
-use Rattle.std.proofs.lemmas.Bool.Decides.{nat_tests}
-use Rattle.parts.specs.Views.{PartsView, kept_parts}
-use Rattle.parts.specs.Keeping.{begun, IsStateOf}
+use Rattle.parts.proofs.Common.{◌≡◌, ℕ, suc, ◌<◌, false, List, [], ◌∷◌, ◌++◌, map, Option, None, Some, refl, sym, ap, ◌∙◌, subst, ⊎_elim, arith}
+use Rattle.parts.proofs.Common.{get_or, nat_le, if◌then◌else◌, All, AllPairs, All-nil, All-cons, All-tail, All-same, All-append, All-push, All-weaker}
+use Rattle.parts.proofs.Common.{All-map, All-contains, AllPairs-cons, AllPairs-nil, AllPairs-head, AllPairs-tail, AllPairs-append, AllPairs-front}
+use Rattle.parts.proofs.Common.{AllPairs-back, AllPairs-across, All-front, All-back, Operation, Response, Call, may_change, precedes, is_before}
+use Rattle.parts.proofs.Common.{Contents, IsRising, value_at, IsKeptOrder, KeptOrderView, KeptPast, FoundAt, at_rest, with_begun, last_or_old}
+use Rattle.parts.proofs.Common.{reads_begin, found_at, kept_of, Found, Past, kept_part, past_of, packed_same, covered, Range, AreBesideEachOther}
+use Rattle.parts.proofs.Common.{Part, OpenRead, entry_if, nat_tests, PartsView, kept_parts, begun, IsStateOf, IsCallBefore, IsPastBefore}
+use Rattle.parts.proofs.Common.{IsPartBefore, IsBesideReads, IsShaped, IsBegunIn, IsPartOf, IsTakenOut}
+use Rattle.std.proofs.Common.{◌≢◌}
+use Rattle.std.specs.Prelude.{◌==◌, ◌&&◌, ◌||◌}
+use Rattle.packed_map.specs.Entries.{value_at as packed_at}
 use Rattle.parts.proofs.BeginningLemmas.{read_of, reads_more, entry_rises, entry_holds}
-use Rattle.parts.specs.Shapes.{IsCallBefore, IsPastBefore, IsPartBefore, IsBesideReads, IsShaped}
-use Rattle.parts.specs.Steps.{IsBegunIn, IsPartOf, IsTakenOut}
 
 -- ---- a place further on
 

@@ -1,25 +1,11 @@
 -- A call that may change the map begins: the state after it (`change_is_shaped`, `change_is_state`).
-use Rattle.std.proofs.Common.{◌≡◌, ℕ, suc, ◌<◌, true, List, [], ◌∷◌, ◌++◌, map, length, get_or, set, take, drop, Option, Some, refl, sym, ap, ◌∙◌, subst, ⊎_elim, inr, false, eq-eqb, arith}
-use Rattle.std.specs.Prelude.{◌+◌, slice_get, IsSomeAnd, All}
-use Rattle.std.proofs.lemmas.Option.{slice_get-get_or, slice_get_cases}
-use Rattle.std.proofs.lemmas.List.Elements.{All-head, All-weaker}
-use Rattle.list_laws.proofs.Lists.{slice_get-middle}
-use Rattle.list_laws.proofs.Places.{parts_at}
+use Rattle.parts.proofs.Common.{◌≡◌, ℕ, suc, ◌<◌, true, List, [], ◌∷◌, ◌++◌, map, length, get_or, set, take, drop, Option, Some, refl, sym, ap, ◌∙◌}
+use Rattle.parts.proofs.Common.{subst, ⊎_elim, inr, false, eq-eqb, arith, slice_get, IsSomeAnd, All, slice_get-get_or, slice_get_cases, All-head}
+use Rattle.parts.proofs.Common.{All-weaker, slice_get-middle, parts_at, Call, Operation, low_key, may_change, Contents, value_at, IsKeptOrder}
+use Rattle.parts.proofs.Common.{AreKept, kept_of, covered, kept_part, past_of, Part, PartsView, kept_parts, kept_rest, begun, IsStateOf, IsCallBefore}
+use Rattle.parts.proofs.Common.{IsPastBefore, IsShaped, IsBegunIn, IsPartOf, IsTakenOut, IsWithPartOf}
+use Rattle.std.specs.Prelude.{◌+◌}
 use lib.Seq.{set_split}
-use Rattle.events.specs.declared.event.Call.{Call}
-use Rattle.events.specs.declared.operation.Operation.{Operation}
-use Rattle.events.specs.Keys.{low_key, may_change}
-use Rattle.map_object.specs.MapObject.{Contents, value_at}
-use Rattle.kept_orders.specs.Views.{IsKeptOrder}
-use Rattle.kept_parts.specs.KeptParts.{AreKept}
-use Rattle.part_cuts.specs.PartCuts.{kept_of}
-use Rattle.part_pasts.specs.Ranges.{covered}
-use Rattle.part_pasts.specs.Views.{kept_part, past_of}
-use Rattle.part_pasts.specs.declared.part.Part.{Part}
-use Rattle.parts.specs.Views.{PartsView, kept_parts, kept_rest}
-use Rattle.parts.specs.Keeping.{begun, IsStateOf}
-use Rattle.parts.specs.Shapes.{IsCallBefore, IsPastBefore, IsShaped}
-use Rattle.parts.specs.Steps.{IsBegunIn, IsPartOf, IsTakenOut, IsWithPartOf}
 use Rattle.parts.proofs.BeginningLemmas.{change_begins, key_is_taken, reads_stay}
 use Rattle.parts.proofs.BegunLemmas.{same_view, shaped_change, shaped_key}
 

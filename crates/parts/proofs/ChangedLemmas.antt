@@ -1,29 +1,11 @@
 -- A call is answered in all pasts of a part (`answer_in`): how what is left stands, and what becomes of it.
-use Rattle.std.proofs.Common.{◌≡◌, ◌∙◌, ℕ, suc, ◌<◌, false, List, [], ◌∷◌, ◌++◌, map, Option, None, Some, refl, sym, ap, ⊎_elim, arith}
-use Rattle.std.specs.Prelude.{All, Any, Contains, IsSome}
-use Rattle.std.proofs.lemmas.Bool.{le-ltb}
-use Rattle.std.proofs.lemmas.Option.{same_Some}
-use Rattle.std.proofs.lemmas.List.Elements.{All-nil, All-cons, All-head, All-tail, All-append, All-contains, All-weaker}
-use Rattle.list_laws.proofs.Lists.{All-from_contains, Any-first, Any-later}
-use Rattle.events.specs.declared.operation.Operation.{Operation}
-use Rattle.events.specs.declared.operation.Response.{Response}
-use Rattle.events.specs.Precedence.{is_before, precedes}
-use Rattle.map_object.specs.MapObject.{Contents}
-use Rattle.kept_orders.specs.Answers.{IsAnswer}
-use Rattle.kept_orders.specs.declared.kept.Kept.{Kept}
+use Rattle.parts.proofs.Common.{◌≡◌, ◌∙◌, ℕ, suc, ◌<◌, false, List, [], ◌∷◌, ◌++◌, map, Option, None, Some, refl, sym, ap, ⊎_elim, arith, All, Any}
+use Rattle.parts.proofs.Common.{Contains, IsSome, le-ltb, same_Some, All-nil, All-cons, All-head, All-tail, All-append, All-contains, All-weaker}
+use Rattle.parts.proofs.Common.{All-from_contains, Any-first, Any-later, Operation, Response, is_before, precedes, Contents, IsAnswer, Kept, KeptPast}
+use Rattle.parts.proofs.Common.{FoundAt, IsAfterAnswer, AreAfterAnswer, any_to, AreShaped, kept_of, Found, Past, AreGoneOn, AreLeftAfter, IsLeftKept}
+use Rattle.parts.proofs.Common.{lefts, lefts_of_kept, GoneOn, AreLeftOf, HaveGoneOnWith, IsLeftOfOne, IsFirst, IsCallBefore, IsPastBefore}
 use Rattle.kept_orders.specs.declared.kept.Kept.TheVariants.{Order, NoOrder, Spent}
-use Rattle.kept_pasts.specs.Pasts.{KeptPast, FoundAt}
-use Rattle.kept_parts.specs.Events.{IsAfterAnswer, AreAfterAnswer}
-use Rattle.kept_parts.proofs.StepLemmas.{any_to}
-use Rattle.part_cuts.specs.PartCuts.{AreShaped, kept_of}
-use Rattle.part_cuts.specs.declared.past.Found.{Found}
-use Rattle.part_cuts.specs.declared.past.Past.{Past}
-use Rattle.part_pasts.specs.Pasts.{AreGoneOn, AreLeftAfter, IsLeftKept, lefts, lefts_of_kept}
-use Rattle.part_pasts.specs.declared.pasts.GoneOn.{GoneOn}
 use Rattle.part_pasts.proofs.AnsweringLemmas.{IsPastOk, searched}
-use Rattle.part_pasts.proofs.LeftLemmas.{AreLeftOf}
-use Rattle.parts.specs.Answering.{HaveGoneOnWith, IsLeftOfOne, IsFirst}
-use Rattle.parts.specs.Shapes.{IsCallBefore, IsPastBefore}
 use Rattle.parts.specs.declared.answering.First.TheVariants.{Known}
 
 pub the_response : (r : Option Response) → IsSome r → (response : Response) × (r ≡ Some response)

@@ -1,27 +1,15 @@
 -- A pending read has ended: the reads that are left (`reads_ended`), the shape without it (`ended_is_shaped`, `ended_is_own`), and the state
--- where it reports nothing (`nothing_is_kept`).
-use Rattle.std.proofs.Common.{◌≡◌, ℕ, suc, ◌<◌, true, false, List, ◌∷◌, ◌++◌, Option, None, Some, refl, sym, ap, ◌∙◌, subst, ⊎_elim, arith, get_or}
-use Rattle.std.specs.Prelude.{◌≢◌, All, AllPairs, Contains, Result, Ok, Err, IfOk}
-use Rattle.std.proofs.lemmas.List.Elements.{All-append, All-contains, All-head, All-tail, All-weaker, Contains-append_left, Contains-append_right, Contains-append_cases}
-use Rattle.list_laws.proofs.Lists.{All-from_contains, AllPairs-append, AllPairs-front, AllPairs-back, AllPairs-across, AllPairs-head, AllPairs-tail, Contains-first, Contains-later, Contains-around}
-use Rattle.events.specs.declared.operation.Operation.{Operation}
-use Rattle.events.specs.declared.operation.Response.{Response}
-use Rattle.events.specs.Keys.{low_key, high_key, may_change}
-use Rattle.map_object.specs.MapObject.{Contents}
-use Rattle.key_effects.specs.Forms.{HasForm}
-use Rattle.key_effects.specs.KeyedCalls.{IsNoEffect, effect_at}
-use Rattle.key_parts.specs.Left.{answered}
-use Rattle.kept_parts.specs.KeptParts.{AreKept}
-use Rattle.kept_parts.proofs.RestLemmas.{reads_without_report_are_taken}
-use Rattle.part_pasts.specs.Pasts.{IsAnswerOf}
-use Rattle.part_pasts.specs.declared.part.Part.{Part}
-use Rattle.part_pasts.specs.declared.moments.OpenRead.{OpenRead}
-use Rattle.parts.specs.Going.{HasOwnPlace}
-use Rattle.parts.specs.Keeping.{AreReadsOf, IsAnswered, IsKeptBeside, IsStateOf}
-use Rattle.parts.specs.Shapes.{IsPartBefore, IsShaped}
-use Rattle.parts.specs.Steps.{HasEnded, IsReportedAt, ReportsNothing}
-use Rattle.parts.specs.Views.{PartsView, kept_parts}
-use Rattle.parts.specs.declared.state.Answered.{Answered}
+-- where it reports nothing (`nothing_is_kept`). And a part that an answer ends (`has_ended`).
+use Rattle.parts.proofs.Common.{◌≡◌, ℕ, suc, ◌<◌, true, false, List, ◌∷◌, ◌++◌, Option, None, Some, refl, sym, ap, ◌∙◌, subst, ⊎_elim, arith, get_or}
+use Rattle.parts.proofs.Common.{◌≢◌, All, AllPairs, Contains, Result, Ok, Err, IfOk, All-append, All-contains, All-head, All-tail, All-weaker}
+use Rattle.parts.proofs.Common.{Contains-append_left, Contains-append_right, Contains-append_cases, All-from_contains, AllPairs-append}
+use Rattle.parts.proofs.Common.{AllPairs-front, AllPairs-back, AllPairs-across, AllPairs-head, AllPairs-tail, Contains-first, Contains-later}
+use Rattle.parts.proofs.Common.{Contains-around, Operation, Response, low_key, high_key, may_change, Contents, HasForm, IsNoEffect, effect_at}
+use Rattle.parts.proofs.Common.{HasKeysIn, answered, KeptPast, KeptPart, AreKept, HasPasts, reads_without_report_are_taken, IsAnswerOf, covered, Part}
+use Rattle.parts.proofs.Common.{Range, OpenRead, AreEnded, HasOwnPlace, AreReadsOf, AreWithAnswer, HasEndedBy, IsAnswered, IsEndedBy, IsKeptBeside}
+use Rattle.parts.proofs.Common.{IsStateOf, pasts_of, IsPartBefore, IsShaped, HasEnded, IsReportedAt, ReportsNothing, PartsView, kept_parts, Answered}
+use Rattle.parts.proofs.Common.{EndedPart}
+use Rattle.std.proofs.lemmas.Result.{IfOk-weaker}
 use Rattle.parts.specs.declared.state.Answered.TheVariants.{Going, Lost, Spent, Unknown}
 use Rattle.parts.proofs.BegunLemmas.{part_later}
 use Rattle.parts.proofs.ReportLemmas.{told_at}
@@ -225,3 +213,28 @@ pub same_result : {E : Type 0} (start : Contents) (budget : ℕ) (calls : List O
     → old.now ≡ then.now → IfOk result (IsAnswered start budget old calls) → IfOk result (IsAnswered start budget then calls)
 same_result start budget calls old then (Ok answer) same is = same_answered start budget calls old then answer same is
 same_result start budget calls old then (Err e) same is = is
+
+-- ---- a part that an answer ends
+
+module _ (start : Contents) (now : ℕ) (calls : List Operation) (o : Operation) (response : Response) (ranges : List Range)
+    (pasts nexts : List KeptPast) (others : List KeptPart) (keys : HasKeysIn (covered ranges) o) (kept : AreKept start now calls (record { keys = covered ranges; pasts = pasts } ∷ others))
+    (some : All HasPasts (record { keys = covered ranges; pasts = pasts } ∷ others)) (with_answer : AreWithAnswer o response pasts nexts) where
+  ended_so : (ended : EndedPart) → (ended.ranges.items ≡ ranges) × (pasts_of ended ≡ nexts) → IsEndedBy start now calls o response ended
+  ended_so ended is = record {
+    keys = subst (λ (l : List Range). HasKeysIn (covered l) o) (sym is.0) keys;
+    pasts = pasts;
+    others = others;
+    are_kept = subst (λ (l : List Range). AreKept start now calls (record { keys = covered l; pasts = pasts } ∷ others)) (sym is.0) kept;
+    some = subst (λ (l : List Range). All HasPasts (record { keys = covered l; pasts = pasts } ∷ others)) (sym is.0) some;
+    with_answer = subst (λ (l : List KeptPast). AreWithAnswer o response pasts l) (sym is.1) with_answer;
+  }
+
+  answer_so : (answer : Answered) → AreEnded ranges nexts answer → HasEndedBy start now calls o response answer
+  answer_so (Going next) is = tt
+  answer_so (Lost ended) is = ended_so ended is
+  answer_so (Spent ended) is = ended_so ended is
+  answer_so Unknown is = tt
+
+  pub has_ended : {E : Type 0} (result : Result Answered E) → IfOk result (AreEnded ranges nexts)
+      → IfOk result (HasEndedBy start now calls o response)
+  has_ended result is = IfOk-weaker result (AreEnded ranges nexts) (HasEndedBy start now calls o response) answer_so is

@@ -1,18 +1,8 @@
 -- What an answer makes of a first past.
-use Rattle.std.proofs.Common.{◌≡◌, ℕ, ◌+◌, ◌<◌, false, List, ◌∷◌, ◌++◌, map, take, drop, Option, None, Some, refl, sym, ap, ◌∙◌}
-use Rattle.std.specs.Prelude.{is_some, slice_get, slice_set, All, AllPairs}
-use Rattle.std.proofs.lemmas.List.Elements.{All-weaker}
-use Rattle.std.proofs.lemmas.Option.{slice_get_within}
-use Rattle.events.specs.declared.operation.Operation.{Operation}
-use Rattle.events.specs.declared.operation.Response.{Response}
-use Rattle.map_object.specs.MapObject.{Contents}
+use Rattle.parts.proofs.Common.{◌≡◌, ℕ, ◌+◌, ◌<◌, false, List, ◌∷◌, ◌++◌, map, take, drop, Option, None, Some, refl, sym, ap, ◌∙◌, is_some, slice_get}
+use Rattle.parts.proofs.Common.{slice_set, All, AllPairs, All-weaker, slice_get_within, Operation, Response, Contents, IsKnownIn, found_at, Found}
+use Rattle.parts.proofs.Common.{IsAnswerOf, is_the_call, set_parts, IsCallBefore}
 use Rattle.kept_orders.specs.Views as views
-use Rattle.kept_parts.specs.Steps.{IsKnownIn}
-use Rattle.part_cuts.specs.PartCuts.{found_at}
-use Rattle.part_cuts.specs.declared.past.Found.{Found}
-use Rattle.part_pasts.specs.Pasts.{IsAnswerOf}
-use Rattle.part_pasts.proofs.AnswerLemmas.{is_the_call, set_parts}
-use Rattle.parts.specs.Shapes.{IsCallBefore}
 
 -- calls, where the one at a place has its answer
 pub answered_parts : (calls : List Operation) (place : ℕ) (a o operation : Operation) (r response : Response)

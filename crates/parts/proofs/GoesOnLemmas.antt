@@ -1,20 +1,7 @@
 -- Each part of a state goes on.
-use Rattle.std.proofs.Common.{◌≡◌, ℕ, ◌<◌, false, [], map}
-use Rattle.std.specs.Prelude.{◌≢◌, All}
-use Rattle.std.proofs.lemmas.List.Elements.{All-cons, All-map, All-nil, All-weaker}
-use Rattle.events.specs.declared.operation.Operation.{Operation}
-use Rattle.events.specs.Precedence.{precedes}
-use Rattle.list_laws.proofs.Lists.{AllPairs-nil, Any-first}
-use Rattle.map_object.specs.MapObject.{Contents}
-use Rattle.orders.specs.Orders.{IsLinearizable}
-use Rattle.kept_pasts.specs.Pasts.{KeptPast}
-use Rattle.kept_parts.specs.KeptParts.{at_rest}
-use Rattle.kept_parts.specs.Steps.{GoesOn}
-use Rattle.part_cuts.specs.PartCuts.{kept_of}
-use Rattle.part_pasts.specs.Views.{kept_part, past_of}
-use Rattle.part_pasts.specs.declared.part.Part.{Part}
-use Rattle.parts.specs.Shapes.{IsPartBefore, IsShaped}
-use Rattle.parts.specs.Views.{PartsView, kept_parts, kept_rest}
+use Rattle.parts.proofs.Common.{◌≡◌, ℕ, ◌<◌, false, [], map, ◌≢◌, All, All-cons, All-map, All-nil, All-weaker, Operation, precedes, AllPairs-nil}
+use Rattle.parts.proofs.Common.{Any-first, Contents, IsLinearizable, KeptPast, at_rest, GoesOn, kept_of, kept_part, past_of, Part, IsPartBefore}
+use Rattle.parts.proofs.Common.{IsShaped, PartsView, kept_parts, kept_rest}
 
 abbrev HasOrder : KeptPast → Type 0
 HasOrder past = IsLinearizable past.pairs past.left

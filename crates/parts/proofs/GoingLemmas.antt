@@ -1,36 +1,12 @@
 -- A part that an answer came to goes on (`going_is_shaped`, `going_is_state`), or it is kept beside the others (`kept_beside`).
-use Rattle.std.proofs.Common.{◌≡◌, ℕ, Bool, true, false, not, ◌&&◌, ◌||◌, List, [], ◌∷◌, ◌++◌, map, append-nil, refl, sym, ap, ◌∙◌, subst, get_or}
-use Rattle.std.specs.Prelude.{◌≢◌, All}
-use Rattle.std.specs.List.{list_any}
-use Rattle.std.proofs.lemmas.List.{map-append}
-use Rattle.std.proofs.lemmas.List.Elements.{All-nil, All-cons, All-head, All-tail, All-push, All-contains, All-weaker}
-use Rattle.std.proofs.lemmas.List.Folds.{list_any-append}
-use Rattle.std.proofs.lemmas.List.Kept.{AllPairs-cons}
-use Rattle.list_laws.proofs.Lists.{All-back, AllPairs-nil, AllPairs-append}
-use Rattle.events.specs.declared.operation.Operation.{Operation}
-use Rattle.map_object.specs.MapObject.{Contents}
-use Rattle.key_effects.specs.Cuts.{Keys}
-use Rattle.kept_orders.specs.Views.{IsKeptOrder}
-use Rattle.kept_pasts.specs.Pasts.{KeptPast}
-use Rattle.kept_parts.specs.KeptParts.{KeptPart, AreKept, at_rest}
-use Rattle.kept_parts.proofs.StepLemmas.{dead_pasts_are_lost, parts_move}
-use Rattle.part_cuts.specs.PartCuts.{kept_of}
-use Rattle.part_cuts.specs.declared.past.Past.{Past}
-use Rattle.part_pasts.specs.Pasts.{AreAlive, AreGoneOn, IsDead, lefts, lefts_of}
-use Rattle.part_pasts.specs.Ranges.{covered}
-use Rattle.part_pasts.specs.Shapes.{AreBesideEachOther}
-use Rattle.part_pasts.specs.Uniting.{outside, resting}
-use Rattle.part_pasts.specs.Views.{kept_part, past_of}
-use Rattle.part_pasts.specs.declared.part.Part.{Part}
-use Rattle.part_pasts.specs.declared.pasts.GoneOn.{GoneOn}
+use Rattle.parts.proofs.Common.{◌≡◌, ℕ, Bool, true, false, not, ◌&&◌, ◌||◌, List, [], ◌∷◌, ◌++◌, map, append-nil, refl, sym, ap, ◌∙◌, subst, get_or}
+use Rattle.parts.proofs.Common.{◌≢◌, All, list_any, map-append, All-nil, All-cons, All-head, All-tail, All-push, All-contains, All-map, All-weaker}
+use Rattle.parts.proofs.Common.{list_any-append, AllPairs-cons, All-back, All-from_contains, AllPairs-nil, AllPairs-append, Operation, Contents, Keys}
+use Rattle.parts.proofs.Common.{IsKeptOrder, KeptPast, KeptPart, AreKept, at_rest, HasPasts, dead_pasts_are_lost, parts_move, kept_of, Past, AreAlive}
+use Rattle.parts.proofs.Common.{AreGoneOn, IsDead, lefts, lefts_of, covered, AreBesideEachOther, outside, resting, kept_part, past_of, Part, GoneOn}
+use Rattle.parts.proofs.Common.{OpenRead, same_keys, MayBeLeft, kept_with, AreReadsOf, IsKeptBeside, IsStateOf, pasts_of, IsBesideReads, IsPartBefore}
+use Rattle.parts.proofs.Common.{IsPastBefore, IsShaped, PartsView, is_at_rest, kept_rest, EndedPart}
 use Rattle.part_pasts.specs.declared.pasts.GoneOn.TheVariants.{Alive, Dead, Doubtful}
-use Rattle.part_pasts.specs.declared.moments.OpenRead.{OpenRead}
-use Rattle.part_pasts.proofs.UnionLemmas.{same_keys}
-use Rattle.parts.specs.Going.{MayBeLeft, kept_with}
-use Rattle.parts.specs.Keeping.{AreReadsOf, IsKeptBeside, IsStateOf, pasts_of}
-use Rattle.parts.specs.Shapes.{IsBesideReads, IsPartBefore, IsPastBefore, IsShaped}
-use Rattle.parts.specs.Views.{PartsView, is_at_rest, kept_rest}
-use Rattle.parts.specs.declared.state.EndedPart.{EndedPart}
 
 -- ---- calls that are left
 
@@ -155,6 +131,16 @@ going_is_state s part start calls pasts alive reads are = record {
   reads = reads;
 }
 
+-- the others have pasts
+pub all_have_pasts : (parts : List Part) → All HasPasts (map kept_part parts)
+all_have_pasts parts =
+    All-map HasPasts kept_part parts (All-from_contains (λ part. HasPasts (kept_part part)) parts (λ part part_in none. cc))
+
+pub others_have_pasts : (s : PartsView) (keys : Keys)
+    → All HasPasts (resting (outside (is_at_rest s.parts) keys) s.rest ∷ map kept_part s.parts)
+others_have_pasts s keys =
+    All-cons HasPasts (resting (outside (is_at_rest s.parts) keys) s.rest) (map kept_part s.parts) (λ none. cc) (all_have_pasts s.parts)
+
 -- a part that does not go on, beside the others
 pub kept_beside : (s : PartsView) (start : Contents) (place : ℕ) (calls : List Operation) (pasts : List KeptPast) (ended : EndedPart)
     → s.now ≡ place → pasts_of ended ≡ pasts → AreKept start s.now calls (kept_with s (covered ended.ranges.items) pasts)
@@ -163,4 +149,5 @@ kept_beside s start place calls pasts ended at same are = record {
   others = resting (outside (is_at_rest s.parts) (covered ended.ranges.items)) s.rest ∷ map kept_part s.parts;
   are_kept = subst (λ (n : ℕ). AreKept start n calls (kept_with s (covered ended.ranges.items) (pasts_of ended))) at
       (subst (λ (l : List KeptPast). AreKept start s.now calls (kept_with s (covered ended.ranges.items) l)) (sym same) are);
+  some = others_have_pasts s (covered ended.ranges.items);
 }

@@ -1,3 +1,4 @@
+mod Common
 pub mod SpanLemmas
 pub mod ReadLemmas
 pub mod ReadingLemmas

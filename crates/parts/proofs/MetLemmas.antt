@@ -1,23 +1,10 @@
 -- The parts that meet a range are taken out (`met_all`, `met_kept`), and the keys that stay at rest (`met_cover`, `met_rest`).
-use Rattle.std.proofs.Common.{◌≡◌, ℕ, ◌≤◌, Bool, true, false, not, ◌&&◌, ◌||◌, List, [], ◌∷◌, ◌++◌, map, inl, inr, refl, sym, ap, ◌∙◌, subst, ⊎_elim, append_assoc, get_or}
-use Rattle.std.specs.Prelude.{◌⊎◌, nat_le, All, AllPairs, Contains}
-use Rattle.std.specs.List.{list_any}
-use Rattle.std.proofs.lemmas.Bool.{false≢true, and_parts, leb-true}
-use Rattle.std.proofs.lemmas.List.Elements.{All-nil, All-cons, All-contains}
-use Rattle.std.proofs.lemmas.List.Folds.{list_any_none}
-use Rattle.std.proofs.lemmas.List.Kept.{AllPairs-cons}
-use Rattle.list_laws.proofs.Lists.{All-from_contains, AllPairs-nil, AllPairs-head, AllPairs-tail, Any-first, Any-later, Contains-first, Contains-later, Contains-nil, Contains-cases}
-use Rattle.events.specs.declared.operation.Operation.{Operation}
-use Rattle.map_object.specs.MapObject.{Contents}
-use Rattle.kept_parts.specs.KeptParts.{KeptPart, AreKept}
-use Rattle.kept_parts.proofs.StepLemmas.{any_to, parts_move}
-use Rattle.part_pasts.specs.Ranges.{covered, from_to}
-use Rattle.part_pasts.specs.Views.{kept_part}
-use Rattle.part_pasts.specs.Uniting.{IsIn, outside}
-use Rattle.part_pasts.specs.declared.part.Part.{Part}
-use Rattle.part_pasts.specs.declared.ranges.Range.{Range}
-use Rattle.parts.specs.Views.{is_at_rest}
-use Rattle.parts.specs.Steps.{AreParted, AreMet}
+use Rattle.parts.proofs.Common.{◌≡◌, ℕ, ◌≤◌, Bool, true, false, not, ◌&&◌, ◌||◌, List, [], ◌∷◌, ◌++◌, map, inl, inr, refl, sym, ap, ◌∙◌, subst}
+use Rattle.parts.proofs.Common.{⊎_elim, append_assoc, get_or, ◌⊎◌, nat_le, All, AllPairs, Contains, list_any, false≢true, and_parts, leb-true}
+use Rattle.parts.proofs.Common.{All-nil, All-cons, All-contains, list_any_none, AllPairs-cons, All-from_contains, AllPairs-nil, AllPairs-head}
+use Rattle.parts.proofs.Common.{AllPairs-tail, Any-first, Any-later, Contains-first, Contains-later, Contains-nil, Contains-cases, Operation}
+use Rattle.parts.proofs.Common.{Contents, KeptPart, AreKept, any_to, parts_move, covered, from_to, kept_part, IsIn, outside, Part, Range, is_at_rest}
+use Rattle.parts.proofs.Common.{AreParted, AreMet}
 
 -- ---- parts in two lists
 

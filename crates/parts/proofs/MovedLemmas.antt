@@ -1,46 +1,18 @@
 -- The pasts of a part at a moment: those that are alive stand in place of all (`alive_stand`), in two parts (`two_parts`), where dead ones go
 -- (`front_goes`); where no key is busy, all keys come to rest (`all_rest`).
-use Rattle.std.proofs.Common.{◌≡◌, ℕ, ◌<◌, ◌≤◌, ◌==◌, Bool, true, false, cond, not, ◌&&◌, ◌||◌, List, [], ◌∷◌, ◌++◌, map, Option, None, inl, inr, append_assoc, refl, sym, ap, ◌∙◌, subst, ⊎_elim, arith}
-use Rattle.std.specs.Prelude.{◌⊎◌, nat_le, All, AllPairs, Any, Contains}
-use Rattle.std.specs.List.{AllZip}
-use Rattle.std.proofs.lemmas.Bool.{false≢true, and_parts, leb-true, eqb-true, cases_lt}
-use Rattle.std.proofs.lemmas.Option.{none-some}
-use Rattle.std.proofs.lemmas.List.Elements.{All-head, All-tail, All-contains}
-use Rattle.list_laws.proofs.FilterLemmas.{Contains-map, Contains-from_map}
-use Rattle.list_laws.proofs.Lists.{All-from_contains, AllPairs-nil, Contains-nil, Contains-first, Contains-later, Contains-cases, filter_all}
-use Rattle.events.specs.declared.event.Call.{Call}
-use Rattle.events.specs.declared.event.Call.TheVariants.{Get, Insert, Remove, Scan, Replace}
-use Rattle.events.specs.declared.operation.Operation.{Operation}
-use Rattle.events.specs.Keys.{low_key, high_key}
-use Rattle.events.specs.Precedence.{NonePrecedesItself}
-use Rattle.map_object.specs.MapObject.{Contents, value_at}
-use Rattle.map_object.proofs.ValueLemmas.{same_pairs}
-use Rattle.key_effects.specs.KeyedCalls.{concerns_key, keyed}
-use Rattle.key_effects.specs.Cuts.{Keys}
+use Rattle.parts.proofs.Common.{◌≡◌, ℕ, ◌<◌, ◌≤◌, ◌==◌, Bool, true, false, cond, not, ◌&&◌, ◌||◌, List, [], ◌∷◌, ◌++◌, map, Option, None, inl, inr}
+use Rattle.parts.proofs.Common.{append_assoc, refl, sym, ap, ◌∙◌, subst, ⊎_elim, arith, ◌⊎◌, nat_le, All, AllPairs, Any, Contains, AllZip, false≢true}
+use Rattle.parts.proofs.Common.{and_parts, leb-true, cases_lt, none-some, All-head, All-tail, All-contains, Contains-map, Contains-from_map}
+use Rattle.parts.proofs.Common.{All-from_contains, AllPairs-nil, Contains-nil, Contains-first, Contains-later, Contains-cases, filter_all, Call, Get}
+use Rattle.parts.proofs.Common.{Insert, Remove, Scan, Replace, Operation, low_key, high_key, NonePrecedesItself, Contents, value_at, same_pairs}
+use Rattle.parts.proofs.Common.{concerns_key, keyed, Keys, HasKeysIn, pairs_at, KeptPast, FoundAt, IsPast, both_keys, FallsApart, KeptPart, AreKept}
+use Rattle.parts.proofs.Common.{at_rest, IsWithinKeys, ReadsBeganAfter, zip_forth, kept_pasts_are_within, pasts_in_any_order_are_kept, any_to}
+use Rattle.parts.proofs.Common.{dead_pasts_are_lost, kept_parts_fall_apart, AreShaped, found_at, kept_of, Found, Past, covered, IsPastShaped, IsDead}
+use Rattle.parts.proofs.Common.{IsBusyFor, IsOfKey, IsOnly, resting, outside, AreBegunAfter, Range, OpenRead, pairs_rise, same_keys, values_at_some}
+use Rattle.parts.proofs.Common.{AreReadsOf, AreThoseAlive}
+use Rattle.std.proofs.lemmas.Bool.{eqb-true}
 use Rattle.key_parts.specs.Operations.{HasSomeKeyIn}
-use Rattle.key_parts.specs.Left.{HasKeysIn, pairs_at}
-use Rattle.kept_pasts.specs.Pasts.{KeptPast, FoundAt, IsPast}
-use Rattle.kept_pasts.specs.Unions.{both_keys, FallsApart}
-use Rattle.kept_parts.specs.KeptParts.{KeptPart, AreKept, at_rest}
-use Rattle.kept_parts.specs.Steps.{IsWithinKeys, ReadsBeganAfter}
 use Rattle.kept_parts.proofs.PartLemmas.{IsKeptFirst, first_of}
-use Rattle.kept_parts.proofs.PastLemmas.{zip_forth, kept_pasts_are_within, pasts_in_any_order_are_kept}
-use Rattle.kept_parts.proofs.StepLemmas.{any_to, dead_pasts_are_lost}
-use Rattle.kept_parts.proofs.UniteLemmas.{kept_parts_fall_apart}
-use Rattle.part_cuts.specs.PartCuts.{AreShaped, found_at, kept_of}
-use Rattle.part_cuts.specs.declared.past.Found.{Found}
-use Rattle.part_cuts.specs.declared.past.Past.{Past}
-use Rattle.part_pasts.specs.Ranges.{covered}
-use Rattle.part_pasts.specs.Shapes.{IsPastShaped}
-use Rattle.part_pasts.specs.Pasts.{IsDead}
-use Rattle.part_pasts.specs.Resting.{IsBusyFor, IsOfKey, IsOnly}
-use Rattle.part_pasts.specs.Uniting.{resting, outside}
-use Rattle.part_pasts.specs.Moments.{AreBegunAfter}
-use Rattle.part_pasts.specs.declared.ranges.Range.{Range}
-use Rattle.part_pasts.specs.declared.moments.OpenRead.{OpenRead}
-use Rattle.part_pasts.proofs.UnionLemmas.{pairs_rise, same_keys, values_at_some}
-use Rattle.parts.specs.Keeping.{AreReadsOf}
-use Rattle.parts.specs.Settled.{AreThoseAlive}
 
 true_or_false : (b : Bool) → (b ≡ true) ⊎ (b ≡ false)
 true_or_false true = inl refl

@@ -1,34 +1,13 @@
 -- A read that comes to the calls of pasts.
-use Rattle.std.proofs.Common.{◌≡◌, ℕ, suc, ◌<◌, ◌≤◌, ◌+◌, false, List, [], ◌∷◌, ◌++◌, map, length, get_or, set, take, drop, append-nil, Option, None, Some, refl, sym, ap, ◌∙◌, subst, below_more, get_or-set_other, get_or-set_same, arith}
-use Rattle.std.specs.Prelude.{◌≢◌, All, AllPairs}
-use Rattle.std.specs.List.{AllZip}
+use Rattle.parts.proofs.Common.{◌≡◌, ℕ, suc, ◌<◌, ◌≤◌, ◌+◌, false, List, [], ◌∷◌, ◌++◌, map, length, get_or, set, take, drop, append-nil, Option}
+use Rattle.parts.proofs.Common.{None, Some, refl, sym, ap, ◌∙◌, subst, below_more, get_or-set_other, get_or-set_same, arith, ◌≢◌, All, AllPairs}
+use Rattle.parts.proofs.Common.{AllZip, false≢true, length-set, get_or_default, take_all, drop_all, All-cons, All-head, All-tail, All-append}
+use Rattle.parts.proofs.Common.{All-weaker, All-contains, AllPairs-cons, Contains-map, All-from_contains, All-front, All-back, AllPairs-append}
+use Rattle.parts.proofs.Common.{AllPairs-front, AllPairs-back, AllPairs-across, Operation, Response, precedes, NonePrecedesItself, Contents}
+use Rattle.parts.proofs.Common.{KeptOrderView, HasCome, MayCome, IsAnswer, IsAnswerWith, Kept, KeptPast, IsWithRead, AreShaped, found_at, kept_of}
+use Rattle.parts.proofs.Common.{Found, Past, kept_part, past_of, IsPastShaped, IsPartShaped, AreGoneOn, Part, IsShapedPast, IsCallBefore, MayComeTo}
+use Rattle.parts.proofs.Common.{HasGoneIn, Read}
 use Rattle.std.specs.Option.{IsSome}
-use Rattle.std.proofs.lemmas.Bool.{false≢true}
-use Rattle.std.proofs.lemmas.List.{length-set, get_or_default, take_all, drop_all}
-use Rattle.std.proofs.lemmas.List.Elements.{All-cons, All-head, All-tail, All-append, All-weaker, All-contains}
-use Rattle.std.proofs.lemmas.List.Kept.{AllPairs-cons}
-use Rattle.list_laws.proofs.FilterLemmas.{Contains-map}
-use Rattle.list_laws.proofs.Lists.{All-from_contains, All-front, All-back, AllPairs-append, AllPairs-front, AllPairs-back, AllPairs-across}
-use Rattle.events.specs.declared.operation.Operation.{Operation}
-use Rattle.events.specs.declared.operation.Response.{Response}
-use Rattle.events.specs.Precedence.{precedes, NonePrecedesItself}
-use Rattle.map_object.specs.MapObject.{Contents}
-use Rattle.kept_orders.specs.Views.{KeptOrderView, HasCome, MayCome}
-use Rattle.kept_orders.specs.Answers.{IsAnswer, IsAnswerWith}
-use Rattle.kept_orders.specs.declared.kept.Kept.{Kept}
-use Rattle.kept_pasts.specs.Pasts.{KeptPast}
-use Rattle.kept_parts.specs.Events.{IsWithRead}
-use Rattle.part_cuts.specs.PartCuts.{AreShaped, found_at, kept_of}
-use Rattle.part_cuts.specs.declared.past.Found.{Found}
-use Rattle.part_cuts.specs.declared.past.Past.{Past}
-use Rattle.part_pasts.specs.Views.{kept_part, past_of}
-use Rattle.part_pasts.specs.Shapes.{IsPastShaped, IsPartShaped}
-use Rattle.part_pasts.specs.Pasts.{AreGoneOn}
-use Rattle.part_pasts.specs.declared.part.Part.{Part}
-use Rattle.part_pasts.proofs.TogetherLemmas.{IsShapedPast}
-use Rattle.parts.specs.Shapes.{IsCallBefore, MayComeTo}
-use Rattle.parts.specs.Steps.{HasGoneIn}
-use Rattle.parts.specs.declared.reading.Read.{Read}
 
 -- ---- in each past
 

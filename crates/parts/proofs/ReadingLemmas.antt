@@ -1,13 +1,7 @@
 -- Pending reads that end, and parts that a range meets.
-use Rattle.std.proofs.Common.{◌≡◌, ℕ, suc, ◌<◌, ◌≤◌, ◌+◌, true, false, List, [], ◌∷◌, ◌++◌, length, get_or, take, drop, inl, inr, refl, sym, ap, ◌∙◌, subst, append_assoc, add-one, length-append, arith}
-use Rattle.std.specs.Prelude.{◌≢◌, All}
-use Rattle.std.proofs.lemmas.List.{get_or_default, take_more, take_at, drop_more, drop_at, length-take-le}
-use Rattle.std.proofs.lemmas.List.Elements.{All-push}
-use Rattle.list_laws.proofs.Places.{parts_at}
-use Rattle.part_pasts.specs.Ranges.{covered}
-use Rattle.part_pasts.specs.declared.part.Part.{Part}
-use Rattle.part_pasts.specs.declared.moments.OpenRead.{OpenRead}
-use Rattle.parts.specs.Steps.{AreParted, HasEnded}
+use Rattle.parts.proofs.Common.{◌≡◌, ℕ, suc, ◌<◌, ◌≤◌, ◌+◌, true, false, List, [], ◌∷◌, ◌++◌, length, get_or, take, drop, inl, inr, refl, sym, ap}
+use Rattle.parts.proofs.Common.{◌∙◌, subst, append_assoc, add-one, length-append, arith, ◌≢◌, All, get_or_default, take_more, take_at, drop_more}
+use Rattle.parts.proofs.Common.{drop_at, length-take-le, All-push, parts_at, covered, Part, OpenRead, AreParted, HasEnded}
 
 -- ---- a pending read ends
 

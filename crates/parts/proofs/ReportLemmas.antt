@@ -1,46 +1,19 @@
 -- A read that reports something is answered: where its keys are at rest (`taken_at_rest`), or in a part that is made of those that it met
 -- (`report_is_kept`, `report_is_left`).
-use Rattle.std.proofs.Common.{◌≡◌, ℕ, suc, ◌<◌, ◌≤◌, true, false, List, [], ◌∷◌, ◌++◌, map, Option, None, Some, refl, sym, ap, ◌∙◌, subst, eqb-true, arith, get_or}
-use Rattle.std.specs.Prelude.{◌≢◌, nat_le, nat_lt, All, AllPairs, Any, Contains}
-use Rattle.std.specs.List.{AllZip}
-use Rattle.std.proofs.lemmas.Bool.{and_from, le-leb}
-use Rattle.std.proofs.lemmas.Bool.Decides.{nat_tests}
-use Rattle.std.proofs.lemmas.List.Elements.{All-nil, All-cons, All-head, All-tail, All-append, All-contains, All-weaker}
-use Rattle.std.proofs.lemmas.List.Kept.{AllPairs-cons}
-use Rattle.list_laws.proofs.Lists.{All-from_contains, All-front, All-back, AllPairs-append, AllPairs-front, AllPairs-back, AllPairs-across}
-use Rattle.events.specs.declared.event.Call.{Call}
-use Rattle.events.specs.declared.event.Call.TheVariants.{Get, Insert, Remove, Scan, Replace}
-use Rattle.events.specs.declared.operation.Operation.{Operation}
-use Rattle.events.specs.declared.operation.Response.{Response}
-use Rattle.events.specs.Keys.{low_key, high_key, may_change}
-use Rattle.events.specs.Precedence.{is_before, precedes}
-use Rattle.map_object.specs.MapObject.{Contents, IsRising}
-use Rattle.orders.specs.Orders.{IsLegalCall}
+use Rattle.parts.proofs.Common.{◌≡◌, ℕ, suc, ◌<◌, ◌≤◌, true, false, List, [], ◌∷◌, ◌++◌, map, Option, None, Some, refl, sym, ap, ◌∙◌, subst, eqb-true}
+use Rattle.parts.proofs.Common.{arith, get_or, ◌≢◌, nat_le, nat_lt, All, AllPairs, Any, Contains, AllZip, and_from, le-leb, nat_tests, All-nil}
+use Rattle.parts.proofs.Common.{All-cons, All-head, All-tail, All-append, All-contains, All-weaker, AllPairs-cons, All-from_contains, All-front}
+use Rattle.parts.proofs.Common.{All-back, AllPairs-append, AllPairs-front, AllPairs-back, AllPairs-across, Call, Get, Insert, Remove, Scan, Replace}
+use Rattle.parts.proofs.Common.{Operation, Response, low_key, high_key, may_change, is_before, precedes, Contents, IsRising, IsLegalCall}
+use Rattle.parts.proofs.Common.{concerns_key, is_refused, HasForm, HasKeysIn, answered, pairs_at, KeptPast, KeptPart, AreKept, at_rest, IsWithRead}
+use Rattle.parts.proofs.Common.{reads_are_answered, reads_at_rest_are_taken, any_to, parts_move, IsAnswerOf, covered, from_to, AreBesideEachOther}
+use Rattle.parts.proofs.Common.{IsPartShaped, IsPastShaped, Become, outside, resting, kept_part, Part, Range, OpenRead, same_keys, HasOwnPlace}
+use Rattle.parts.proofs.Common.{MayBeLeft, MayStand, kept_with, IsCallBefore, IsPartBefore, IsPastBefore, IsShaped, MayComeTo, AreMet, AreParted}
+use Rattle.parts.proofs.Common.{IsReportedAt, PartsView, is_at_rest, kept_parts, kept_rest}
 use Rattle.segments.proofs.RangeLemmas.{IsLegalCall-within}
-use Rattle.key_effects.specs.KeyedCalls.{concerns_key, is_refused}
-use Rattle.key_effects.specs.Forms.{HasForm}
-use Rattle.key_parts.specs.Left.{answered, pairs_at}
-use Rattle.kept_pasts.specs.Pasts.{KeptPast}
-use Rattle.kept_parts.specs.KeptParts.{KeptPart, AreKept, at_rest}
-use Rattle.kept_parts.specs.Events.{IsWithRead}
-use Rattle.kept_parts.proofs.AnswerLemmas.{reads_are_answered}
-use Rattle.kept_parts.proofs.RestLemmas.{reads_at_rest_are_taken}
-use Rattle.kept_parts.proofs.StepLemmas.{any_to, parts_move}
-use Rattle.part_pasts.specs.Pasts.{IsAnswerOf}
-use Rattle.part_pasts.specs.Ranges.{covered, from_to}
-use Rattle.part_pasts.specs.Shapes.{AreBesideEachOther, IsPartShaped, IsPastShaped}
-use Rattle.part_pasts.specs.Uniting.{Become, outside, resting}
-use Rattle.part_pasts.specs.Views.{kept_part}
-use Rattle.part_pasts.specs.declared.part.Part.{Part}
-use Rattle.part_pasts.specs.declared.ranges.Range.{Range}
-use Rattle.part_pasts.specs.declared.moments.OpenRead.{OpenRead}
-use Rattle.part_pasts.proofs.UnionLemmas.{same_keys}
-use Rattle.parts.specs.Going.{HasOwnPlace, MayBeLeft, MayStand, kept_with}
-use Rattle.parts.specs.Shapes.{IsCallBefore, IsPartBefore, IsPastBefore, IsShaped, MayComeTo}
-use Rattle.parts.specs.Steps.{AreMet, AreParted, IsReportedAt}
-use Rattle.parts.specs.Views.{PartsView, is_at_rest, kept_parts, kept_rest}
 use Rattle.parts.proofs.BegunLemmas.{part_later}
-use Rattle.parts.proofs.MetLemmas.{all_left, all_out, pairs_left, pairs_out, pairs_across, parted_kept, parted_out, met_cover, met_rest, none_met, none_out}
+use Rattle.parts.proofs.MetLemmas.{all_left, all_out, pairs_left, pairs_out, pairs_across, parted_kept, parted_out, met_cover, met_rest, none_met}
+use Rattle.parts.proofs.MetLemmas.{none_out}
 
 -- ---- keys
 
@@ -229,6 +202,51 @@ module _ (s : PartsView) (shaped : IsShaped s) (left met : List Part) (parted : 
 -- ---- what is kept
 
 module _ (s : PartsView) (left met : List Part) (start : Contents) (front back : List Operation) where
+  -- the part that the read is left in, before it is
+  united_so : (o : Operation) → AreMet (low_key o.call) (high_key o.call) s.parts left met → (rest : Contents)
+      → (ranges : List Range) (pasts : List KeptPast) → Become (low_key o.call) (high_key o.call) s.rest rest met ranges pasts
+      → AreKept start s.now (front ++ o ∷ back) (kept_parts s)
+      → AreKept start s.now (front ++ o ∷ back)
+      (kept_with (record { rest = rest; parts = left; reads = s.reads; now = suc s.now }) (covered ranges) pasts)
+  united_so o is rest ranges pasts become kept =
+      (parts_move start s.now calls part (beside ∷ []) (map kept_part left)).0
+      (same_keys start s.now calls (outside (is_at_rest s.parts) (covered ranges)) (outside (is_at_rest left) (covered ranges)) (at_rest rest ∷ [])
+      (part ∷ map kept_part left) (met_rest low high s.parts left met is ranges become.of_parts)
+      (become.leads start s.now calls (is_at_rest s.parts) (map kept_part left) (met_cover low high s.parts left met is)
+      (parted_kept start s.now calls (kept_rest s.rest s.parts ∷ []) s.parts left met is.parted kept)))
+    where
+      low : ℕ
+      low = low_key o.call
+
+      high : ℕ
+      high = high_key o.call
+
+      calls : List Operation
+      calls = front ++ o ∷ back
+
+      part : KeptPart
+      part = record { keys = covered ranges; pasts = pasts }
+
+      beside : KeptPart
+      beside = resting (outside (is_at_rest left) (covered ranges)) rest
+
+  pub report_comes_to : (o : Operation) (response : Response) (operation : Operation) → IsAnswerOf o response operation
+      → AreMet (low_key operation.call) (high_key operation.call) s.parts left met → (rest : Contents) (ranges : List Range)
+      (pasts : List KeptPast) → Become (low_key operation.call) (high_key operation.call) s.rest rest met ranges pasts
+      → AreKept start s.now (front ++ o ∷ back) (kept_parts s)
+      → AreKept start s.now (front ++ o ∷ back)
+      (kept_with (record { rest = rest; parts = left; reads = s.reads; now = suc s.now }) (covered ranges) pasts)
+  report_comes_to o response operation answer is rest ranges pasts become kept =
+      united_so o (subst (λ (x : Operation). AreMet (low_key x.call) (high_key x.call) s.parts left met) answer.is is) rest ranges pasts
+      (subst (λ (x : Operation). Become (low_key x.call) (high_key x.call) s.rest rest met ranges pasts) answer.is become) kept
+
+  -- it has all keys of the read
+  pub report_keys : (o : Operation) (response : Response) (operation : Operation) → IsAnswerOf o response operation → (rest : Contents)
+      → (ranges : List Range) (pasts : List KeptPast) → Become (low_key operation.call) (high_key operation.call) s.rest rest met ranges pasts
+      → HasKeysIn (covered ranges) o
+  report_keys o response operation answer rest ranges pasts become key here =
+      become.spans key (concerned_within operation.call key (subst (λ (x : Operation). concerns_key x.call key ≡ true) (sym answer.is) here))
+
   -- where the read is left
   kept_so : (o : Operation) (response : Response) → AreMet (low_key o.call) (high_key o.call) s.parts left met → (rest : Contents)
       → (ranges : List Range) (pasts nexts : List KeptPast) → Become (low_key o.call) (high_key o.call) s.rest rest met ranges pasts
@@ -241,20 +259,13 @@ module _ (s : PartsView) (left met : List Part) (start : Contents) (front back :
       (told_at s.now (answered response o) response report.reported refl) report.form report.shaped
       (become.spans low (low_within low high report.shaped))
       (λ key here. become.spans key (concerned_within o.call key here)) zip
-      ((parts_move start s.now calls part (beside ∷ []) (map kept_part left)).0
-      (same_keys start s.now calls (outside (is_at_rest s.parts) (covered ranges)) (outside (is_at_rest left) (covered ranges)) (at_rest rest ∷ [])
-      (part ∷ map kept_part left) (met_rest low high s.parts left met is ranges become.of_parts)
-      (become.leads start s.now calls (is_at_rest s.parts) (map kept_part left) (met_cover low high s.parts left met is)
-      (parted_kept start s.now calls (kept_rest s.rest s.parts ∷ []) s.parts left met is.parted kept))))
+      (united_so o is rest ranges pasts become kept)
     where
       low : ℕ
       low = low_key o.call
 
       high : ℕ
       high = high_key o.call
-
-      calls : List Operation
-      calls = front ++ o ∷ back
 
       part : KeptPart
       part = record { keys = covered ranges; pasts = pasts }

@@ -1,40 +1,15 @@
 -- A part moves on, and keys of it come to rest: the state after it (`stay_state`, `gone_state`, `left_state`) and its shape (`stay_shape`,
 -- `gone_shape`, `left_shape`). What is left of the part stands at the end of the list.
-use Rattle.std.proofs.Common.{◌≡◌, ℕ, Bool, true, false, not, ◌&&◌, ◌||◌, List, [], ◌∷◌, ◌++◌, map, length, get_or, take, drop, ◌<◌, ◌+◌, inl, inr, Option, None, Some, append-nil, refl, sym, ap, ◌∙◌, subst, ⊎_elim}
-use Rattle.std.specs.Prelude.{◌⊎◌, ◌≢◌, All, AllPairs, Contains, IfSome, if◌then◌else◌}
-use Rattle.std.specs.List.{list_any}
-use Rattle.std.proofs.lemmas.Bool.{false≢true}
-use Rattle.std.proofs.lemmas.List.{map-append}
-use Rattle.std.proofs.lemmas.List.Folds.{list_any-append, list_any_none}
-use Rattle.std.proofs.lemmas.List.Elements.{All-nil, All-cons, All-head, All-tail, All-append, All-weaker, All-contains}
-use Rattle.std.proofs.lemmas.List.Kept.{AllPairs-cons}
-use Rattle.list_laws.proofs.FilterLemmas.{Contains-map}
-use Rattle.list_laws.proofs.Places.{parts_at}
-use Rattle.list_laws.proofs.Lists.{All-from_contains, All-front, All-back, AllPairs-nil, AllPairs-head, AllPairs-tail, AllPairs-append, AllPairs-front, AllPairs-back, AllPairs-across, Contains-nil}
-use Rattle.events.specs.declared.operation.Operation.{Operation}
-use Rattle.map_object.specs.MapObject.{Contents, IsRising, value_at}
-use Rattle.key_effects.specs.Cuts.{Keys}
-use Rattle.key_effects.specs.Apart.{AreApart}
-use Rattle.kept_pasts.specs.Pasts.{KeptPast}
-use Rattle.kept_pasts.specs.Unions.{both_keys, IsTogether}
-use Rattle.kept_parts.specs.KeptParts.{KeptPart, AreKept, at_rest}
-use Rattle.kept_parts.specs.Steps.{IsWithinKeys}
-use Rattle.kept_parts.proofs.PastLemmas.{kept_pasts_are_within}
-use Rattle.kept_parts.proofs.StepLemmas.{any_to, parts_move}
-use Rattle.kept_parts.proofs.UniteLemmas.{kept_parts_unite}
-use Rattle.part_pasts.specs.Ranges.{covered, or_else}
-use Rattle.part_pasts.specs.Views.{kept_part}
-use Rattle.part_pasts.specs.Shapes.{AreBesidePasts, AreBesideEachOther}
-use Rattle.part_pasts.specs.Uniting.{resting, outside}
-use Rattle.part_pasts.specs.declared.part.Part.{Part}
-use Rattle.part_pasts.specs.declared.moments.OpenRead.{OpenRead}
-use Rattle.kept_orders.specs.Views.{IsKeptOrder}
-use Rattle.part_pasts.proofs.UnionLemmas.{kept_apart, same_keys}
-use Rattle.parts.specs.Views.{PartsView, is_at_rest, kept_rest}
-use Rattle.parts.specs.Keeping.{IsStateOf}
-use Rattle.parts.specs.Shapes.{IsPartBefore, IsPastBefore, IsBesideReads, IsShaped}
-use Rattle.parts.specs.Settled.{IsKeptSo, IsSettled, IsWithPairs, IsOfLeft, MovesOn, kept_moved}
-use Rattle.parts.specs.declared.settling.Moved.{Moved}
+use Rattle.parts.proofs.Common.{◌≡◌, ℕ, Bool, true, false, not, ◌&&◌, ◌||◌, List, [], ◌∷◌, ◌++◌, map, length, get_or, take, drop, ◌<◌, ◌+◌, inl, inr}
+use Rattle.parts.proofs.Common.{Option, None, Some, append-nil, refl, sym, ap, ◌∙◌, subst, ⊎_elim, ◌⊎◌, ◌≢◌, All, AllPairs, Contains, IfSome}
+use Rattle.parts.proofs.Common.{if◌then◌else◌, list_any, false≢true, map-append, list_any-append, list_any_none, All-nil, All-cons, All-head}
+use Rattle.parts.proofs.Common.{All-tail, All-append, All-weaker, All-contains, AllPairs-cons, Contains-map, parts_at, All-from_contains, All-front}
+use Rattle.parts.proofs.Common.{All-back, AllPairs-nil, AllPairs-head, AllPairs-tail, AllPairs-append, AllPairs-front, AllPairs-back, AllPairs-across}
+use Rattle.parts.proofs.Common.{Contains-nil, Operation, Contents, IsRising, value_at, Keys, AreApart, KeptPast, both_keys, IsTogether, KeptPart}
+use Rattle.parts.proofs.Common.{AreKept, at_rest, IsWithinKeys, kept_pasts_are_within, any_to, parts_move, kept_parts_unite, covered, or_else}
+use Rattle.parts.proofs.Common.{kept_part, AreBesidePasts, AreBesideEachOther, resting, outside, Part, OpenRead, IsKeptOrder, kept_apart, same_keys}
+use Rattle.parts.proofs.Common.{PartsView, is_at_rest, kept_rest, IsStateOf, IsPartBefore, IsPastBefore, IsBesideReads, IsShaped, IsKeptSo, IsSettled}
+use Rattle.parts.proofs.Common.{IsWithPairs, IsOfLeft, MovesOn, kept_moved, Moved}
 use Rattle.parts.proofs.BegunLemmas.{same_view}
 
 -- ---- keys at rest

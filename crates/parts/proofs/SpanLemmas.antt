@@ -1,32 +1,11 @@
 -- A read that is left in a part that has all its keys (`read_in_span`), or in one that parts became (`read_in_parts`).
-use Rattle.std.proofs.Common.{◌≡◌, ℕ, ◌<◌, ◌≤◌, Bool, true, false, not, ◌&&◌, List, [], ◌∷◌, map, length, get_or, inr, refl, sym, ap, ◌∙◌, subst, ⊎_elim, arith}
-use Rattle.std.specs.Prelude.{◌≢◌, nat_le, All, AllPairs, Any, Contains, Result, Ok, Err, IfOk, OnOk}
-use Rattle.std.proofs.lemmas.Bool.{and_parts, leb-true}
-use Rattle.std.proofs.lemmas.List.{get_or_default}
-use Rattle.std.proofs.lemmas.List.Elements.{All-head, All-weaker, All-map, All-contains}
-use Rattle.list_laws.proofs.FilterLemmas.{Contains-map}
-use Rattle.list_laws.proofs.Lists.{All-from_contains, Any-first, Contains-cases, Contains-nil}
-use Rattle.events.specs.declared.operation.Operation.{Operation}
-use Rattle.events.specs.Keys.{low_key, high_key}
-use Rattle.map_object.specs.MapObject.{Contents, IsRising}
-use Rattle.key_effects.specs.Cuts.{Keys}
-use Rattle.key_effects.specs.Apart.{AreApart}
-use Rattle.kept_pasts.specs.Pasts.{KeptPast}
-use Rattle.kept_parts.specs.KeptParts.{KeptPart, AreKept, at_rest}
-use Rattle.kept_parts.proofs.StepLemmas.{any_to}
-use Rattle.part_cuts.specs.PartCuts.{AreShaped, kept_of}
-use Rattle.part_cuts.specs.declared.past.Past.{Past}
-use Rattle.part_pasts.specs.Ranges.{covered}
-use Rattle.part_pasts.specs.Views.{kept_part}
-use Rattle.part_pasts.specs.Shapes.{IsPastShaped, IsPartShaped}
-use Rattle.part_pasts.specs.Uniting.{Become, IsIn, resting, outside}
-use Rattle.part_pasts.specs.declared.part.Part.{Part}
-use Rattle.part_pasts.specs.declared.ranges.Range.{Range}
-use Rattle.part_pasts.proofs.TogetherLemmas.{IsShapedPast}
-use Rattle.part_pasts.proofs.UnionLemmas.{IsOfParts, any_here, kept_apart, same_keys}
-use Rattle.parts.specs.Shapes.{MayComeTo}
-use Rattle.parts.specs.Steps.{HasGoneIn, IsReadIn}
-use Rattle.parts.specs.declared.reading.Read.{Read}
+use Rattle.parts.proofs.Common.{◌≡◌, ℕ, ◌<◌, ◌≤◌, Bool, true, false, not, ◌&&◌, List, [], ◌∷◌, map, length, get_or, inr, refl, sym, ap, ◌∙◌, subst}
+use Rattle.parts.proofs.Common.{⊎_elim, arith, ◌≢◌, nat_le, All, AllPairs, Any, Contains, Result, Ok, Err, IfOk, OnOk, and_parts, leb-true}
+use Rattle.parts.proofs.Common.{get_or_default, All-head, All-weaker, All-map, All-contains, Contains-map, All-from_contains, Any-first}
+use Rattle.parts.proofs.Common.{Contains-cases, Contains-nil, Operation, low_key, high_key, Contents, IsRising, Keys, AreApart, KeptPast, KeptPart}
+use Rattle.parts.proofs.Common.{AreKept, at_rest, any_to, AreShaped, kept_of, Past, covered, kept_part, IsPastShaped, IsPartShaped, Become, IsIn}
+use Rattle.parts.proofs.Common.{resting, outside, Part, Range, IsShapedPast, IsOfParts, any_here, kept_apart, same_keys, MayComeTo, HasGoneIn}
+use Rattle.parts.proofs.Common.{IsReadIn, Read}
 
 abbrev HasKey : ℕ → Part → Type 0
 HasKey key part = covered part.ranges.items key ≡ true
@@ -75,6 +54,7 @@ pub read_in_span : (budget : ℕ) (o : Operation) (rest : Contents) (part : Part
     → HasGoneIn budget o (kept_part part).pasts read → IsReadIn budget o rest rest (part ∷ []) read
 read_in_span budget o rest part read rising shaped span same gone = record {
   pasts = (kept_part part).pasts;
+  some = λ none. cc;
   become = subst (λ rs. Become (low_key o.call) (high_key o.call) rest rest (part ∷ []) rs.items (kept_part part).pasts) (sym same)
       (spans_become (low_key o.call) (high_key o.call) rest part span rising);
   rising = All-weaker IsPastShaped (λ past. AllPairs (λ a b. a.inv < b.inv) past.left) (λ past is. is.rising) (kept_part part).pasts
@@ -101,12 +81,17 @@ united_differ o met pasts comes own =
     (All-contains (λ (j : KeptPast). All (λ (q : Operation). q.inv ≢ o.inv) j.left) (kept_part part).pasts k
     (All-contains (MayComeTo o) met part comes part_in).other k_in) in_k))
 
+some_mapped : (pasts : List Past) → 0 < length pasts → map kept_of pasts ≢ []
+some_mapped [] some none = omega (arith, some)
+some_mapped (past ∷ pasts) some none = cc
+
 pub read_in_parts : (budget : ℕ) (o : Operation) (low high : ℕ) (old new : Contents) (met : List Part) (ranges : List Range)
-    (pasts : List Past) (read : Read) → low ≡ low_key o.call → high ≡ high_key o.call
+    (pasts : List Past) (read : Read) → low ≡ low_key o.call → high ≡ high_key o.call → 0 < length pasts
     → Become low high old new met ranges (map kept_of pasts) → AreShaped pasts → read.ranges.items ≡ ranges
     → HasGoneIn budget o (map kept_of pasts) read → IsReadIn budget o old new met read
-read_in_parts budget o low high old new met ranges pasts read is_low is_high become shaped same gone = record {
+read_in_parts budget o low high old new met ranges pasts read is_low is_high some become shaped same gone = record {
   pasts = map kept_of pasts;
+  some = some_mapped pasts some;
   become = subst (λ (rs : List Range). Become (low_key o.call) (high_key o.call) old new met rs (map kept_of pasts)) (sym same)
       (subst (λ (h : ℕ). Become (low_key o.call) h old new met ranges (map kept_of pasts)) is_high
       (subst (λ (l : ℕ). Become l high old new met ranges (map kept_of pasts)) is_low become));

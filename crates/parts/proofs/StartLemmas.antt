@@ -1,18 +1,8 @@
 -- The state before any event.
-use Rattle.std.proofs.Common.{◌≡◌, ◌≢◌, ℕ, ◌<◌, List, [], Option, None, Some, refl, sym, ◌∙◌, subst}
-use Rattle.std.proofs.lemmas.List.Elements.{All-nil}
-use Rattle.list_laws.proofs.Lists.{AllPairs-nil, Contains-nil}
-use Rattle.map_object.specs.MapObject.{Contents, IsRising, value_at}
-use Rattle.map_object.proofs.ValueLemmas.{same_pairs}
-use Rattle.kept_parts.proofs.EventLemmas.{all_is_kept}
-use Rattle.part_pasts.specs.Ranges.{or_else}
-use Rattle.part_pasts.specs.Shapes.{AreBesideEachOther}
-use Rattle.part_pasts.specs.declared.part.Part.{Part}
-use Rattle.part_pasts.specs.declared.moments.OpenRead.{OpenRead}
-use Rattle.parts.specs.Views.{PartsView}
-use Rattle.parts.specs.Keeping.{IsStateOf}
-use Rattle.parts.specs.Shapes.{IsPartBefore, IsShaped}
-use Rattle.parts.specs.Settled.{IsWithPairs}
+use Rattle.parts.proofs.Common.{◌≡◌, ℕ, ◌<◌, List, [], Option, None, Some, refl, sym, ◌∙◌, subst, All-nil, AllPairs-nil, Contains-nil, Contents}
+use Rattle.parts.proofs.Common.{IsRising, value_at, same_pairs, all_is_kept, or_else, AreBesideEachOther, Part, OpenRead, PartsView, IsStateOf}
+use Rattle.parts.proofs.Common.{IsPartBefore, IsShaped, IsWithPairs}
+use Rattle.std.proofs.Common.{◌≢◌}
 use Rattle.parts.proofs.BegunLemmas.{same_view}
 
 none_or : (x : Option ℕ) → or_else x None ≡ x

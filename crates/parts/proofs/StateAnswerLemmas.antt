@@ -1,44 +1,24 @@
 -- A call that may change the map is answered in the part that has its key (`answer_change`).
-use Rattle.std.proofs.Common.{◌≡◌, ◌≢◌, ◌∙◌, ℕ, suc, ◌+◌, ◌<◌, Bool, true, false, not, ◌&&◌, ◌||◌, List, [], ◌∷◌, ◌++◌, map, length, get_or, take, drop, add-one, None, Some, refl, sym, ap, subst, ⊎_elim, arith}
-use Rattle.std.specs.Prelude.{slice_get, IsSomeAnd, All, AllPairs, Contains}
-use Rattle.std.specs.List.{list_any, remove}
-use Rattle.std.proofs.lemmas.List.Elements.{All-append, All-contains, All-drop, All-head, All-take, All-weaker, Contains-append_cases, Contains-append_left, Contains-append_right, Contains-get_or}
-use Rattle.std.proofs.lemmas.List.Folds.{list_any-append, list_any_none}
+use Rattle.parts.proofs.Common.{◌≡◌, ◌∙◌, ℕ, suc, ◌+◌, ◌<◌, Bool, true, false, not, ◌&&◌, ◌||◌, List, [], ◌∷◌, ◌++◌, map, length, get_or, take, drop}
+use Rattle.parts.proofs.Common.{add-one, None, Some, inl, refl, sym, ap, subst, ⊎_elim, eqb-true, arith, slice_get, IsSomeAnd, All, AllPairs}
+use Rattle.parts.proofs.Common.{Contains, Result, IfOk, list_any, remove, All-append, All-cons, All-contains, All-drop, All-head, All-take}
+use Rattle.parts.proofs.Common.{All-weaker, Contains-append_cases, Contains-append_left, Contains-append_right, Contains-get_or, list_any-append}
+use Rattle.parts.proofs.Common.{list_any_none, get_or_from_slice_get, same_Some, IsSomeAnd-within, some_at, All-from_contains, AllPairs-across}
+use Rattle.parts.proofs.Common.{AllPairs-back, AllPairs-head, Contains-cases, Contains-first, Contains-later, Contains-nil, parts_at, Call, Get}
+use Rattle.parts.proofs.Common.{Insert, Remove, Scan, Replace, Operation, Response, low_key, may_change, Contents, concerns_key, Keys, answered}
+use Rattle.parts.proofs.Common.{KeptPast, KeptPart, AreKept, at_rest, AreAfterAnswer, HasPasts, IsKnownIn, changes_are_answered}
+use Rattle.parts.proofs.Common.{open_changes_are_kept, any_to, parts_move, AreLeftAfter, IsAnswerOf, covered, AreBesideEachOther, outside, resting}
+use Rattle.parts.proofs.Common.{kept_part, Part, OpenRead, IsLeftOfOne, AreEnded, HasOwnPlace, MayBeLeft, MayStand, kept_with, AreReadsOf, HasEndedBy}
+use Rattle.parts.proofs.Common.{IsBesideReads, IsPartBefore, IsPastBefore, IsShaped, IsReportedAt, PartsView, is_at_rest, kept_parts, kept_rest}
+use Rattle.parts.proofs.Common.{Answered}
+use Rattle.std.proofs.Common.{◌≢◌}
 use Rattle.std.proofs.lemmas.List.Quantifiers.{all_pairs_remove}
-use Rattle.std.proofs.lemmas.Option.{get_or_from_slice_get, same_Some}
-use Rattle.list_laws.proofs.NumberLemmas.{IsSomeAnd-within, some_at}
-use Rattle.list_laws.proofs.Lists.{All-from_contains, AllPairs-across, AllPairs-back, AllPairs-head, Contains-cases, Contains-first, Contains-later, Contains-nil}
-use Rattle.list_laws.proofs.Places.{parts_at}
 use mathlib.Core.List.{map-append}
 use mathlib.Core.Path.{fun_ext}
-use Rattle.events.specs.declared.operation.Operation.{Operation}
-use Rattle.events.specs.declared.operation.Response.{Response}
-use Rattle.events.specs.Keys.{low_key, may_change}
-use Rattle.map_object.specs.MapObject.{Contents}
-use Rattle.key_effects.specs.Cuts.{Keys}
-use Rattle.key_parts.specs.Left.{answered}
-use Rattle.kept_pasts.specs.Pasts.{KeptPast}
-use Rattle.kept_parts.specs.KeptParts.{KeptPart, AreKept, at_rest}
-use Rattle.kept_parts.specs.Events.{AreAfterAnswer}
-use Rattle.kept_parts.specs.Steps.{IsKnownIn}
-use Rattle.kept_parts.proofs.AnswerLemmas.{changes_are_answered}
-use Rattle.kept_parts.proofs.PastLemmas.{open_changes_are_kept}
-use Rattle.kept_parts.proofs.StepLemmas.{any_to, parts_move}
-use Rattle.part_pasts.specs.Pasts.{AreLeftAfter, IsAnswerOf}
-use Rattle.part_pasts.specs.Ranges.{covered}
-use Rattle.part_pasts.specs.Shapes.{AreBesideEachOther}
-use Rattle.part_pasts.specs.Uniting.{outside, resting}
-use Rattle.part_pasts.specs.Views.{kept_part}
-use Rattle.part_pasts.specs.declared.part.Part.{Part}
-use Rattle.part_pasts.specs.declared.moments.OpenRead.{OpenRead}
-use Rattle.parts.specs.Answering.{IsLeftOfOne}
-use Rattle.parts.specs.Going.{HasOwnPlace, MayBeLeft, MayStand, kept_with}
-use Rattle.parts.specs.Keeping.{AreReadsOf}
-use Rattle.parts.specs.Shapes.{IsBesideReads, IsPartBefore, IsPastBefore, IsShaped}
-use Rattle.parts.specs.Steps.{IsReportedAt}
-use Rattle.parts.specs.Views.{PartsView, is_at_rest, kept_parts, kept_rest}
 use Rattle.parts.proofs.BegunLemmas.{part_later, same_view}
 use Rattle.parts.proofs.ChangedLemmas.{IsLeftBefore, left_before}
+use Rattle.parts.proofs.EndedLemmas.{has_ended}
+use Rattle.parts.proofs.GoingLemmas.{all_have_pasts}
 
 -- ---- keys at rest
 
@@ -114,6 +94,14 @@ told_at operation now response reported is =
 
 pub response_is : (o operation : Operation) (response : Response) → IsAnswerOf o response operation → operation.response ≡ Some response
 response_is o operation response answer = ap (λ (x : Operation). x.response) answer.is
+
+-- the only key of a call that may change the map
+only_key : (call : Call) (key : ℕ) → may_change call ≡ true → concerns_key call key ≡ true → low_key call ≡ key
+only_key (Get own) key changes here = cc
+only_key (Insert own value) key changes here = eqb-true own key here
+only_key (Remove own) key changes here = eqb-true own key here
+only_key (Scan low high) key changes here = cc
+only_key (Replace own expected value) key changes here = eqb-true own key here
 
 module _ (s : PartsView) (place : ℕ) (part : Part) (within : place < length s.parts) (here : part ≡ get_or s.parts place part) where
   abbrev fronts : List Part
@@ -218,7 +206,7 @@ module _ (s : PartsView) (place : ℕ) (part : Part) (within : place < length s.
   module _ (start : Contents) (before after : List Operation) (o : Operation) (response : Response) (pending : o.response ≡ None)
       (changes : may_change o.call ≡ true) (has_key : covered part.ranges.items (low_key o.call) ≡ true)
       (kept : AreKept start s.now (before ++ o ∷ after) (kept_parts s)) where
-    abbrev beside : List KeptPart
+    abbrev pub beside : List KeptPart
     beside = kept_rest s.rest (fronts ++ part ∷ backs) ∷ map kept_part fronts ++ map kept_part backs
 
     ahead : AreKept start s.now (before ++ o ∷ after) (kept_part part ∷ beside)
@@ -229,6 +217,13 @@ module _ (s : PartsView) (place : ℕ) (part : Part) (within : place < length s.
         (map kept_part backs)).0
         (subst (λ (ps : List KeptPart). AreKept start s.now (before ++ o ∷ after) (kept_rest s.rest (fronts ++ part ∷ backs) ∷ ps))
         (map-append kept_part fronts (part ∷ backs)) at)
+
+    all_have : All HasPasts (kept_part part ∷ beside)
+    all_have =
+        let around : All HasPasts (map kept_part fronts ++ map kept_part backs) =
+        All-append HasPasts (map kept_part fronts) (map kept_part backs) (all_have_pasts fronts) (all_have_pasts backs) in
+        All-cons HasPasts (kept_part part) beside (λ none. cc)
+        (All-cons HasPasts (kept_rest s.rest (fronts ++ part ∷ backs)) (map kept_part fronts ++ map kept_part backs) (λ none. cc) around)
 
     pub known_there : All (IsKnownIn o) (kept_part part).pasts
     known_there = open_changes_are_kept start s.now (before ++ o ∷ after) (kept_part part) beside o
@@ -253,6 +248,14 @@ module _ (s : PartsView) (place : ℕ) (part : Part) (within : place < length s.
         subst (λ (ps : List Part). AreKept start (suc s.now) (before ++ answered response o ∷ after)
         (first ∷ resting (outside (is_at_rest ps) (covered part.ranges.items)) s.rest ∷ map kept_part ps)) (sym (remove_parts s.parts place))
         together
+
+    -- the part as it was, if the answer ends it
+    pub ended_there : (nexts : List KeptPast) → AreAfterAnswer o response (kept_part part).pasts nexts → {E : Type 0} (result : Result Answered E)
+        → IfOk result (AreEnded part.ranges.items nexts) → IfOk result (HasEndedBy start s.now (before ++ o ∷ after) o response)
+    ended_there nexts done result is =
+        has_ended start s.now (before ++ o ∷ after) o response part.ranges.items (kept_part part).pasts nexts beside
+        (λ key here. subst (λ (k : ℕ). covered part.ranges.items k ≡ true) (only_key o.call key changes here) has_key) ahead all_have
+        (inl (changes, done)) result is
 
 -- ---- pending reads
 

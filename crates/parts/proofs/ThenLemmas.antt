@@ -1,35 +1,13 @@
 -- A part at a moment (`then_of`), its keys parted into those at rest and the busy ones (`parted_none`, `parted_some`), and both together
 -- (`moves_on`).
-use Rattle.std.proofs.Common.{◌≡◌, ℕ, ◌<◌, true, not, List, [], ◌∷◌, ◌++◌, map, length, get_or, Option, None, Some, sym, ap, ◌∙◌, subst, arith}
-use Rattle.std.specs.Prelude.{◌≢◌, slice_get, All, AllPairs, Any, Contains, Result, Ok, Err, IfOk, IfSome}
-use Rattle.std.proofs.lemmas.List.Elements.{All-contains, All-weaker, Contains-append_right}
-use Rattle.list_laws.proofs.FilterLemmas.{Contains-map, Contains-from_map}
-use Rattle.list_laws.proofs.Lists.{All-at, All-from_contains}
-use Rattle.events.specs.declared.operation.Operation.{Operation}
-use Rattle.events.specs.Precedence.{NonePrecedesItself}
-use Rattle.map_object.specs.MapObject.{Contents}
-use Rattle.key_effects.specs.Cuts.{Keys}
-use Rattle.key_parts.specs.Left.{pairs_at}
-use Rattle.kept_orders.specs.Views.{IsKeptOrder}
-use Rattle.kept_pasts.specs.Pasts.{KeptPast}
+use Rattle.parts.proofs.Common.{◌≡◌, ℕ, ◌<◌, true, not, List, [], ◌∷◌, ◌++◌, map, length, get_or, Option, None, Some, sym, ap, ◌∙◌, subst, arith, ◌≢◌}
+use Rattle.parts.proofs.Common.{slice_get, All, AllPairs, Any, Contains, Result, Ok, Err, IfOk, IfSome, All-contains, All-weaker}
+use Rattle.parts.proofs.Common.{Contains-append_right, Contains-map, Contains-from_map, All-at, All-from_contains, Operation, NonePrecedesItself}
+use Rattle.parts.proofs.Common.{Contents, Keys, pairs_at, IsKeptOrder, KeptPast, KeptPart, AreKept, zip_back, any_to, parts_move, pasts_move_on}
+use Rattle.parts.proofs.Common.{AreCut, AreShaped, kept_of, Past, covered, kept_part, IsPastShaped, AreBusy, AreOnly, AreResting, IsOnly, resting}
+use Rattle.parts.proofs.Common.{outside, AreBegunAfter, Part, Range, OpenRead, IsCallBefore, IsPastBefore, IsBesideReads, IsPartBefore, AreThen}
+use Rattle.parts.proofs.Common.{AreThoseAlive, IsPartFrom, IsParted, MovesOn, AreOfLeft, kept_moved, Moved}
 use Rattle.kept_pasts.specs.Leads.{IsMadeOf}
-use Rattle.kept_parts.specs.KeptParts.{KeptPart, AreKept}
-use Rattle.kept_parts.proofs.PastLemmas.{zip_back}
-use Rattle.kept_parts.proofs.StepLemmas.{any_to, parts_move, pasts_move_on}
-use Rattle.part_cuts.specs.PartCuts.{AreCut, AreShaped, kept_of}
-use Rattle.part_cuts.specs.declared.past.Past.{Past}
-use Rattle.part_pasts.specs.Ranges.{covered}
-use Rattle.part_pasts.specs.Views.{kept_part}
-use Rattle.part_pasts.specs.Shapes.{IsPastShaped}
-use Rattle.part_pasts.specs.Resting.{AreBusy, AreOnly, AreResting, IsOnly}
-use Rattle.part_pasts.specs.Uniting.{resting, outside}
-use Rattle.part_pasts.specs.Moments.{AreBegunAfter}
-use Rattle.part_pasts.specs.declared.part.Part.{Part}
-use Rattle.part_pasts.specs.declared.ranges.Range.{Range}
-use Rattle.part_pasts.specs.declared.moments.OpenRead.{OpenRead}
-use Rattle.parts.specs.Shapes.{IsCallBefore, IsPastBefore, IsBesideReads, IsPartBefore}
-use Rattle.parts.specs.Settled.{AreThen, AreThoseAlive, IsPartFrom, IsParted, MovesOn, AreOfLeft, kept_moved}
-use Rattle.parts.specs.declared.settling.Moved.{Moved}
 use Rattle.parts.proofs.MovedLemmas.{alive_in, alive_stand, all_rest, busy_own, from_shape, front_goes, reads_began, shape_of, two_parts}
 
 -- an item of a list, as some item

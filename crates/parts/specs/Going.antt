@@ -1,5 +1,5 @@
 -- What is left of a part that an answer came to, and how it stands beside the others.
-use Rattle.std.specs.Prelude.{◌≡◌, ◌≢◌, ◌<◌, false, List, ◌∷◌, map, All, AllPairs}
+use Rattle.std.specs.Prelude.{◌≡◌, ◌≢◌, ◌<◌, false, List, ◌∷◌, map, All, AllPairs, ⊤}
 use Rattle.events.specs.declared.operation.Operation.{Operation}
 use Rattle.events.specs.Precedence.{precedes}
 use Rattle.key_effects.specs.Cuts.{Keys}
@@ -7,7 +7,11 @@ use Rattle.kept_pasts.specs.Pasts.{KeptPast}
 use Rattle.kept_parts.specs.KeptParts.{KeptPart}
 use Rattle.part_pasts.specs.Views.{kept_part}
 use Rattle.part_pasts.specs.Uniting.{resting, outside}
+use Rattle.part_pasts.specs.declared.ranges.Range.{Range}
+use Rattle.parts.specs.Keeping.{pasts_of}
 use Rattle.parts.specs.Views.{PartsView, is_at_rest}
+use Rattle.parts.specs.declared.state.Answered.{Answered}
+use Rattle.parts.specs.declared.state.Answered.TheVariants.{Going, Lost, Spent, Unknown}
 use Rattle.parts.specs.Shapes.{IsCallBefore}
 
 -- the invocation of a call is none of a pending read, and none of a call that is left
@@ -31,3 +35,10 @@ pub record MayBeLeft (s : PartsView) (left : List Operation) : Type 0 where
 abbrev pub kept_with : PartsView → Keys → List KeptPast → List KeptPart
 kept_with s keys pasts =
     record { keys = keys; pasts = pasts } ∷ resting (outside (is_at_rest s.parts) keys) s.rest ∷ map kept_part s.parts
+
+-- a part that does not go on has these keys and pasts
+abbrev pub AreEnded : List Range → List KeptPast → Answered → Type 0
+AreEnded ranges pasts (Going next) = ⊤
+AreEnded ranges pasts (Lost ended) = (ended.ranges.items ≡ ranges) × (pasts_of ended ≡ pasts)
+AreEnded ranges pasts (Spent ended) = (ended.ranges.items ≡ ranges) × (pasts_of ended ≡ pasts)
+AreEnded ranges pasts Unknown = ⊤

@@ -90,9 +90,10 @@ pub record HasGoneIn (budget : ℕ) (o : Operation) (pasts : List KeptPast) (rea
   pub with_read : AllZip (IsWithRead o) pasts nexts
   pub gone : AreGoneOn budget nexts read.gone
 
--- a read came to all pasts of a part that others and keys at rest became (`Become`), and these have gone on
+-- a read came to all pasts, some, of a part that others and keys at rest became (`Become`), and these have gone on
 pub record IsReadIn (budget : ℕ) (o : Operation) (old new : Contents) (met : List Part) (read : Read) : Type 0 where
   pub pasts : List KeptPast
+  pub some : pasts ≢ []
   pub become : Become (low_key o.call) (high_key o.call) old new met read.ranges.items pasts
   pub rising : All (λ past. AllPairs (λ a b. a.inv < b.inv) past.left) pasts
   pub nexts : List KeptPast

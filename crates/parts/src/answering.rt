@@ -10,7 +10,7 @@ ghost use Rattle.part_cuts.specs.PartCuts.{kept_of};
 ghost use Rattle.part_pasts.specs.Pasts.{IsAnswerOf, lefts_of};
 ghost use Rattle.part_pasts.specs.Views.{past_of};
 ghost use Rattle.parts.specs.Answering.{HaveGoneOnWith, IsLeftOfOne, IsFirst, IsLeftFirst};
-ghost use Rattle.parts.specs.Keeping.{IsAnswered, IsStateOf};
+ghost use Rattle.parts.specs.Keeping.{HasEndedBy, IsAnswered, IsStateOf};
 ghost use Rattle.parts.specs.Shapes.{IsCallBefore, IsPastBefore};
 ghost use Rattle.parts.specs.Steps.{IsRefusedIn, IsReportedAt};
 
@@ -35,10 +35,14 @@ pub(crate) fn answer_change(
     requires room { state.now + 1 < 2 ^ 64 }
     requires reported { IsReportedAt state.now operation }
     requires changes { may_change operation.call ≡ true }
-    ensures { (start : Contents) (front back : List Done) (o : Done) (response : Told)
+    ensures answered { (start : Contents) (front back : List Done) (o : Done) (response : Told)
         → IsAnswerOf o response operation
         → IsStateOf start (front ++ o ∷ back) state
         → IfOk result (IsAnswered start budget state (front ++ operation ∷ back)) }
+    ensures ended { (start : Contents) (front back : List Done) (o : Done) (response : Told)
+        → IsAnswerOf o response operation
+        → IsStateOf start (front ++ o ∷ back) state
+        → IfOk result (HasEndedBy start state.now (front ++ o ∷ back) o response) }
 {
     let (rest, mut parts, reads, now) = state.apart();
     let Some(place) = part_with(&parts, operation.call.low_key()) else {

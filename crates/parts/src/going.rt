@@ -8,7 +8,7 @@ ghost use Rattle.part_pasts.specs.Ranges.{covered};
 ghost use Rattle.part_pasts.specs.Pasts.{AreGoneOn, lefts_of};
 ghost use Rattle.parts.specs.Views.{PartsView};
 ghost use Rattle.parts.specs.Keeping.{AreReadsOf, IsAnswered};
-ghost use Rattle.parts.specs.Going.{MayBeLeft, kept_with};
+ghost use Rattle.parts.specs.Going.{AreEnded, MayBeLeft, kept_with};
 
 use crate::settling::settle_last;
 use crate::state::{Answered, EndedPart, Parts};
@@ -26,11 +26,13 @@ pub(crate) fn go_on(
     gone: GoneOn,
 ) -> Result<Answered, Memory>
     requires { All (MayBeLeft state) (lefts_of gone) }
-    ensures { (start : Contents) (budget : ℕ) (old : PartsView) (calls : List Done)
+    ensures answered { (start : Contents) (budget : ℕ) (old : PartsView) (calls : List Done)
         (pasts : List KeptPast) → state.now ≡ suc old.now → AreGoneOn budget pasts gone
         → AreReadsOf calls state.reads
         → AreKept start state.now calls (kept_with state (covered ranges.items) pasts)
         → IfOk result (IsAnswered start budget old calls) }
+    ensures ended { (budget : ℕ) (pasts : List KeptPast) → AreGoneOn budget pasts gone
+        → IfOk result (AreEnded ranges.items pasts) }
 {
     match gone {
         GoneOn::Alive {

@@ -17,7 +17,7 @@ ghost use Rattle.part_pasts.specs.Shapes.{AreBesideEachOther, IsPartShaped};
 ghost use Rattle.parts.specs.Views.{kept_parts};
 ghost use Rattle.parts.specs.Going.{HasOwnPlace};
 ghost use Rattle.events.specs.Precedence.{precedes};
-ghost use Rattle.parts.specs.Keeping.{AreReadsOf, IsAnswered, IsStateOf};
+ghost use Rattle.parts.specs.Keeping.{AreReadsOf, HasEndedBy, IsAnswered, IsStateOf};
 ghost use Rattle.parts.specs.Shapes.{MayComeTo};
 ghost use Rattle.parts.specs.Steps.{AreMet, HasEnded, HasGoneIn, IsReadIn, IsReportedAt, ReportsNothing};
 
@@ -30,7 +30,7 @@ use packed_map::PackedMap;
 use part_cuts::Past;
 use part_pasts::{
     GoneOn, OpenRead, Part, Range, United, any_alive, first_alive, meet, pairs_within, place_for,
-    places_at, span, unite, was_refused,
+    places_with, span, unite, was_refused,
 };
 use std::alloc::Global;
 
@@ -46,10 +46,14 @@ pub(crate) fn answer_read(
     requires reads { may_change operation.call ≡ false }
     requires shaped { low_key operation.call ≤ high_key operation.call }
     requires form { HasForm operation.call operation.response }
-    ensures { (start : Contents) (front back : List Done) (o : Done) (response : Told)
+    ensures answered { (start : Contents) (front back : List Done) (o : Done) (response : Told)
         → IsAnswerOf o response operation
         → IsStateOf start (front ++ o ∷ back) state
         → IfOk result (IsAnswered start budget state (front ++ operation ∷ back)) }
+    ensures ended { (start : Contents) (front back : List Done) (o : Done) (response : Told)
+        → IsAnswerOf o response operation
+        → IsStateOf start (front ++ o ∷ back) state
+        → IfOk result (HasEndedBy start state.now (front ++ o ∷ back) o response) }
 {
     let (rest, parts, mut reads, now) = state.apart();
     let low = operation.call.low_key();
@@ -92,11 +96,15 @@ fn answer_report(
     requires something { is_refused operation.response ≡ false }
     requires begun { operation.inv < state.now }
     requires own { HasOwnPlace state operation }
-    ensures { (start : Contents) (front back : List Done) (o : Done) (response : Told)
+    ensures answered { (start : Contents) (front back : List Done) (o : Done) (response : Told)
         → IsAnswerOf o response operation
         → AreKept start state.now (front ++ o ∷ back) (kept_parts state)
         → AreReadsOf (front ++ operation ∷ back) state.reads
         → IfOk result (IsAnswered start budget state (front ++ operation ∷ back)) }
+    ensures ended { (start : Contents) (front back : List Done) (o : Done) (response : Told)
+        → IsAnswerOf o response operation
+        → AreKept start state.now (front ++ o ∷ back) (kept_parts state)
+        → IfOk result (HasEndedBy start state.now (front ++ o ∷ back) o response) }
 {
     let (mut rest, mut parts, reads, now) = state.apart();
     let low = operation.call.low_key();
@@ -224,7 +232,7 @@ fn read_in_united(
 {
     let (ranges, tried, mut pasts, points) = united.apart();
     add_read(alloc, &mut pasts, &operation)?;
-    let guess = places_at(alloc, &pasts[0].calls, &points, operation.inv)?;
+    let guess = places_with(alloc, &pasts[0], &points, operation.inv)?;
     let gone = any_alive(alloc, pasts, &guess, budget)?;
     Ok(Read {
         ranges,

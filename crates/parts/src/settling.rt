@@ -253,6 +253,9 @@ fn alive_one(alloc: Global, past: Past, old: &KeptOrder) -> Result<Option<Past>,
     requires apart { NonePrecedesItself past.calls.items }
     ensures { IfOk result (IsAliveOrDead (kept_of past)) }
 {
+    if past.calls.is_empty() {
+        return Ok(Some(past));
+    }
     let (map, calls, found) = past.into_parts();
     let guess = guess_of(alloc, old, &calls)?;
     match KeptOrder::find(alloc, map, calls, &guess, NEAR_BUDGET)? {

@@ -7,7 +7,7 @@ ghost use Rattle.key_effects.specs.Forms.{HasForm};
 ghost use Rattle.kept_parts.specs.Steps.{GoesOn};
 ghost use Rattle.parts.specs.Shapes.{IsShaped};
 ghost use Rattle.parts.specs.Views.{kept_parts};
-ghost use Rattle.parts.specs.Keeping.{begun, is_reported, IsAnswered, IsCounted, IsStateOf, reported};
+ghost use Rattle.parts.specs.Keeping.{begun, HasEndedBy, is_reported, IsAnswered, IsCounted, IsStateOf, reported, response_at};
 
 use crate::answering::answer_change;
 use crate::beginning::{begin_change, begin_read};
@@ -154,7 +154,8 @@ impl Parts {
         begin_read(self, call)
     }
 
-    /// A pending call, which began at this place, is answered.
+    /// Takes the answer of a pending call, which began at this place. A part that does not go on has
+    /// the pasts that it had before, with the answer.
     pub fn answer(
         self,
         alloc: Global,
@@ -166,10 +167,14 @@ impl Parts {
         requires room { self.now + 1 < 2 ^ 64 }
         requires shaped { low_key call ≤ high_key call }
         requires form { HasForm call (reported reply self.now) }
-        ensures { (start : Contents) (front back : List Done)
+        ensures answered { (start : Contents) (front back : List Done)
             → IsStateOf start (front ++ begun call inv ∷ back) self
             → IfOk result (IsAnswered start budget self
             (front ++ is_reported (begun call inv) reply self.now ∷ back)) }
+        ensures ended { (start : Contents) (front back : List Done)
+            → IsStateOf start (front ++ begun call inv ∷ back) self
+            → IfOk result (HasEndedBy start self.now (front ++ begun call inv ∷ back)
+            (begun call inv) (response_at reply self.now)) }
     {
         let operation = Operation {
             call,

@@ -12,7 +12,7 @@ use Rattle.history_engines.proofs.WholeHistories.{IsTextOf-whole}
 use Rattle.pictures.specs.declared.picture.View.{View}
 use Rattle.picture_engines.specs.Drawings.{IsViewAnswer, IsDrawing}
 
--- a drawing that is answered with a line feed behind it is an outcome of the text
+-- a drawing that is answered with a line feed after it is an outcome of the text
 pub IsTextOutcome-drawn : {E : Type 0} (budget : ℕ) (view : View) (text : List ℕ) (history : HistoryView) (answer : Answer)
     (drawing : List ℕ) (full : Result (String Global) E) (outcome : RunOutcome) → IsTextOf text history
     → IsDrawing budget view history answer drawing → IfOk full (λ f. string_bytes f ≡ line drawing)

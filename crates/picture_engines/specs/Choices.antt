@@ -46,8 +46,8 @@ abbrev pub places_missed : List Operation → List Operation → List ℕ
 places_missed calls [] = []
 places_missed calls (a ∷ few) = places_of (missed_by a calls) ++ places_missed calls few
 
--- the events at which calls are invoked: a few calls without order from some pairs, the calls of
--- the history that put what these read from outside, and those that they miss
+-- The events at which calls are invoked: a few calls without order from some pairs, the calls of
+-- the history that put what these read from outside, and those that they miss.
 pub record AreShown (history : HistoryView) (start : Contents) (few : List Operation) (places : List ℕ) : Type 0 where
   pub pairs : List (ℕ × ℕ)
   pub external : AreExternal start few pairs

@@ -35,12 +35,12 @@ use std::alloc::Global;
 use streams::{Sink, Source};
 
 /// Reads a history text to the end of the source, or until it is too long, lets the judge judge it,
-/// and draws the verdict. A no or an undecided has two marks: the event at which the history goes
-/// wrong, if the judge's budget suffices to locate it, and the longest front that a search of the
-/// named segment meets. It draws the part of the picture that the view asks for. If the view asks
-/// for nothing, it draws a few calls that show a no, or what was located after an undecided. With
-/// them it draws the calls that put what they read, and those that they miss. Returns the exit
-/// status, which is that of the verdict.
+/// and draws the verdict. A no or an undecided has two marks. One is the event at which the history
+/// goes wrong, if the judge's budget suffices to locate it. The other is the longest front that a
+/// search of the named segment meets. It draws the part of the picture that the view asks for. If
+/// the view asks for nothing, it draws a few calls that show a no, or what was located after an
+/// undecided. With them it draws the calls that put what they read, and those that they miss.
+/// Returns the exit status, which is that of the verdict.
 pub fn run_draw<S: Source, O: Sink, F: Sink, H: Sink, J: Judge>(
     alloc: Global,
     source: &mut S,

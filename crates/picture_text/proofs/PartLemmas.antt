@@ -1,4 +1,4 @@
--- What stands in a text, worked out step by step.
+-- What is in a text, worked out step by step.
 use Rattle.std.proofs.Common.{◌≡◌, ℕ, ◌+◌, ◌-◌, [], ◌∷◌, ◌++◌, Bool, List, Some, length, codes, refl}
 use Rattle.pictures.specs.declared.picture.Bar.{Bar}
 use Rattle.pictures.specs.declared.picture.PicturePart.{PicturePart}

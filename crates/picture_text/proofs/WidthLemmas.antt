@@ -1,4 +1,4 @@
--- Few columns stand on 1,200 units.
+-- Few columns fit on 1,200 units.
 use Rattle.std.proofs.Common.{◌≡◌, ℕ, zero, suc, ◌*◌, ◌/◌, ◌≤◌, arith}
 use Rattle.std.specs.Prelude.{max, min}
 use Rattle.std.proofs.Math.Nat.{div-eq_of_lt, div-mul-le_self, mul-le-mul}
@@ -11,12 +11,12 @@ filled : (units width columns least : ℕ) → width ≤ units / least → colum
 filled units width columns least narrow few =
     let product = mul-le-mul narrow few in let all = div-mul-le_self units least in omega (arith, product, all)
 
--- so many columns stand between two columns of names
+-- this many columns fit between two columns of names
 within : (width columns : ℕ) → columns ≤ 38 → width * columns ≤ 1072 → columns * max width 1 ≤ 1104
 within zero columns few narrow = omega arith
 within (suc width) columns few narrow = let same : max (suc width) 1 ≡ suc width = omega arith in rw same (omega arith)
 
--- so no column of names stands among them
+-- no column of names is among them
 fits : (width columns : ℕ) → columns ≤ 38 → width * columns ≤ 1072 → width_of width columns ≤ 1200
 fits width columns few narrow =
     let many : columns ≤ per_screen width = le-div columns 1104 (max width 1) (omega arith) (within width columns few narrow) in

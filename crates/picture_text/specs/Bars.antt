@@ -64,8 +64,8 @@ dashes_text x y span =
 abbrev pub with_both_open : List ℕ → ℕ → ℕ → ℕ → List ℕ
 with_both_open text x y end = text ++ dashes_text x y (end - x) ++ turn_text x end
 
--- the shape of a bar: a rectangle from its invocation to its response, or one that is open to the
--- end, or open from the beginning of the part that is shown
+-- the shape of a bar: a rectangle from its invocation to its response; or one that is open at the
+-- end; or one that is open at the beginning of the part that is shown
 abbrev pub with_shape_from : List ℕ → ℕ → ℕ → ℕ → ℕ → Bool → Option ℕ → List ℕ
 with_shape_from text width columns from y false (Some to) = text ++ rectangle_text (x_of width from) y (x_of width to - x_of width from)
 with_shape_from text width columns from y false None = with_open text (x_of width from) y (x_of width columns)

@@ -1,22 +1,8 @@
 -- Where calls begin and end among the events, and the bars of a picture.
-use Rattle.std.proofs.Common.{◌≡◌, ℕ, ◌+◌, ◌<◌, List, [], ◌∷◌, ◌++◌, Option, Some, length, subst, sym, ap, ◌∙◌, ⊎_elim, arith}
-use Rattle.std.specs.Prelude.{IfSome, Contains, slice_get}
-use Rattle.std.proofs.lemmas.Option.{IfSome_then, slice_get_within}
-use Rattle.std.proofs.lemmas.List.{length-append}
-use Rattle.list_laws.proofs.Lists.{All-at}
-use Rattle.events.specs.declared.event.Event.{Event}
-use Rattle.events.specs.declared.event.Event.TheVariants.{Invoke}
-use Rattle.events.specs.Events.{process_of}
-use Rattle.events.specs.Histories.{AreHistoryEvents}
-use Rattle.judge.specs.declared.verdict.Verdict.{Verdict}
-use Rattle.pictures.specs.declared.picture.Bar.{Bar}
-use Rattle.pictures.specs.Bars.{AreSpansOf, IsBarOf, AreBarsOf}
-use Rattle.pictures.specs.Lanes.{lanes}
+use Rattle.pictures.proofs.Common.{◌≡◌, ℕ, ◌+◌, ◌<◌, List, [], ◌∷◌, ◌++◌, Option, Some, length, subst, sym, ap, ◌∙◌, ⊎_elim, arith, IfSome, Contains}
+use Rattle.pictures.proofs.Common.{slice_get, IfSome_then, slice_get_within, length-append, All-at, Event, Invoke, process_of, AreHistoryEvents}
+use Rattle.pictures.proofs.Common.{Verdict, Bar, AreSpansOf, IsBarOf, AreBarsOf, lanes, place-push, same_Some, Operation, operations}
 use Rattle.pictures.proofs.LaneLemmas.{lane-is}
-use Rattle.list_laws.proofs.Lists.{place-push}
-use Rattle.std.proofs.lemmas.Option.{same_Some}
-use Rattle.events.specs.declared.operation.Operation.{Operation}
-use Rattle.events.specs.Operations.{operations}
 use Rattle.pictures.proofs.EventLemmas.{IsCallIn, calls-in}
 
 -- a call's events
@@ -27,7 +13,7 @@ call-in events n a here = All-at (IsCallIn events) (operations events) n a (call
 pub inv-within : (events : List Event) (n : ℕ) (a : Operation) → slice_get (operations events) n ≡ Some a → a.inv < length events
 inv-within events n a here = slice_get_within events a.inv _ (call-in events n a here).invoked
 
--- and answered within them
+-- a call is answered within the events
 pub res-within : (events : List Event) (n : ℕ) (a : Operation) → slice_get (operations events) n ≡ Some a
     → IfSome a.response (λ r. r.res < length events)
 res-within events n a here =
@@ -41,7 +27,7 @@ invoked-by events n a process here is =
     let same : process ≡ call.process = subst (λ (e : Option Event). IfSome e (λ e. process ≡ process_of e)) call.invoked is in
     rw same call.invoked
 
--- and has a lane
+-- the process that invokes a call has a lane
 pub lane-in : (events : List Event) (n : ℕ) (a : Operation) (process : ℕ) → AreHistoryEvents events
     → slice_get (operations events) n ≡ Some a
     → IfSome (slice_get events a.inv) (λ e. process ≡ process_of e) → Contains (lanes events) process

@@ -1,17 +1,8 @@
 -- The points of the calls of an order, and the columns of a picture.
-use Rattle.std.proofs.Common.{◌≡◌, ℕ, zero, suc, ◌+◌, ◌<◌, ◌≤◌, Bool, true, false, cond, List, [], ◌∷◌, ◌++◌, map, length, get_or, take}
-use Rattle.std.proofs.Common.{sym, ap, ◌∙◌}
-use Rattle.std.proofs.Common.{arith, nat_lt}
-use Rattle.std.specs.Prelude.{◌≢◌, filter, AllPairs, slice_index, count_by}
-use Rattle.std.proofs.lemmas.Bool.{le-ltb, lt-ltb}
-use Rattle.std.proofs.lemmas.List.{map_more}
-use Rattle.std.proofs.lemmas.List.Sums.{length-filter}
-use Rattle.std.proofs.lemmas.Option.{slice_get-get_or}
-use Rattle.list_laws.proofs.Lists.{AllPairs-head, AllPairs-tail, filter_none}
-use Rattle.events.specs.declared.operation.Operation.{Operation}
-use Rattle.merge_orders.specs.Merge.{point_in}
-use Rattle.merge_orders.proofs.PointLemmas.{point_in-at}
-use Rattle.merge_orders.proofs.PlacedLemmas.{latest}
+use Rattle.pictures.proofs.Common.{◌≡◌, ℕ, zero, suc, ◌+◌, ◌<◌, ◌≤◌, Bool, true, false, cond, List, [], ◌∷◌, ◌++◌, map, length, get_or, take, sym, ap}
+use Rattle.pictures.proofs.Common.{◌∙◌, arith, ◌≢◌, filter, AllPairs, slice_index, count_by, le-ltb, lt-ltb, map_more, length-filter}
+use Rattle.pictures.proofs.Common.{slice_get-get_or, AllPairs-head, AllPairs-tail, filter_none, Operation, point_in, point_in-at, latest}
+use Rattle.std.proofs.Common.{nat_lt}
 
 -- one point more
 pub points-more : (calls : List Operation) (order : List ℕ) (i d point : ℕ) → AllPairs (λ m n. m ≢ n) order → i < length order
@@ -57,13 +48,14 @@ below-ge (x ∷ xs) (suc place) event up within h =
     let rest = below-ge xs place event (AllPairs-tail (λ p q. p ≤ q) x xs up) (omega arith) h in
     rw (lt-ltb x event (omega arith)) (omega arith)
 
--- points that rise: where the one at a place is not before an event, no more than those before the place are
+-- points that rise: if the one at a place is not before an event, at most the points before that
+-- place are before the event
 pub count-below : (points : List ℕ) (place event : ℕ) → AllPairs (λ p q. p ≤ q) points → place < length points
     → event ≤ slice_index points place
     → count_by (is_below event) points ≤ place
 count-below points place event up within h = rw (← length-filter (is_below event) points) (below-le points place event up within h)
 
--- and where it is before the event, so are all before the place
+-- points that rise: if the one at a place is before an event, so are all points before that place
 pub count-above : (points : List ℕ) (place event : ℕ) → AllPairs (λ p q. p ≤ q) points → place < length points
     → slice_index points place < event
     → place + 1 ≤ count_by (is_below event) points

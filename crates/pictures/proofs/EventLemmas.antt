@@ -1,14 +1,7 @@
 -- The events at which calls are invoked and answered.
-use Rattle.std.proofs.Common.{◌≡◌, ℕ, suc, ◌==◌, Bool, true, false, cond, List, [], ◌∷◌, ◌++◌, length, Some, ◌∙◌, subst, arith}
-use Rattle.std.specs.Prelude.{IfSome, All, slice_get}
-use Rattle.std.proofs.lemmas.List.{append_assoc, length-append}
-use Rattle.std.proofs.lemmas.List.Elements.{All-nil, All-cons}
-use Rattle.list_laws.proofs.Lists.{slice_get-middle}
-use Rattle.events.specs.declared.event.Event.{Event}
-use Rattle.events.specs.declared.event.Event.TheVariants.{Invoke, Answer}
-use Rattle.events.specs.declared.operation.Operation.{Operation}
-use Rattle.events.specs.declared.operation.Response.{Response}
-use Rattle.events.specs.Operations.{response_from, operation_of, operations_from, operations}
+use Rattle.pictures.proofs.Common.{◌≡◌, ℕ, suc, ◌==◌, Bool, true, false, cond, List, [], ◌∷◌, ◌++◌, length, Some, ◌∙◌, subst, arith, IfSome, All}
+use Rattle.pictures.proofs.Common.{slice_get, append_assoc, length-append, All-nil, All-cons, slice_get-middle, Event, Invoke, Answer, Operation}
+use Rattle.pictures.proofs.Common.{Response, response_from, operation_of, operations_from, operations}
 
 -- the event at a response's place is that response
 pub record IsAnswerAt (events : List Event) (response : Response) : Type 0 where

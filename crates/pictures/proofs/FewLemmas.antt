@@ -1,31 +1,22 @@
 -- A picture of a few calls has few columns: at most three of each call.
-use Rattle.std.proofs.Common.{◌≡◌, ℕ, ◌*◌, ◌≤◌, ◌==◌, ◌&&◌, Bool, true, false, not, cond, List, [], ◌∷◌, ◌++◌, length, map, Some, None}
-use Rattle.std.proofs.Common.{Option, if◌then◌else◌, refl, subst, ⊎_elim, length-append, arith}
-use Rattle.std.specs.Prelude.{◌≢◌, ◌||◌, filter, All, AllPairs, Contains}
-use Rattle.std.specs.List.{filter_map, cons_option}
-use Rattle.std.proofs.lemmas.Bool.{and_parts, eqb-true, false≢true, or_cases}
-use Rattle.std.proofs.lemmas.List.{length-map}
+use Rattle.pictures.proofs.Common.{◌≡◌, ℕ, ◌*◌, ◌≤◌, ◌==◌, ◌&&◌, Bool, true, false, not, cond, List, [], ◌∷◌, ◌++◌, length, map, Some, None, Option}
+use Rattle.pictures.proofs.Common.{if◌then◌else◌, refl, subst, ⊎_elim, arith, ◌≢◌, ◌||◌, filter, All, AllPairs, Contains, filter_map, cons_option}
+use Rattle.pictures.proofs.Common.{and_parts, eqb-true, false≢true, or_cases, length-map, length-filter, Operation, AllPairs-map, Contains-from_map}
+use Rattle.pictures.proofs.Common.{AllPairs-at, AllPairs-from_at, All-from_contains, Contains-first, Contains-from_filter, Contains-later}
+use Rattle.pictures.proofs.Common.{length-distinct, Bar, Mark, is_of_named, named_bar, named_marks, stands_out, FewHaveFewColumns, AreMarksOf}
+use Rattle.pictures.proofs.Common.{columns_of, end_of, start_of}
+use Rattle.std.proofs.Common.{length-append}
 use Rattle.std.proofs.lemmas.List.Kept.{AllPairs-filter}
-use Rattle.std.proofs.lemmas.List.Sums.{length-filter}
-use Rattle.events.specs.declared.operation.Operation.{Operation}
 use Rattle.list_laws.specs.Lists.{has_number}
-use Rattle.list_laws.proofs.FilterLemmas.{AllPairs-map, Contains-from_map}
-use Rattle.list_laws.proofs.Lists.{AllPairs-at, AllPairs-from_at, All-from_contains, Contains-first, Contains-from_filter, Contains-later}
-use Rattle.list_laws.proofs.Lists.{length-distinct}
-use Rattle.pictures.specs.declared.picture.Bar.{Bar}
-use Rattle.pictures.specs.declared.picture.Mark.{Mark}
-use Rattle.pictures.specs.Few.{is_of_named, named_bar, named_marks, stands_out, FewHaveFewColumns}
-use Rattle.pictures.specs.Marks.{AreMarksOf}
-use Rattle.pictures.specs.Viewports.{columns_of, end_of, start_of}
 
--- at most one column more, of a bar that stands out
+-- at most one column more, of a bar that is not pale
 one_more : (named : Bool) (column : Option ℕ) (bar : Bar) (columns : List ℕ) (bars : List Bar) → length columns ≤ length bars
     → length (cons_option (if not named then None else column) columns) ≤ length (cond named (bar ∷ bars) bars)
 one_more true None bar columns bars le = omega arith
 one_more true (Some column) bar columns bars le = omega arith
 one_more false column bar columns bars le = le
 
--- each bar that stands out begins in one column, and ends in one at most
+-- each bar that is not pale begins in one column, and ends in at most one
 starts_le : (places : List ℕ) (bars : List Bar) → length (filter_map start_of (map (named_bar places) bars))
     ≤ length (filter (stands_out places) bars)
 starts_le places [] = omega arith
@@ -40,7 +31,7 @@ ends_le places (bar ∷ bars) = one_more (has_number places bar.inv) bar.to bar 
 abbrev numbers : List Bar → List ℕ
 numbers bars = map (λ (b : Bar). b.number) bars
 
--- a number that is that of a bar which stands out, or of one behind it
+-- a number that is that of a bar which is not pale, or of one after it
 there : (named : Bool) (bar : Bar) (n : ℕ) (bars : List Bar) (rest : Bool) → (((bar.number == n) && named) || rest) ≡ true
     → (rest ≡ true → Contains (numbers bars) n) → Contains (numbers (cond named (bar ∷ bars) bars)) n
 there true bar n bars rest h later =
@@ -51,7 +42,7 @@ there false bar n bars rest h later =
     ⊎_elim (λ is. absurd (false≢true (and_parts (bar.number == n) false is).1)) (λ is. later is)
     (or_cases ((bar.number == n) && false) rest h)
 
--- a mark that is kept is of a bar that stands out
+-- a mark that is kept is of a bar that is not pale
 bar_there : (places : List ℕ) (bars : List Bar) (mark : Mark) → is_of_named places bars mark ≡ true
     → Contains (numbers (filter (stands_out places) bars)) mark.number
 bar_there places [] mark h = absurd (false≢true h)
@@ -66,7 +57,7 @@ marks_distinct calls order bars marks distinct are =
     AllPairs-from_at (λ (a b : Mark). a.number ≢ b.number) marks (λ i j a b before first second.
     AllPairs-at (λ m n. m ≢ n) order i j a.number b.number distinct before (are.each i a first).number (are.each j b second).number)
 
--- so there are no more of them than bars that stand out
+-- there are no more of them than bars that are not pale
 marks_le : (places : List ℕ) (bars : List Bar) (marks : List Mark) → AllPairs (λ (a b : Mark). a.number ≢ b.number) marks
     → length (named_marks places bars marks) ≤ length (filter (stands_out places) bars)
 marks_le places bars marks distinct =
@@ -81,7 +72,7 @@ marks_le places bars marks distinct =
     let fewer = length-distinct (map (λ (m : Mark). m.number) kept) (numbers (filter (stands_out places) bars)) apart within in
     omega (arith, fewer, length-map kept (λ (m : Mark). m.number), length-map (filter (stands_out places) bars) (λ (b : Bar). b.number))
 
--- the columns of a picture in which they stand out
+-- the columns of a picture in which only they are not pale
 among_le : (places : List ℕ) (bars : List Bar) (marks : List Mark) → AllPairs (λ (a b : Mark). a.number ≢ b.number) marks
     → length (columns_of (map (named_bar places) bars) (named_marks places bars marks)) ≤ length (filter (stands_out places) bars) * 3
 among_le places bars marks distinct =

@@ -1,22 +1,18 @@
 -- A front of a segment can be marked as an order of the history would be.
-use Rattle.std.proofs.Common.{◌≡◌, ℕ, List, ◌∷◌, ◌++◌, sym, ap, subst}
+use Rattle.pictures.proofs.Common.{◌≡◌, ℕ, List, ◌∷◌, ◌++◌, sym, ap, subst, All-contains, Contains-append_right, Operation, All-from_contains}
+use Rattle.pictures.proofs.Common.{Contains-first, Verdict, IsMarkable}
 use Rattle.std.specs.Prelude.{◌<◌, length}
-use Rattle.std.proofs.lemmas.List.Elements.{All-contains, Contains-append_right}
-use Rattle.events.specs.declared.operation.Operation.{Operation}
 use Rattle.map_object.specs.MapObject.{Contents}
 use Rattle.orders.specs.Orders.{IsLegalOrder, calls_at}
 use Rattle.orders.proofs.PlaceLemmas.{IsLegalOrder-numbers}
 use Rattle.configurations.proofs.FrontLemmas.{IsLegalOrder-from_front}
-use Rattle.list_laws.proofs.Lists.{All-from_contains, Contains-first}
 use Rattle.segments.specs.SegmentView.{SegmentView}
 use Rattle.segments.specs.Segments.{IsSegment, AreSegments}
 use Rattle.segments.proofs.BelongingLemmas.{BelongsAt-below}
 use Rattle.search.specs.LongestFront.{IsFrontOf}
-use Rattle.judge.specs.declared.verdict.Verdict.{Verdict}
 use Rattle.judge.specs.declared.verdict.Verdict.TheVariants.{Yes, No, Undecided}
 use Rattle.judge.specs.Shown.{IsShown}
 use Rattle.pictures.specs.Fronts.{IsFrontShown}
-use Rattle.pictures.specs.Marks.{IsMarkable}
 use Rattle.pictures.specs.Pictures.{marked}
 
 -- a legal order of calls can be marked
@@ -24,7 +20,7 @@ IsMarkable-from_legal : (start : Contents) (calls : List Operation) (order : Lis
     → IsMarkable calls order
 IsMarkable-from_legal start calls order h = record { known = h.known; distinct = h.distinct; precedence = h.precedence }
 
--- so can a front of a segment
+-- a front of a segment can be marked
 IsMarkable-from_front : (start : Contents) (calls : List Operation) (segment : SegmentView) (front : List ℕ) → IsSegment start calls segment
     → IsFrontOf segment front → IsMarkable calls front
 IsMarkable-from_front start calls segment front h (places, is, is_front) =

@@ -1,18 +1,17 @@
 -- Marks stay inside of their bars in a viewport.
-use Rattle.std.proofs.Common.{◌≡◌, ℕ, ◌-◌, ◌<◌, ◌≤◌, Bool, true, false, cond, List, Option, Some, None, refl, arith}
-use Rattle.std.specs.Prelude.{nat_lt, nat_le, IfSome, Contains, option_map}
-use Rattle.std.proofs.lemmas.Bool.{and_parts, and_from, le-leb, leb-true, lt-ltb, ltb-true}
-use Rattle.pictures.specs.Viewports.{cut_end, ends_from, rank, MarksStayInside}
+use Rattle.pictures.proofs.Common.{◌≡◌, ℕ, ◌-◌, ◌<◌, ◌≤◌, Bool, true, false, cond, List, Option, Some, None, refl, arith, nat_lt, nat_le, IfSome}
+use Rattle.pictures.proofs.Common.{Contains, option_map, and_parts, and_from, le-leb, leb-true, lt-ltb, ltb-true, cut_end, ends_from, rank}
+use Rattle.pictures.proofs.Common.{MarksStayInside}
 use Rattle.pictures.proofs.RankLemmas.{ranks_rise}
 
--- an end behind a mark of the viewport is not before the viewport
+-- an end after a mark of the viewport is not before the viewport
 ends_behind : (columns : List ℕ) (from column : ℕ) (end : Option ℕ) → from ≤ rank columns column → Contains columns column
     → IfSome end (λ e. column < e) → ends_from from (option_map (rank columns) end) ≡ true
 ends_behind columns from column None le is before = refl
 ends_behind columns from column (Some e) le is before =
     let less = (ranks_rise columns column e).1 is before in le-leb from (rank columns e) (omega arith)
 
--- and where it is in the viewport, it is behind the mark there
+-- an end after a mark, if it is in the viewport, is after the mark there
 cut_behind : (columns : List ℕ) (from to column : ℕ) (end : Option ℕ) → from ≤ rank columns column → Contains columns column
     → IfSome end (λ e. column < e) → IfSome (cut_end from to (option_map (rank columns) end)) (λ e. rank columns column - from < e)
 cut_behind columns from to column None le is before = tt

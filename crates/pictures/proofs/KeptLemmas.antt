@@ -1,17 +1,15 @@
 -- The bars that are kept one by one are those that are kept in turn.
-use Rattle.std.proofs.Common.{◌≡◌, ℕ, Bool, true, false, not, List, [], ◌∷◌, map, Some, None, if◌then◌else◌, refl, ap}
-use Rattle.std.specs.Prelude.{filter, cond}
-use Rattle.std.specs.List.{filter_map, cons_option}
-use Rattle.pictures.specs.declared.picture.Bar.{Bar}
-use Rattle.pictures.specs.Viewports.{bar_in, bars_in, meets, ranked_bar}
+use Rattle.pictures.proofs.Common.{◌≡◌, ℕ, Bool, true, false, not, List, [], ◌∷◌, map, Some, None, if◌then◌else◌, refl, ap, filter, filter_map}
+use Rattle.pictures.proofs.Common.{cons_option, Bar, bar_in, bars_in, meets, ranked_bar}
+use Rattle.std.specs.Prelude.{cond}
 
--- a bar that is kept stands before the others
+-- a bar that is kept comes before the others
 first : (kept : Bool) (bar : Bar) (xs ys : List Bar) → xs ≡ ys
     → cons_option (if kept then Some bar else None) xs ≡ cond kept (bar ∷ ys) ys
 first true bar xs ys h = ap (λ bars. bar ∷ bars) h
 first false bar xs ys h = h
 
--- so does one that is not pale, once it is changed
+-- a bar that is not pale comes before the others, once it is changed
 first-changed : (change : Bar → Bar) (test : Bar → Bool) (pale : Bool) (bar : Bar) (rest xs : List Bar) → xs ≡ filter test (map change rest)
     → cons_option (if pale then None else (if test (change bar) then Some (change bar) else None)) xs
     ≡ filter test (map change (cond (not pale) (bar ∷ rest) rest))

@@ -1,19 +1,11 @@
 -- The lanes of a picture.
-use Rattle.std.proofs.Common.{◌≡◌, ℕ, suc, ◌+◌, ◌-◌, ◌<◌, true, false, cond, List, [], ◌∷◌, ◌++◌, Some, get_or, filter, refl, sym, ap, ◌∙◌}
-use Rattle.std.proofs.Common.{arith, ◌==◌}
-use Rattle.std.specs.Prelude.{Contains, slice_get}
-use Rattle.std.specs.List.{range_with_len}
-use Rattle.std.proofs.lemmas.Bool.{eq-eqb, ltb-true, and_parts, true_from_ne_false, false≢true}
-use Rattle.list_laws.proofs.Lists.{Contains-filter, Contains-range}
-use Rattle.std.proofs.lemmas.List.{append_assoc}
+use Rattle.pictures.proofs.Common.{◌≡◌, ℕ, suc, ◌+◌, ◌-◌, ◌<◌, true, false, cond, List, [], ◌∷◌, ◌++◌, Some, get_or, refl, sym, ap, ◌∙◌, arith, ◌==◌}
+use Rattle.pictures.proofs.Common.{Contains, slice_get, range_with_len, eq-eqb, ltb-true, and_parts, true_from_ne_false, false≢true, Contains-filter}
+use Rattle.pictures.proofs.Common.{Contains-range, append_assoc, slice_get_within, get_or_from_slice_get, Event, Invoke, Answer, process_of, is_small}
+use Rattle.pictures.proofs.Common.{AreHistoryEvents, has_events, lanes}
+use Rattle.std.proofs.Common.{filter}
 use Rattle.std.proofs.lemmas.List.Folds.{list_any_at, list_all_at}
-use Rattle.std.proofs.lemmas.Option.{slice_get_within, get_or_from_slice_get}
-use Rattle.events.specs.declared.event.Event.{Event}
-use Rattle.events.specs.declared.event.Event.TheVariants.{Invoke, Answer}
-use Rattle.events.specs.Events.{process_of}
 use Rattle.events.specs.Limits.{process_limit}
-use Rattle.events.specs.Histories.{is_small, AreHistoryEvents}
-use Rattle.pictures.specs.Lanes.{has_events, lanes}
 
 -- the lanes from a process on
 unfoldable pub lanes_from : List Event → ℕ → List ℕ
@@ -37,7 +29,7 @@ pub lanes-next : (events : List Event) (process : ℕ) → process < 64
 unfolding lanes_from
 lanes-next events process below = ap (filter (has_events events)) (range-first process_limit process below)
 
--- no lane is left behind the last process
+-- no lane is left after the last process
 pub lanes-end : (events : List Event) (process : ℕ) → process ≡ 64 → lanes_from events process ≡ []
 unfolding lanes_from
 lanes-end events process is = rw is refl

@@ -1,3 +1,4 @@
+mod Common
 mod EventLemmas
 mod LaneLemmas
 mod ColumnLemmas

@@ -1,27 +1,13 @@
 -- The marks of an order: they rise with it, and each is inside of its bar.
-use Rattle.std.proofs.Common.{◌≡◌, ℕ, ◌+◌, ◌<◌, ◌≤◌, false, List, [], ◌∷◌, ◌++◌, Option, Some, None, length, sym, ap, ◌∙◌, ⊎_elim}
-use Rattle.std.proofs.Common.{subst, arith}
-use Rattle.std.specs.Prelude.{◌≢◌, IfSome, IsSomeAnd, option_map, AllPairs, Contains, slice_get, slice_index}
-use Rattle.std.proofs.lemmas.Bool.{ltb-false}
-use Rattle.std.proofs.lemmas.List.{length-append, length-map}
-use Rattle.std.proofs.lemmas.Option.{slice_get-map, slice_get_within, get_or_from_slice_get}
-use Rattle.list_laws.proofs.Lists.{AllPairs-from_at, Contains-at, place-push}
-use Rattle.list_laws.proofs.FilterLemmas.{AllPairs-map}
+use Rattle.pictures.proofs.Common.{◌≡◌, ℕ, ◌+◌, ◌<◌, ◌≤◌, false, List, [], ◌∷◌, ◌++◌, Option, Some, None, length, sym, ap, ◌∙◌, ⊎_elim, subst, arith}
+use Rattle.pictures.proofs.Common.{◌≢◌, IfSome, IsSomeAnd, option_map, AllPairs, Contains, slice_get, slice_index, ltb-false, length-append}
+use Rattle.pictures.proofs.Common.{length-map, slice_get-map, slice_get_within, get_or_from_slice_get, AllPairs-from_at, Contains-at, place-push}
+use Rattle.pictures.proofs.Common.{AllPairs-map, Event, Invoke, Operation, Response, operations, point_in, point_in-invocation, point_in-is}
+use Rattle.pictures.proofs.Common.{not_before_point, point_in-rises, Bar, Mark, AreSpansOf, IsMarkable, IsInside, IsMarkAt, AreMarksOf}
 use Rattle.events.specs.declared.event.Call.{Call}
-use Rattle.events.specs.declared.event.Event.{Event}
-use Rattle.events.specs.declared.event.Event.TheVariants.{Invoke}
-use Rattle.events.specs.declared.operation.Operation.{Operation}
-use Rattle.events.specs.declared.operation.Response.{Response}
-use Rattle.events.specs.Operations.{operations}
 use Rattle.events.specs.Precedence.{is_before}
 use Rattle.events.proofs.TimeLemmas.{NonePrecedesItself-operations}
-use Rattle.merge_orders.specs.Merge.{point_in}
-use Rattle.merge_orders.proofs.PointLemmas.{point_in-invocation, point_in-is, not_before_point, point_in-rises}
-use Rattle.pictures.specs.declared.picture.Bar.{Bar}
-use Rattle.pictures.specs.declared.picture.Mark.{Mark}
 use Rattle.pictures.specs.Columns.{order_points, event_column, mark_column}
-use Rattle.pictures.specs.Bars.{AreSpansOf}
-use Rattle.pictures.specs.Marks.{IsMarkable, IsInside, IsMarkAt, AreMarksOf}
 use Rattle.pictures.proofs.EventLemmas.{IsAnswerAt}
 use Rattle.pictures.proofs.BarLemmas.{call-in, inv-within}
 use Rattle.pictures.proofs.ColumnLemmas.{count-below, count-above}
@@ -37,7 +23,7 @@ point-at calls order place n here =
     get_or_from_slice_get (order_points calls order) place (point_in calls order n) 0
     (slice_get-map (point_in calls order) order place ∙ ap (option_map (point_in calls order)) here)
 
--- a response that does not stand before an invocation stands behind it
+-- a response that does not come before an invocation comes after it
 behind : (events : List Event) (process inv : ℕ) (call : Call) (response : Option Response)
     → slice_get events inv ≡ Some (Invoke process call)
     → IfSome response (IsAnswerAt events) → is_before response inv ≡ false → IfSome response (λ r. inv < r.res)

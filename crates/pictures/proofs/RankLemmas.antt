@@ -1,17 +1,13 @@
--- Columns that are counted anew: they keep their order, and each has a place of its own.
-use Rattle.std.proofs.Common.{◌≡◌, ℕ, ◌+◌, ◌<◌, ◌≤◌, Bool, true, false, cond, List, [], ◌∷◌, length, inl, inr, refl, arith}
-use Rattle.std.specs.Prelude.{filter, Contains}
-use Rattle.std.proofs.lemmas.Bool.{lt-ltb, le-ltb, ltb-true}
-use Rattle.std.proofs.lemmas.List.Sums.{length-filter, count_by-le-length}
-use Rattle.list_laws.proofs.Lists.{Contains-nil, Contains-cases}
-use Rattle.pictures.specs.Viewports.{rank, RanksRise}
+-- Columns that are counted again: they keep their order, and each has a place of its own.
+use Rattle.pictures.proofs.Common.{◌≡◌, ℕ, ◌+◌, ◌<◌, ◌≤◌, Bool, true, false, cond, List, [], ◌∷◌, length, inl, inr, refl, arith, filter, Contains}
+use Rattle.pictures.proofs.Common.{lt-ltb, le-ltb, ltb-true, length-filter, count_by-le-length, Contains-nil, Contains-cases, rank, RanksRise}
 use Rattle.pictures.proofs.ColumnLemmas.{is_below}
 
--- how many columns stand before one
+-- how many columns come before one
 abbrev before : List ℕ → ℕ → ℕ
 before columns a = length (filter (is_below a) columns)
 
--- one column more, which stands before the second where it does before the first
+-- one column more, which comes before the second where it does before the first
 more_le : (x : ℕ) (xs ys : List ℕ) (p q : Bool) → (p ≡ true → q ≡ true) → length xs ≤ length ys
     → length (cond p (x ∷ xs) xs) ≤ length (cond q (x ∷ ys) ys)
 more_le x xs ys true true h le = omega arith
@@ -26,7 +22,7 @@ more_lt x xs ys true false h lt = let never = h refl in cc
 more_lt x xs ys false true h lt = omega arith
 more_lt x xs ys false false h lt = lt
 
--- one that stands before the second alone
+-- one that comes before the second alone
 more_one : (x : ℕ) (xs ys : List ℕ) (p q : Bool) → p ≡ false → q ≡ true → length xs ≤ length ys
     → length (cond p (x ∷ xs) xs) < length (cond q (x ∷ ys) ys)
 more_one x xs ys p q is_not is_so le = rw (is_not, is_so) (omega arith)

@@ -1,11 +1,9 @@
 -- A viewport with its ends worked out step by step is what a view shows, or a picture of a few calls.
-use Rattle.std.proofs.Common.{◌≡◌, ℕ, ◌+◌, Bool, false, List, length, Option, Result, IfOk, subst, sym}
-use Rattle.std.specs.Prelude.{MatchBool, min}
+use Rattle.pictures.proofs.Common.{◌≡◌, ℕ, ◌+◌, Bool, false, List, length, Option, Result, IfOk, subst, sym, MatchBool, min, few_room, IsFewOf}
+use Rattle.pictures.proofs.Common.{IsNarrowedTo, column_of, columns_of, event_meant, event_shown, is_whole, rank, room_for, viewport_from, IsPartOf}
+use Rattle.pictures.proofs.Common.{IsShownOf, IsViewportAround, IsViewportOf}
 use Rattle.pictures.specs.declared.picture.Picture.{Picture}
 use Rattle.pictures.specs.declared.picture.View.{View}
-use Rattle.pictures.specs.Few.{few_room, IsFewOf, IsNarrowedTo}
-use Rattle.pictures.specs.Viewports.{column_of, columns_of, event_meant, event_shown, is_whole, rank, room_for, viewport_from}
-use Rattle.pictures.specs.Viewports.{IsPartOf, IsShownOf, IsViewportAround, IsViewportOf}
 
 pub viewport-around : {E : Type 0} (room column event : ℕ) (whole : Picture) (result : Result Picture E) (among : List ℕ)
     (middle size from other least : ℕ) → among ≡ columns_of whole.bars.items whole.marks.items → middle ≡ rank among column

@@ -10,7 +10,7 @@ use Rattle.pictures.specs.declared.picture.Picture.{Picture}
 use Rattle.pictures.specs.Marks.{AreMarksOf}
 use Rattle.pictures.specs.Viewports.{column_of, event_meant, IsViewportAround}
 
--- a bar stands out if its call was invoked at one of some places
+-- a bar is not pale if its call was invoked at one of some places
 abbrev pub stands_out : List ℕ → Bar → Bool
 stands_out places bar = has_number places bar.inv
 
@@ -25,7 +25,7 @@ is_of_named places bars mark = list_any (λ bar. bar.number == mark.number && st
 abbrev pub named_marks : List ℕ → List Bar → List Mark → List Mark
 named_marks places bars marks = filter (is_of_named places bars) marks
 
--- a picture in which only these calls stand out and are marked
+-- a picture in which only these calls are marked, and all other bars are pale
 pub record IsNarrowedTo (places : List ℕ) (whole narrowed : Picture) : Type 0 where
   pub heading : narrowed.heading ≡ whole.heading
   pub start : narrowed.start.items ≡ whole.start.items
@@ -48,7 +48,7 @@ pub record IsFewOf (places : List ℕ) (wrong : Option ℕ) (whole part : Pictur
 
 -- ---- a law
 
--- each call that stands out has at most three columns, if an order of distinct calls is marked
+-- each call that is not pale has at most three columns, if an order of distinct calls is marked
 abbrev pub FewHaveFewColumns : Type 0
 FewHaveFewColumns =
     (calls : List Operation) (order places : List ℕ) (wrong : Option ℕ) (whole part : Picture) → AllPairs (λ m n. m ≢ n) order

@@ -31,7 +31,7 @@ pub fn few_of(
     Ok(part)
 }
 
-/// Returns the picture in which only these calls stand out and are marked.
+/// Returns the picture in which only these calls are marked, and all other bars are pale.
 fn narrowed_to(alloc: Global, picture: Picture, places: &[usize]) -> Result<Picture, Memory>
     ensures { IfOk result (IsNarrowedTo places.now picture) }
 {
@@ -49,7 +49,7 @@ fn narrowed_to(alloc: Global, picture: Picture, places: &[usize]) -> Result<Pict
     })
 }
 
-/// Returns the bars, of which only those of these calls stand out.
+/// Returns the bars, all of them pale but those of these calls.
 fn named_bars(alloc: Global, places: &[usize], bars: Vec<Bar>) -> Result<Vec<Bar>, Memory>
     ensures { IfOk result (λ v. v.items ≡ map (named_bar places.now) bars.items) }
 {
@@ -60,7 +60,7 @@ fn named_bars(alloc: Global, places: &[usize], bars: Vec<Bar>) -> Result<Vec<Bar
     )
 }
 
-/// Returns a bar, which stands out if its call is one of these.
+/// Returns a bar, which is pale unless its call is one of these.
 fn named_bar(places: &[usize], bar: Bar) -> Bar
     ensures { result ≡ named_bar places.now bar }
 {

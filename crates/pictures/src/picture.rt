@@ -18,7 +18,7 @@ pub struct Picture {
     pub columns: usize,
     /// What a part of a picture leaves out, if this is one.
     pub part: Option<PicturePart>,
-    /// Whether only a few calls stand out.
+    /// Whether the picture is about a few calls, and all other bars are pale.
     pub is_few: bool,
 }
 

@@ -10,10 +10,10 @@ use crate::picture::{Bar, Mark, Picture, PicturePart, View};
 use events::{MAX_CALLS, Memory};
 use std::alloc::Global;
 
-/// Returns the part of a picture of a history with this many events that a view shows: the picture
-/// itself if there is room for all its columns, otherwise a viewport of the columns of the calls
-/// that the verdict concerns. It takes time in proportion to the square of the columns. It returns
-/// `Err` if memory runs out.
+/// Returns the part of a picture that a view shows, for a history with this many events. It is the
+/// picture itself if there is room for all its columns, and otherwise a viewport of the columns of
+/// the calls that the verdict concerns. It takes time in proportion to the square of the columns.
+/// It returns `Err` if memory runs out.
 pub fn part_of(
     alloc: Global,
     picture: Picture,
@@ -32,8 +32,8 @@ pub fn part_of(
     viewport_around(alloc, picture, room, column, event)
 }
 
-/// Returns for how many columns there is room: three for each call that the view asks for, and for
-/// 20 calls if it asks for more than a history can have.
+/// Returns for how many columns there is room. There are three for each call that the view asks
+/// for. If it asks for more than a history can have, there is room for 20 calls.
 fn room_for(calls: u32) -> usize
     ensures { result ≡ room_for calls }
 {

@@ -1,3 +1,8 @@
+mod Common
+mod SpaceWordLemmas
+mod SpaceContentLemmas
+mod SpaceTextLemmas
 mod WholePlans
 mod WholeReplays
 mod WholeSchedules
+mod VerdictLemmas

@@ -1,15 +1,10 @@
--- The text of a plan that was read up to one byte more than a text may have tells all that is to be told of the whole.
-use Rattle.std.proofs.Common.{ℕ, ◌+◌, ◌<◌, List, length, take, subst, inl, inr, arith, length-take}
-use Rattle.events.specs.declared.event.Call.{Call}
-use Rattle.events.specs.HistoryView.{HistoryView}
-use Rattle.history_text.specs.Limits.{text_limit}
-use Rattle.plans.specs.declared.fault.PlanFault.{PlanFault}
-use Rattle.plans.specs.declared.fault.PlanFault.TheVariants as plans
-use Rattle.plan_text.specs.PlanTexts.{SpellsPlan}
+-- The first bytes of the text of a plan, one more than a text may have, decide all that is to be
+-- known of the whole.
+use Rattle.plan_engines.proofs.Common.{ℕ, ◌+◌, ◌<◌, List, length, take, subst, inl, inr, arith, length-take, Call, HistoryView, text_limit, PlanFault}
+use Rattle.plan_engines.proofs.Common.{SpellsPlan, Answer, same_text, SpellsDrivable, WasPassedForPlan, IsDrivenAnswer, IsDriven, IsDriveRefusal}
+use Rattle.plan_engines.proofs.Common.{IsUndriven}
 use Rattle.plan_text.specs.PlanTextFaults.{IsPlanTextFault}
-use Rattle.outcomes.specs.declared.outcome.Answer.{Answer}
-use Rattle.outcomes.proofs.WholeText.{same_text}
-use Rattle.plan_engines.specs.Drives.{SpellsDrivable, WasPassedForPlan, IsDrivenAnswer, IsDriven, IsDriveRefusal, IsUndriven}
+use Rattle.plans.specs.declared.fault.PlanFault.TheVariants as plans
 
 -- a plan that the text read spells is the one of the whole
 pub SpellsPlan-whole : (text : List ℕ) (scripts : List (List Call)) → SpellsPlan (take (text_limit + 1) text) scripts → SpellsPlan text scripts

@@ -1,17 +1,13 @@
--- The text of a replay that was read up to one byte more than a text may have tells all that is to be told of the whole.
-use Rattle.std.proofs.Common.{ℕ, ◌+◌, ◌<◌, List, length, take, subst, inl, inr, arith, length-take}
-use Rattle.history_text.specs.Limits.{text_limit}
+-- The first bytes of the text of a replay, one more than a text may have, decide all that is to be
+-- known of the whole.
+use Rattle.plan_engines.proofs.Common.{ℕ, ◌+◌, ◌<◌, List, length, take, subst, inl, inr, arith, length-take, text_limit, ReplayView, SpellsReplay}
+use Rattle.plan_engines.proofs.Common.{Answer, same_text, IsReplayAnswer, IsReplayRefusal}
 use Rattle.plans.specs.declared.fault.MachineFault.{MachineFault}
-use Rattle.plans.specs.declared.fault.MachineFault.TheVariants as machines
-use Rattle.replay_text.specs.Replays.{ReplayView}
-use Rattle.replay_text.specs.ReplayTexts.{SpellsReplay}
-use Rattle.replay_text.specs.ReplayTextFaults.{IsReplayTextFault}
+use Rattle.plan_text.specs.ReplayTextFaults.{IsReplayTextFault}
 use Rattle.replays.specs.declared.fault.ReplayFault.{ReplayFault}
-use Rattle.replays.specs.declared.fault.ReplayFault.TheVariants as replays
 use Rattle.replays.specs.Played.{IsUnplayed}
-use Rattle.outcomes.specs.declared.outcome.Answer.{Answer}
-use Rattle.outcomes.proofs.WholeText.{same_text}
-use Rattle.plan_engines.specs.Answers.{IsReplayAnswer, IsReplayRefusal}
+use Rattle.plans.specs.declared.fault.MachineFault.TheVariants as machines
+use Rattle.replays.specs.declared.fault.ReplayFault.TheVariants as replays
 
 -- a replay that the text read spells is the one of the whole
 SpellsReplay-whole : (text : List ℕ) (r : ReplayView) → SpellsReplay (take (text_limit + 1) text) r → SpellsReplay text r

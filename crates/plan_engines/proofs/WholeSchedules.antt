@@ -1,11 +1,6 @@
 -- A text is read up to one byte more than it may have. What `schedule` answers to these bytes is an answer to the whole text.
-use Rattle.std.proofs.Common.{ℕ, ◌+◌, List, take, inl, inr}
-use Rattle.art_rows.specs.declared.table.Shape.{Shape}
-use Rattle.art_steps.specs.declared.variant.Variant.{Variant}
-use Rattle.events.specs.declared.event.Call.{Call}
-use Rattle.history_text.specs.Limits.{text_limit}
-use Rattle.outcomes.specs.declared.outcome.Answer.{Answer}
-use Rattle.plan_engines.specs.Schedules.{IsNoPlan, IsOverlong, IsScheduleAnswer, IsScheduleRefusal, SpellsScriptsOf}
+use Rattle.plan_engines.proofs.Common.{ℕ, ◌+◌, List, take, inl, inr, Shape, Variant, Call, text_limit, Answer, IsNoPlan, IsOverlong, IsScheduleAnswer}
+use Rattle.plan_engines.proofs.Common.{IsScheduleRefusal, SpellsScriptsOf}
 use Rattle.plan_engines.proofs.WholePlans.{IsPlanTextFault-whole, SpellsPlan-whole}
 
 SpellsScriptsOf-whole : (text : List ℕ) (scripts : List (List Call)) → SpellsScriptsOf (take (text_limit + 1) text) scripts

@@ -36,8 +36,8 @@ pub record IsGenerateRefusal (mix : Mix) (processes calls : ℕ) (bytes hint : L
   pub bytes_are : bytes ≡ plan_fault_line fault
   pub hint_is : hint ≡ wanted_hint (plan_wanted fault)
 
--- `replay` answers the text so: yes, with the text of the history that its run records. With the line feed behind it the text spells this
--- history, where it is no longer than a text may be.
+-- `replay` answers the text so: yes, with the text of the history that its run records. With the
+-- line feed after it the text spells this history, if it is no longer than a text may be.
 pub record IsReplayAnswer (text : List ℕ) (answer : Answer) (bytes : List ℕ) : Type 0 where
   pub history : HistoryView
   pub played : IsPlayed text history

@@ -48,8 +48,8 @@ SpellsUndrivable text = (scripts : List (List Call)) × SpellsPlan text scripts 
 abbrev pub IsUndriven : List ℕ → PlanFault → Type 0
 IsUndriven text fault = IsPlanTextFault text fault ⊎ ((fault ≡ plans.TooMany) × SpellsUndrivable text)
 
--- `drive` answers the text so: yes, with the text of a history of the plan. With the line feed behind it the text spells this history, where
--- it is no longer than a text may be.
+-- `drive` answers the text so: yes, with the text of a history of the plan. With the line feed
+-- after it the text spells this history, if it is no longer than a text may be.
 pub record IsDrivenAnswer (IsHistoryOf : List (List Call) → HistoryView → Type 0) (text : List ℕ) (answer : Answer)
     (bytes : List ℕ) : Type 0 where
   pub history : HistoryView
@@ -62,7 +62,8 @@ pub record IsDrivenAnswer (IsHistoryOf : List (List Call) → HistoryView → Ty
 abbrev pub IsDriveAnswer : (Call → Reply → Type 0) → List ℕ → Answer → List ℕ → Type 0
 IsDriveAnswer may_answer = IsDrivenAnswer (IsDriveOf may_answer)
 
--- or one on a tree of this shape and variant, with at most so many steps of each call beside that of its invocation
+-- or one on a tree of this shape and variant, with at most this many steps of each call in addition
+-- to that of its invocation
 abbrev pub IsTreeDriveAnswer : Shape → Variant → ℕ → List ℕ → Answer → List ℕ → Type 0
 IsTreeDriveAnswer shape variant limit = IsDrivenAnswer (IsArenaDriveOf shape variant limit)
 

@@ -1,4 +1,5 @@
--- How the fault of a plan or of a replay is told: its line, and the outcome with a hint beside it.
+-- How the fault of a plan or of a replay is reported: its line, and the outcome with a hint next to
+-- it.
 use Rattle.std.specs.Prelude.{◌≡◌, ◌≢◌, ⊤, ℕ, List, ◌++◌, codes, decimal, string_bytes}
 use Rattle.plans.specs.declared.fault.PlanFault.{PlanFault}
 use Rattle.plans.specs.declared.fault.PlanFault.TheVariants as plans
@@ -11,8 +12,8 @@ use Rattle.outcomes.specs.declared.outcome.RunOutcome.{RunOutcome}
 use Rattle.outcomes.specs.declared.outcome.RunOutcome.TheVariants.{Refused, Memory}
 use Rattle.outcomes.specs.Lines.{line, memory_line}
 use Rattle.outcomes.specs.Wanted.{wanted_hint}
-use Rattle.drawn_schedules.specs.declared.fault.DrawFault.{DrawFault}
-use Rattle.drawn_schedules.specs.declared.fault.DrawFault.TheVariants as draws
+use Rattle.replays.specs.declared.draw_fault.DrawFault.{DrawFault}
+use Rattle.replays.specs.declared.draw_fault.DrawFault.TheVariants as draws
 use Rattle.plan_engines.specs.Wanted.{plan_wanted, replay_wanted, too_long_wanted}
 
 -- why there is no plan

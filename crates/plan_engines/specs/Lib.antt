@@ -1,6 +1,11 @@
+pub mod WhiteSpace
+pub mod WhiteSpaceLaws
 pub mod Wanted
 pub mod Faults
 pub mod Answers
 pub mod Drives
 pub mod Schedules
 pub mod Outcomes
+pub mod VerdictLaws
+pub mod Writes
+pub mod EngineLaws

@@ -17,9 +17,9 @@ use Rattle.outcomes.specs.Lines.{line}
 use Rattle.outcomes.specs.Outcomes.{IsReadOutcome}
 use Rattle.plan_engines.specs.Answers.{IsGenerateAnswer, IsGenerateRefusal, IsReplayAnswer, IsReplayRefusal}
 use Rattle.plan_engines.specs.Schedules.{IsScheduleAnswer, IsScheduleRefusal}
-use Rattle.replay_text.specs.Replays.{ReplayView}
-use Rattle.replay_text.specs.ReplayTexts.{SpellsReplay}
-use Rattle.replay_text.specs.WrittenReplays.{written_data}
+use Rattle.plan_text.specs.Replays.{ReplayView}
+use Rattle.plan_text.specs.ReplayTexts.{SpellsReplay}
+use Rattle.plan_text.specs.WrittenReplays.{written_data}
 use Rattle.plan_engines.specs.Drives.{IsDriveAnswer, IsTreeDriveAnswer, IsDriveRefusal}
 
 -- the outcome of `generate` from this seed, mix and numbers of processes and calls
@@ -38,7 +38,7 @@ IsReplayOutcome source outcome = IsReadOutcome IsReplayAnswer IsReplayRefusal so
 abbrev pub IsDriveOutcome : (Call → Reply → Type 0) → Change → RunOutcome → Type 0
 IsDriveOutcome may_answer source outcome = IsReadOutcome (IsDriveAnswer may_answer) IsDriveRefusal source outcome
 
--- and on a tree
+-- the outcome of `drive` on a tree
 abbrev pub IsTreeDriveOutcome : Shape → Variant → ℕ → Change → RunOutcome → Type 0
 IsTreeDriveOutcome shape variant limit source outcome = IsReadOutcome (IsTreeDriveAnswer shape variant limit) IsDriveRefusal source outcome
 

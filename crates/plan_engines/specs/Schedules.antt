@@ -9,10 +9,10 @@ use Rattle.plans.specs.declared.fault.PlanFault.TheVariants as plans
 use Rattle.plans.specs.Plans.{AreScripts}
 use Rattle.plan_text.specs.PlanTexts.{SpellsPlan}
 use Rattle.plan_text.specs.PlanTextFaults.{IsPlanTextFault}
-use Rattle.replay_text.specs.Replays.{ReplayView}
-use Rattle.replay_text.specs.ReplayTexts.{SpellsReplay}
-use Rattle.replay_text.specs.WrittenReplays.{written_data}
-use Rattle.drawn_schedules.specs.Drawn.{IsDrawnReplay, IsTooLong}
+use Rattle.plan_text.specs.Replays.{ReplayView}
+use Rattle.plan_text.specs.ReplayTexts.{SpellsReplay}
+use Rattle.plan_text.specs.WrittenReplays.{written_data}
+use Rattle.replays.specs.Drawn.{IsDrawnReplay, IsTooLong}
 use Rattle.outcomes.specs.declared.outcome.Answer.{Answer}
 use Rattle.outcomes.specs.declared.outcome.Answer.TheVariants.{Yes}
 use Rattle.outcomes.specs.Lines.{line}

@@ -1,4 +1,4 @@
--- What is said beside the line of a fault of a plan or of a replay: what was wanted.
+-- Hints next to the line of a fault of a plan or of a replay: what was expected.
 use Rattle.std.specs.Prelude.{ℕ, List, [], ◌++◌, codes}
 use Rattle.plans.specs.declared.fault.PlanFault.{PlanFault}
 use Rattle.plans.specs.declared.fault.PlanFault.TheVariants as plans
@@ -34,7 +34,7 @@ machine_wanted machines.Shape =
     ++ codes "version 2 \"start\":[[K,V],..]; ITEM is [P,\"turns\",N], [P,\"end\"] or [P,\"until\",POINT]; C is as in a plan"
 machine_wanted machines.StartRefused = codes "rows that have room for the starting pairs"
 
--- and where a text of a replay gives no history
+-- what was expected if the text of a replay gives no history
 abbrev pub replay_wanted : ReplayFault → List ℕ
 replay_wanted (replays.Replay fault) = machine_wanted fault
 replay_wanted (replays.Schedule stop) = machine_wanted stop.fault

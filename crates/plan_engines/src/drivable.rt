@@ -8,6 +8,7 @@ ghost use Rattle.plan_engines.specs.Drives.{SpellsDrivable};
 ghost use Rattle.plan_engines.specs.Outcomes.{IsUndrivenOutcome, IsHistoryOutcome};
 
 use crate::faults::plan_fault_outcome;
+use crate::white_space_laws::spells_between_white_space;
 use drives::is_drivable;
 use events::{History, Memory};
 use history_text::write_history;
@@ -15,9 +16,8 @@ use outcomes::{Answer, RunOutcome, line_of};
 use plan_text::read_plan;
 use plans::{Plan, PlanFault};
 use std::alloc::Global;
-use white_space::spells_between_white_space;
 
-/// The plan that a text spells, where it can be driven, or how it comes out that there is none.
+/// The plan that a text spells, if it can be driven, or else the outcome that says why not.
 pub(crate) fn drivable_plan(alloc: Global, text: &[u8]) -> Result<Plan, RunOutcome>
     ensures plan { IfOk result (SpellsDrivable text.now) }
     ensures refused { IfErr result (IsUndrivenOutcome text.now) }
@@ -32,7 +32,7 @@ pub(crate) fn drivable_plan(alloc: Global, text: &[u8]) -> Result<Plan, RunOutco
     Ok(plan)
 }
 
-/// The text of a history as an answer, or want of memory.
+/// The text of a history as an answer, or `Memory` if memory runs out.
 pub(crate) fn history_outcome(alloc: Global, history: &History) -> RunOutcome
     ensures { IsHistoryOutcome history.now result }
 {

@@ -17,8 +17,9 @@ use std::alloc::Global;
 use std::thread::Threads;
 use streams::{Sink, Source};
 
-/// Reads a plan text to the end of the source, or until it is too long, does each script of the plan at the subject, in a
-/// thread of its own, and writes the text of the history that is recorded. Answers the exit status.
+/// Reads a plan text to the end of the source, or until it is too long. Does each script of the
+/// plan at the subject, in a thread of its own. Writes the text of the history that is recorded,
+/// and returns the exit status.
 pub fn run_drive<R: Threads + Sync, S: Source, O: Sink, F: Sink, H: Sink, J: Subject + Sync>(
     rt: &R,
     alloc: Global,

@@ -1,16 +1,15 @@
-// How the fault of a plan or of a replay is told.
+// The outcomes for the faults of plans and of replays.
 ghost use Rattle.std.specs.Prelude.{◌≡◌, IfOk, string_bytes};
 ghost use Rattle.plan_engines.specs.Faults.{plan_fault_line, machine_fault_name, stop_line, replay_fault_line};
 ghost use Rattle.plan_engines.specs.Faults.{IsDrawFaultOutcome, IsPlanFaultOutcome, IsReplayFaultOutcome};
 
 use crate::wanted::{plan_wanted, replay_wanted, too_long_wanted};
-use drawn_schedules::DrawFault;
 use outcomes::{RunOutcome, wanted_hint};
 use plans::{MachineFault, PlanFault, RunFault};
-use replays::ReplayFault;
+use replays::{DrawFault, ReplayFault};
 use std::alloc::{AllocError, Global};
 
-/// The refusal where there is no plan, or want of memory.
+/// The refusal if there is no plan, or `Memory` if memory ran out.
 pub(crate) fn plan_fault_outcome(alloc: Global, fault: PlanFault) -> RunOutcome
     ensures { IsPlanFaultOutcome fault result }
 {
@@ -23,7 +22,7 @@ pub(crate) fn plan_fault_outcome(alloc: Global, fault: PlanFault) -> RunOutcome
     }
 }
 
-/// The refusal of a text that gives no history of a replay, or want of memory.
+/// The refusal of a text that gives no history of a replay, or `Memory` if memory ran out.
 pub(crate) fn replay_fault_outcome(alloc: Global, fault: &ReplayFault) -> RunOutcome
     ensures { IsReplayFaultOutcome fault.now result }
 {

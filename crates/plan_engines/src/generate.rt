@@ -11,8 +11,8 @@ use std::alloc::Global;
 use streams::Sink;
 use workload::{Mix, plan};
 
-/// Writes the text of the plan of so many processes, with so many calls each, that is drawn from a seed. It reads nothing.
-/// Answers the exit status.
+/// Writes the text of the plan of this many processes, with this many calls each, that is drawn
+/// from a seed. It reads nothing. Returns the exit status.
 pub fn run_generate<O: Sink, F: Sink, H: Sink>(
     alloc: Global,
     output: &mut O,

@@ -16,8 +16,8 @@ use replays::replay_history;
 use std::alloc::Global;
 use streams::{Sink, Source};
 
-/// Reads a replay text to the end of the source, or until it is too long, runs its whole schedule, and writes the text of
-/// the history. Answers the exit status.
+/// Reads a replay text to the end of the source, or until it is too long, runs its whole schedule,
+/// and writes the text of the history. Returns the exit status.
 pub fn run_replay<S: Source, O: Sink, F: Sink, H: Sink>(
     alloc: Global,
     source: &mut S,

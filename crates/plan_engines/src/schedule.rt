@@ -8,27 +8,27 @@ ghost use Rattle.outcomes.specs.Lines.{line};
 ghost use Rattle.outcomes.specs.Outcomes.{IsTextOutcome};
 ghost use Rattle.outcomes.specs.Reads.{IsTextRead};
 ghost use Rattle.outcomes.specs.Runs.{IsRun};
-ghost use Rattle.replay_text.specs.Replays.{turn_limit};
-ghost use Rattle.replay_text.specs.ReplayTexts.{SpellsReplay};
-ghost use Rattle.replay_text.specs.ReplayViews.{shown};
-ghost use Rattle.replay_text.specs.WrittenReplays.{AreHeld, written_data};
+ghost use Rattle.plan_text.specs.Replays.{turn_limit};
+ghost use Rattle.plan_text.specs.ReplayTexts.{SpellsReplay};
+ghost use Rattle.plan_text.specs.ReplayViews.{shown};
+ghost use Rattle.plan_text.specs.WrittenReplays.{AreHeld, written_data};
 ghost use Rattle.plan_engines.specs.Schedules.{IsScheduleAnswer, IsScheduleRefusal};
 ghost use Rattle.plan_engines.specs.Outcomes.{IsScheduleOutcome, IsReplayLineOutcome};
 
 use crate::faults::{draw_fault_outcome, plan_fault_outcome};
+use crate::white_space_laws::white_space_tells_nothing;
 use art::{Shape, Variant};
-use drawn_schedules::{Draw, drawn_replay};
 use events::Memory;
 use history_text::MAX_TEXT;
 use outcomes::{Answer, RunOutcome, line_of, run_text};
-use plan_text::read_plan;
-use replay_text::{Replay, write_replay};
+use plan_text::{Replay, read_plan, write_replay};
+use replays::{Draw, drawn_replay};
 use std::alloc::Global;
 use streams::{Sink, Source};
-use white_space::white_space_tells_nothing;
 
-/// Reads a plan text to the end of the source, or until it is too long. Draws a schedule of at most `limit` turns of its scripts
-/// on a tree of the shape and the variant, writes the text of the replay, and returns the exit status.
+/// Reads a plan text to the end of the source, or until it is too long. Draws a schedule of at most
+/// `limit` turns of its scripts, on a tree of the shape and the variant. Writes the text of the
+/// replay, and returns the exit status.
 pub fn run_schedule<S: Source, O: Sink, F: Sink, H: Sink>(
     alloc: Global,
     source: &mut S,

@@ -20,9 +20,10 @@ use std::alloc::Global;
 use std::thread::Threads;
 use streams::{Sink, Source};
 
-/// Reads a plan text to the end of the source, or until it is too long, does each script of the plan on one tree of the shape
-/// and the variant, in a thread of its own that enters the gate first, with at most `limit` steps of each call, and writes the
-/// text of the history. Answers the exit status.
+/// Reads a plan text to the end of the source, or until it is too long. Does each script of the
+/// plan on one tree of the shape and the variant. Each script has a thread of its own, which enters
+/// the gate first, and each call makes at most `limit` steps. Writes the text of the history, and
+/// returns the exit status.
 pub fn run_tree_drive<R: Threads + Sync, S: Source, O: Sink, F: Sink, H: Sink, G: Gate + Sync>(
     rt: &R,
     alloc: Global,

@@ -1,4 +1,4 @@
-// What is said beside the line of a fault of a plan or of a replay: what was wanted.
+// Hints next to the line of a fault of a plan or of a replay: what was expected.
 ghost use Rattle.std.specs.Prelude.{◌≡◌};
 ghost use Rattle.plan_engines.specs.Wanted.{plan_wanted, machine_wanted, replay_wanted, too_long_wanted};
 
@@ -6,7 +6,7 @@ use outcomes::{json_wanted, length_wanted};
 use plans::{MachineFault, PlanFault};
 use replays::ReplayFault;
 
-/// What was wanted in the place of a fault of a plan.
+/// What was expected where a plan has this fault.
 pub(crate) fn plan_wanted(fault: PlanFault) -> &'static str
     ensures { result.now ≡ plan_wanted fault }
 {
@@ -26,7 +26,7 @@ pub(crate) fn plan_wanted(fault: PlanFault) -> &'static str
     }
 }
 
-/// What was wanted where a text of a replay gives no history.
+/// What was expected if the text of a replay gives no history.
 pub(crate) fn replay_wanted(fault: &ReplayFault) -> &'static str
     ensures { result.now ≡ replay_wanted fault.now }
 {
@@ -37,7 +37,7 @@ pub(crate) fn replay_wanted(fault: &ReplayFault) -> &'static str
     }
 }
 
-/// What was wanted in the place of a fault of a replay or of its schedule.
+/// What was expected where a replay or its schedule has this fault.
 fn machine_wanted(fault: MachineFault) -> &'static str
     ensures { result.now ≡ machine_wanted fault }
 {

@@ -1,14 +1,8 @@
 -- Values that spell items one by one, each of which passes a test.
-use Rattle.std.proofs.Common.{◌≡◌, ℕ, zero, suc, ◌<◌, Bool, true, List, [], ◌∷◌, length, map, get_or, sym, ap, ◌∙◌, arith, Option, Some}
-use Rattle.std.proofs.Common.{None, Result, Ok, Err, IfOk, IfNone}
-use Rattle.std.specs.List.{list_all}
-use Rattle.std.proofs.lemmas.Bool.{and_parts}
-use Rattle.serde_json.specs.Data.{Data}
-use Rattle.serde_json.specs.View.{view, items_view}
+use Rattle.plan_text.proofs.Common.{◌≡◌, ℕ, zero, suc, ◌<◌, Bool, true, List, [], ◌∷◌, length, map, get_or, sym, ap, ◌∙◌, arith, Option, Some, None}
+use Rattle.plan_text.proofs.Common.{Result, Ok, Err, IfOk, IfNone, list_all, and_parts, Data, view, items_view, Value, list_data, list_data_injective}
+use Rattle.plan_text.proofs.Common.{list_found}
 use Rattle.serde_json.specs.Find.{as_array}
-use Rattle.serde_json.specs.declared.value.Value.{Value}
-use Rattle.history_text.specs.Texts.{list_data}
-use Rattle.history_text.proofs.DataLemmas.{list_data_injective, list_found}
 
 module _ {A : Type 0} (f : A → Data) (test : A → Bool) where
   -- values spell no items that all pass, where the one at a place spells none that passes

@@ -1,8 +1,5 @@
 -- A text is too long, or no JSON, or JSON of one value.
-use Rattle.std.proofs.Common.{ℕ, List, arith}
-use Rattle.serde_json.specs.Data.{Data}
-use Rattle.history_text.specs.JsonFaults.{IsTooLong, IsNoJson}
-use Rattle.history_text.specs.Texts.{IsJson}
+use Rattle.plan_text.proofs.Common.{ℕ, List, arith, Data, IsTooLong, IsNoJson, IsJson}
 
 pub long_or_short : (text : List ℕ) → IsTooLong text → IsNoJson text → ⊥
 long_or_short text long none = let short = none.0 in omega (arith, long, short)

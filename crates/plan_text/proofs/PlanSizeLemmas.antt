@@ -1,30 +1,17 @@
 -- The text of a plan is never too long: a call takes at most 44 bytes, and there are at most 4,096 of them, in at most 64 scripts.
-use Rattle.std.proofs.Common.{◌≡◌, ℕ, ◌+◌, ◌*◌, ◌^◌, ◌<◌, ◌≤◌, Bool, true, false, not, ◌&&◌, nat_lt, nat_le, List, [], ◌∷◌, ◌++◌, length}
-use Rattle.std.proofs.Common.{map, arith}
-use Rattle.std.specs.Prelude.{All, sum, decimal}
-use Rattle.std.proofs.lemmas.Bool.{and_parts, ltb-true, leb-true}
-use Rattle.std.proofs.lemmas.Fmt.{length-decimal-le}
-use Rattle.std.proofs.lemmas.List.{length-append}
-use Rattle.std.proofs.lemmas.List.Elements.{All-head, All-tail}
-use Rattle.std.proofs.lemmas.List.Sums.{sum_by-cons}
-use Rattle.serde_json.proofs.OnLiterals.{serde_json_on_literals}
-use Rattle.serde_json.specs.View.{items_of}
-use Rattle.serde_json.specs.Written.{compact_text, comma_if, items_text}
-use Rattle.events.specs.declared.event.Call.{Call}
-use Rattle.events.specs.declared.event.Call.TheVariants.{Get, Insert, Remove, Scan, Replace}
-use Rattle.history_text.specs.Limits.{text_limit}
-use Rattle.history_text.specs.Texts.{call_data}
-use Rattle.art_steps.specs.TreeCalls.{is_tree_call}
-use Rattle.plans.specs.Plans.{AreTreeCalls, AreScripts}
-use Rattle.plan_text.specs.Scripts.{script_data}
-use Rattle.plan_text.specs.PlanTexts.{version_of, written_data, are_plain_scripts, plan_data}
+use Rattle.plan_text.proofs.Common.{◌≡◌, ℕ, ◌+◌, ◌*◌, ◌^◌, ◌<◌, ◌≤◌, Bool, true, false, not, ◌&&◌, nat_lt, nat_le, List, [], ◌∷◌, ◌++◌, length, map}
+use Rattle.plan_text.proofs.Common.{arith, All, sum, decimal, and_parts, ltb-true, leb-true, length-decimal-le, length-append, All-head, All-tail}
+use Rattle.plan_text.proofs.Common.{sum_by-cons, serde_json_on_literals, items_of, compact_text, comma_if, items_text, Call, Get, Insert, Remove}
+use Rattle.plan_text.proofs.Common.{Scan, Replace, text_limit, call_data, is_tree_call, AreTreeCalls, AreScripts, script_data, version_of}
+use Rattle.plan_text.proofs.Common.{are_plain_scripts, plan_data}
+use Rattle.plan_text.specs.PlanTexts.{written_data}
 use Rattle.plan_text.proofs.WrittenPlanLemmas.{IsTreeCall}
 
 -- a number below 2^32 has at most ten digits
 digits : (n : ℕ) → nat_lt n (2 ^ 32) ≡ true → length (decimal n) ≤ 10
 digits n h = let below : n < 2 ^ 32 = ltb-true n (2 ^ 32) h in length-decimal-le 10 n (omega arith) (omega arith) (omega arith)
 
--- and so has one below 2^30
+-- a number below 2^30 has at most ten digits
 value_digits : (n : ℕ) → nat_lt n (2 ^ 30) ≡ true → length (decimal n) ≤ 10
 value_digits n h = let below : n < 2 ^ 30 = ltb-true n (2 ^ 30) h in length-decimal-le 10 n (omega arith) (omega arith) (omega arith)
 
@@ -65,7 +52,7 @@ size-call (Replace key old new) h =
       value_digits new values.1,
     )
 
--- what stands before an item
+-- what comes before an item
 pub size-comma : (later : Bool) (xs : List ℕ) → length (comma_if later ++ xs) ≤ length xs + 1
 size-comma true xs = omega arith
 size-comma false xs = omega arith

@@ -1,17 +1,9 @@
 -- A text spells one plan only, and has one fault.
 use Rattle.plans.specs.declared.fault.PlanFault.TheVariants as faults
-use Rattle.std.proofs.Common.{◌≡◌, ℕ, Bool, List, map, Result, Ok, Err, OnErr, IfErr, refl, sym, ◌∙◌, subst}
-use Rattle.serde_json.specs.Data.{Data}
-use Rattle.events.specs.declared.event.Call.{Call}
-use Rattle.history_text.specs.Texts.{call_data, IsJson}
-use Rattle.history_text.specs.JsonFaults.{IsTooLong, IsNoJson}
-use Rattle.history_text.proofs.DataLemmas.{list_data_injective}
-use Rattle.history_text.proofs.DocumentLemmas.{same_value}
-use Rattle.history_text.proofs.TextLemmas.{call_data_injective, map_injective}
+use Rattle.plan_text.proofs.Common.{◌≡◌, ℕ, Bool, List, map, Result, Ok, Err, OnErr, IfErr, refl, sym, ◌∙◌, subst, Data, Call, call_data, IsJson}
+use Rattle.plan_text.proofs.Common.{IsTooLong, IsNoJson, list_data_injective, same_value, call_data_injective, map_injective, AreFew, script_data}
+use Rattle.plan_text.proofs.Common.{scripts_data, plan_data, SpellsPlanAs, SpellsPlan}
 use Rattle.plans.specs.declared.fault.PlanFault.{PlanFault}
-use Rattle.plans.specs.Plans.{AreFew}
-use Rattle.plan_text.specs.Scripts.{script_data, scripts_data}
-use Rattle.plan_text.specs.PlanTexts.{plan_data, SpellsPlanAs, SpellsPlan}
 use Rattle.plan_text.specs.PlanTextFaults.{SpellsNoPlan, SpellsTooMany, IsPlanFormFault, IsPlanTextFault}
 use Rattle.plan_text.specs.PlanTextLaws.{SpellsOnePlan, HasOnePlanFault, FaultySpellsNoPlan}
 use Rattle.plan_text.proofs.JsonLemmas.{long_or_short, long_or_json, none_or_json}
@@ -22,7 +14,7 @@ use Rattle.plan_text.proofs.JsonLemmas.{long_or_short, long_or_json, none_or_jso
 script_data_injective : (a b : List Call) → script_data a ≡ script_data b → a ≡ b
 script_data_injective a b h = map_injective call_data call_data_injective a b (list_data_injective (map call_data a) (map call_data b) h)
 
--- and one list of scripts
+-- a value spells only one list of scripts
 pub scripts_data_injective : (a b : List (List Call)) → scripts_data a ≡ scripts_data b → a ≡ b
 scripts_data_injective a b h = map_injective script_data script_data_injective a b (list_data_injective (map script_data a)
     (map script_data b) h)
@@ -42,7 +34,7 @@ no_form : (text : List ℕ) (d : Data) (scripts : List (List Call)) → IsJson t
 no_form text d scripts json none spells =
     none scripts (subst (λ (e : Data). SpellsPlanAs e scripts) (same_value text spells.value d spells.json json) spells.spelled)
 
--- a text that spells a plan within the limits has no fault but want of memory
+-- a text that spells a plan within the limits has no fault but `Memory`
 pub memory_alone : (text : List ℕ) (scripts : List (List Call)) (fault : PlanFault) → SpellsPlan text scripts → AreFew scripts
     → IsPlanTextFault text fault
     → fault ≡ faults.Memory
@@ -86,7 +78,7 @@ long_or_many text long many = long_or_json text many.1.value long many.1.json
 none_or_many : (text : List ℕ) → IsNoJson text → SpellsTooMany text → ⊥
 none_or_many text none many = none_or_json text many.1.value none many.1.json
 
--- a text has one fault only, apart from want of memory
+-- a text has one fault only, apart from `Memory`
 pub one_fault : HasOnePlanFault
 one_fault text faults.BadMix g h k f_other g_other = absurd h
 one_fault text faults.BadRange g h k f_other g_other = absurd h

@@ -1,18 +1,9 @@
 -- The value of a plan has no float, nests four deep at most, and spells the plan.
-use Rattle.std.proofs.Common.{◌≡◌, ℕ, ◌≤◌, Bool, true, false, not, List, [], ◌∷◌, refl, arith}
-use Rattle.std.specs.Prelude.{All, IsTrue}
-use Rattle.std.proofs.lemmas.Bool.{and_parts}
-use Rattle.std.proofs.lemmas.List.Elements.{All-head, All-tail}
-use Rattle.serde_json.specs.Data.{depth}
-use Rattle.serde_json.specs.Written.{has_float}
-use Rattle.events.specs.declared.event.Call.{Call}
-use Rattle.events.specs.PlainHistories.{is_replace}
-use Rattle.history_text.specs.Texts.{call_data, IsJson}
-use Rattle.history_text.proofs.WrittenLemmas.{items_have_float-map, items_depth-map, has_float-call, depth-call}
-use Rattle.art_steps.specs.TreeCalls.{is_tree_call}
-use Rattle.plans.specs.Plans.{AreTreeCalls}
-use Rattle.plan_text.specs.Scripts.{script_data, scripts_data, is_script_call, is_script, are_scripts}
-use Rattle.plan_text.specs.PlanTexts.{plan_data, is_plain_script, are_plain_scripts, written_data, SpellsPlanAs, SpellsPlan}
+use Rattle.plan_text.proofs.Common.{◌≡◌, ℕ, ◌≤◌, Bool, true, false, not, List, [], ◌∷◌, refl, arith, All, IsTrue, and_parts, All-head, All-tail}
+use Rattle.plan_text.proofs.Common.{depth, has_float, Call, is_replace, call_data, IsJson, items_have_float-map, items_depth-map, has_float-call}
+use Rattle.plan_text.proofs.Common.{depth-call, is_tree_call, AreTreeCalls, script_data, scripts_data, is_script_call, is_script, are_scripts}
+use Rattle.plan_text.proofs.Common.{plan_data, is_plain_script, are_plain_scripts, SpellsPlanAs, SpellsPlan}
+use Rattle.plan_text.specs.PlanTexts.{written_data}
 
 has_float-script : (calls : List Call) → has_float (script_data calls) ≡ false
 has_float-script calls = items_have_float-map call_data has_float-call calls
@@ -37,7 +28,7 @@ depth-plan scripts = omega (arith, depth-scripts scripts)
 abbrev pub IsTreeCall : Call → Type 0
 IsTreeCall call = IsTrue (is_tree_call call)
 
--- a call that a tree can do may stand in a text that may hold a replace
+-- a call that a tree can do may be in a text that may hold a replace
 any_call : (call : Call) → is_tree_call call ≡ true → is_script_call true call ≡ true
 any_call call h = rw (h) refl
 
@@ -54,7 +45,7 @@ any_scripts [] h = refl
 any_scripts (calls ∷ scripts) h =
     rw (any_script calls (All-head (All IsTreeCall) calls scripts h), any_scripts scripts (All-tail (All IsTreeCall) calls scripts h)) refl
 
--- and in another one where it is no replace
+-- a call that is no replace may be in any such text
 plain_call : (call : Call) → is_tree_call call ≡ true → not (is_replace call) ≡ true → is_script_call false call ≡ true
 plain_call call h plain = rw (h, plain) refl
 

@@ -2,3 +2,10 @@ pub mod PlanTextFaults
 pub mod PlanTextLaws
 pub mod PlanTexts
 pub mod Scripts
+pub mod Replays
+pub mod ReplayViews
+pub mod ReplayTexts
+pub mod ReplayTextFaults
+pub mod ReplayTextLaws
+pub mod Settings
+pub mod WrittenReplays

@@ -11,7 +11,7 @@ use Rattle.plan_text.specs.PlanTextFaults.{IsPlanTextFault}
 abbrev pub SpellsOnePlan : Type 0
 SpellsOnePlan = (text : List ℕ) (a b : List (List Call)) → SpellsPlan text a → SpellsPlan text b → a ≡ b
 
--- a text has one fault only, apart from want of memory, which any text may meet
+-- a text has only one fault, apart from `Memory`, which any text may have
 abbrev pub HasOnePlanFault : Type 0
 HasOnePlanFault =
     (text : List ℕ) (f g : PlanFault) → IsPlanTextFault text f → IsPlanTextFault text g → f ≢ faults.Memory → g ≢ faults.Memory → f ≡ g

@@ -15,7 +15,7 @@ script_data calls = list_data (map call_data calls)
 abbrev pub scripts_data : List (List Call) → Data
 scripts_data scripts = list_data (map script_data scripts)
 
--- ---- which calls may stand in them
+-- which calls a script may have
 
 -- whether a call is one that a tree can do, and a replace only where the text may hold one
 abbrev pub is_script_call : Bool → Call → Bool
@@ -27,7 +27,7 @@ is_script may_replace calls = list_all (is_script_call may_replace) calls
 abbrev pub are_scripts : Bool → List (List Call) → Bool
 are_scripts may_replace scripts = list_all (is_script may_replace) scripts
 
--- the value spells these scripts, of calls that may stand there
+-- the value spells these scripts, of calls that they may have
 pub record SpellsScripts (may_replace : Bool) (d : Data) (scripts : List (List Call)) : Type 0 where
   pub value : d ≡ scripts_data scripts
   pub standing : IsTrue (are_scripts may_replace scripts)

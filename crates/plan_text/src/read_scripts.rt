@@ -11,8 +11,9 @@ use history_text::call_of;
 use serde_json::Value;
 use std::alloc::Global;
 
-/// The scripts that a value spells, of calls within the trees' limits, with a replace only where the text may hold one. `Err`
-/// is want of memory. It takes time in proportion to the calls.
+/// The scripts that a value spells, of calls within the trees' limits. They have a replace only if
+/// the text may hold one. It returns `Err` if memory runs out. It takes time in proportion to the
+/// calls.
 pub fn scripts_of(
     alloc: Global,
     may_replace: bool,
@@ -90,7 +91,7 @@ fn calls_among(
     Ok(Some(calls))
 }
 
-/// The call that a value spells, if it may stand in a script.
+/// The call that a value spells, if a script may have it.
 fn tree_call_of(may_replace: bool, value: &Value) -> Option<TreeCall>
     ensures spelled { IfSome result (λ call. view value.now ≡ call_data call) }
     ensures standing { IfSome result (λ call. IsTrue (is_script_call may_replace call)) }

@@ -4,7 +4,7 @@ use Rattle.events.specs.declared.event.Call.{Call}
 use Rattle.events.specs.Limits.{process_limit, call_limit}
 use Rattle.art_steps.specs.TreeCalls.{is_tree_call}
 
--- so few scripts and calls as a plan may have
+-- no more scripts and calls than a plan may have
 pub record AreFew (scripts : List (List Call)) : Type 0 where
   pub some_script : 1 ≤ length scripts
   pub few_scripts : length scripts ≤ process_limit

@@ -40,19 +40,19 @@ pub enum MachineFault {
     NothingToDo,
     /// No turn is left to the machine.
     TurnLimit,
-    /// Memory was wanted.
+    /// Memory ran out.
     Memory,
     /// A text is longer than texts may be.
     TooLong,
     /// A text is no JSON.
     NotJson,
-    /// A text has not the form of a replay, or passes a limit.
+    /// A text does not have the form of a replay, or passes a limit.
     Shape,
     /// A pair that a machine was to start with has no place in the tree.
     StartRefused,
 }
 
-/// The item of a schedule whose turn was refused, and why. The turns before it stand.
+/// The item of a schedule whose turn was refused, and why. The turns before it were made.
 #[derive(Clone, Copy, Debug, PartialEq, Eq)]
 pub struct RunFault {
     /// The item's place in the schedule, from 0.

@@ -63,7 +63,7 @@ impl Plan {
     }
 }
 
-/// Whether there are so few scripts and calls as a plan may have.
+/// Whether there are no more scripts and calls than a plan may have.
 fn are_few(scripts: &[Vec<TreeCall>]) -> bool
     ensures { IsTrue result ↔ AreFew (map (λ script. script.items) scripts.now) }
 {

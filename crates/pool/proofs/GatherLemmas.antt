@@ -1,7 +1,6 @@
 -- What workers answer, one after another.
-use Rattle.std.proofs.Common.{◌≡◌, List, ◌++◌, Result, Ok, Err, All, IfOk}
+use Rattle.pool.proofs.Common.{◌≡◌, List, ◌++◌, Result, Ok, Err, All, IfOk, All-append}
 use Rattle.std.specs.Result.{MatchResult}
-use Rattle.std.proofs.lemmas.List.Elements.{All-append}
 
 -- what holds of all that was gathered, and of what comes next, holds of both together
 pub All-gathered : {A V E : Type 0} (P : A → Type 0) (items : V → List A) (old new : List A) (next : Result V E)

@@ -1,19 +1,9 @@
 -- Answers at their segments' places, as they become known.
-use Rattle.std.proofs.Common.{◌≡◌, ℕ, zero, suc, ◌<◌, List, [], ◌∷◌, ◌++◌, length, map, Option, Some, None, slice_set, replicate, fold, All}
-use Rattle.std.proofs.Common.{ap, refl, arith}
-use Rattle.std.proofs.Common.{length-append, length-set}
-use Rattle.std.proofs.lemmas.List.{length-map}
-use Rattle.std.proofs.lemmas.List.Elements.{All-head, All-rest, All-tail}
-use Rattle.std.specs.List.{AllZip, HoldsAt}
+use Rattle.pool.proofs.Common.{◌≡◌, ℕ, zero, suc, ◌<◌, List, [], ◌∷◌, ◌++◌, length, map, Option, Some, None, slice_set, replicate, fold, All, ap}
+use Rattle.pool.proofs.Common.{refl, arith, length-append, length-set, length-map, All-head, All-rest, All-tail, AllZip, HoldsAt, SegmentView}
+use Rattle.pool.proofs.Common.{IsExactAnswer, IsSoundAnswer, Found, SegmentAnswer, AnswersOneOf, with_answer, IsExactIfKnown}
 use Rattle.std.specs.Option.{IfSome}
-use Rattle.segments.specs.SegmentView.{SegmentView}
-use Rattle.search.specs.Exact.{IsExactAnswer}
-use Rattle.search.specs.Found.{IsSoundAnswer}
 use Rattle.search.proofs.ExactLemmas.{sound_from_exact}
-use Rattle.search.specs.declared.found.Found.{Found}
-use Rattle.pool.specs.declared.worker.SegmentAnswer.{SegmentAnswer}
-use Rattle.pool.specs.Answers.{AnswersOneOf}
-use Rattle.pool.specs.Known.{with_answer, IsExactIfKnown}
 
 -- the answers in rest are still to be put, each at one of the places, and then all are
 pub record IsStillToPut (first : List (Option Found)) (all : List SegmentAnswer) (known : List (Option Found))
@@ -35,13 +25,13 @@ next_is_put {first} {known} {all} {rest} {next} {answer} h e = record {
   put = rw e at h.put;
 }
 
--- a known answer behind the first ones is one of them
+-- a known answer after the first ones is one of them
 known_next : {A : Type 0} (answers : List A) (rest : List (Option A)) (answer : A)
     → map Some answers ++ (Some answer ∷ rest) ≡ map Some (answers ++ answer ∷ []) ++ rest
 known_next [] rest answer = refl
 known_next (a ∷ answers) rest answer = ap (λ l. Some a ∷ l) (known_next answers rest answer)
 
--- so is one that is put there
+-- an answer that is put after the first ones is one of them
 put_next : {A : Type 0} (answers : List A) (known : Option A) (rest : List (Option A)) (answer : A)
     → slice_set (map Some answers ++ (known ∷ rest)) (length answers) (Some answer) ≡ map Some (answers ++ answer ∷ []) ++ rest
 put_next [] known rest answer = refl
@@ -52,14 +42,14 @@ module _ {S A : Type 0} (P : S → A → Type 0) where
   abbrev pub HoldsIfKnown : S → Option A → Type 0
   HoldsIfKnown s known = IfSome known (P s)
 
-  -- each known answer stands at the place of its segment
+  -- each known answer is at the place of its segment
   pub length-known : (segments : List S) (known : List (Option A)) → AllZip HoldsIfKnown segments known → length known ≡ length segments
   length-known [] [] h = refl
   length-known [] (k ∷ known) h = absurd h
   length-known (s ∷ segments) [] h = absurd h
   length-known (s ∷ segments) (k ∷ known) h = ap suc (length-known segments known h.1)
 
-  -- where no answer is known, none is wrong
+  -- if no answer is known, none is wrong
   pub none_wrong : (segments : List S) → AllZip HoldsIfKnown segments (replicate (length segments) None)
   none_wrong [] = tt
   none_wrong (s ∷ segments) = (tt, none_wrong segments)

@@ -1,3 +1,4 @@
+mod Common
 mod DealLemmas
 mod GatherLemmas
 mod KnownLemmas

@@ -1,14 +1,7 @@
 -- Places of segments to which a gate was passed.
-use Rattle.std.proofs.Common.{◌≡◌, ℕ, zero, suc, ◌+◌, List, [], ◌∷◌, ◌++◌, length, Option, Some, None, slice_set, replicate, fold, All}
-use Rattle.std.proofs.Common.{arith, refl, ap, subst, below_more, length-append}
-use Rattle.std.proofs.lemmas.List.Elements.{All-head, All-tail}
-use Rattle.std.specs.Prelude.{EachIndex}
-use Rattle.std.specs.List.{AllZip}
-use Rattle.segments.specs.SegmentView.{SegmentView}
-use Rattle.search.specs.declared.found.Found.{Found}
-use Rattle.pool.specs.declared.worker.SegmentAnswer.{SegmentAnswer}
-use Rattle.pool.specs.Answers.{AnswersOneOf}
-use Rattle.pool.specs.Known.{with_answer, WerePassedIfKnown}
+use Rattle.pool.proofs.Common.{◌≡◌, ℕ, zero, suc, ◌+◌, List, [], ◌∷◌, ◌++◌, length, Option, Some, None, slice_set, replicate, fold, All, arith, refl}
+use Rattle.pool.proofs.Common.{ap, subst, below_more, length-append, All-head, All-tail, EachIndex, AllZip, SegmentView, Found, SegmentAnswer}
+use Rattle.pool.proofs.Common.{AnswersOneOf, with_answer, WerePassedIfKnown}
 
 -- there are as many answers as segments
 as_many : (P : SegmentView → Found → Type 0) (segments : List SegmentView) (answers : List Found) → AllZip P segments answers
@@ -19,7 +12,7 @@ as_many P (s ∷ segments) [] h = absurd h
 as_many P (s ∷ segments) (a ∷ answers) h = ap suc (as_many P segments answers h.1)
 
 module _ (WasPassed : ℕ → Type 0) where
-  -- where no answer is known, none was passed
+  -- if no answer is known, none was passed
   pub none_passed : (place segments : ℕ) → WerePassedIfKnown WasPassed place (replicate segments None)
   none_passed place zero = tt
   none_passed place (suc segments) = (tt, none_passed (suc place) segments)
@@ -36,7 +29,7 @@ module _ (WasPassed : ℕ → Type 0) where
       let same : place + suc at ≡ suc place + at = omega arith in
       (h.0, put_passed (suc place) known at found h.1 (subst WasPassed same here))
 
-  -- so are all that a worker answered
+  -- all segments that a worker answered were passed
   pub passed_after : {budget : ℕ} {segments : List SegmentView} (known : List (Option Found)) (answers : List SegmentAnswer)
       → WerePassedIfKnown WasPassed 0 known → All (AnswersOneOf WasPassed budget segments) answers
       → WerePassedIfKnown WasPassed 0 (fold with_answer known answers)
@@ -66,7 +59,7 @@ module _ (WasPassed : ℕ → Type 0) where
   passed_more answers found h here i below =
       below_more WasPassed (length answers) h here i (omega (arith, below, length-append answers (found ∷ [])))
 
-  -- those of all answers are all segments
+  -- the segments of all answers are all segments
   pub all_passed : (P : SegmentView → Found → Type 0) (segments : List SegmentView) (answers : List Found)
       → AllZip P segments answers → EachIndex answers WasPassed → EachIndex segments WasPassed
   all_passed P segments answers h passed i below = passed i (rw (as_many P segments answers h) below)

@@ -20,15 +20,15 @@ use std::thread;
 use std::thread::Threads;
 use tickets::MAX_QUOTA;
 
-/// Searches each segment, and returns the answers in the order of the segments, whoever found them.
-/// It returns `Memory` if an allocation was refused to this call or to one of its searches.
-///
-/// The workers draw the numbers of the segments, each number once, and pass the gate before they
-/// search a segment. The caller's thread runs one worker, and each other worker has a thread of its
-/// own, if one can be made. A worker without a thread runs later, in the thread that was to start
-/// it, and the answers are the same. A gate that holds a worker until another one comes may then
-/// hold it forever. The call returns when all workers have ended. Without the searches it costs a
-/// thread for each worker but one, and a draw for each segment and each worker.
+/// Searches each segment, and returns the answers in the order of the segments. Which thread found
+/// an answer makes no difference. It returns `Memory` if an allocation was refused to this call or
+/// to one of its searches. The workers draw the numbers of the segments, each number once, and pass
+/// the gate before they search a segment. The caller's thread runs one worker, and each other
+/// worker has a thread of its own, if one can be made. A worker without a thread runs later, in the
+/// thread that was to start it, and the answers are the same. A gate that holds a worker until
+/// another one comes may then hold it forever. The call returns when all workers have ended.
+/// Without the searches it costs a thread for each worker but one, and a draw for each segment and
+/// each worker.
 pub fn search_all<R: Threads + Sync, G: Gate + Sync>(
     rt: &R,
     alloc: Global,

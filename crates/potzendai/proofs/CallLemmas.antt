@@ -1,20 +1,14 @@
 -- What a call writes is what it may write, and what its status says of the text.
-use Rattle.std.proofs.Common.{◌≡◌, ℕ, List, length, inl, refl, Some}
-use Rattle.events.specs.HistoryView.{HistoryView}
-use Rattle.events.specs.Operations.{operations}
-use Rattle.orders.specs.Orders.{IsLinearizableHistory}
+use Rattle.potzendai.proofs.Common.{◌≡◌, ℕ, List, length, inl, refl, Some, HistoryView, operations, IsLinearizableHistory, Yes, No, Undecided}
+use Rattle.potzendai.proofs.Common.{RunOutcome, Answered, Noted, Refused, Memory, Words, Failed, IsBudget, IsCall, status_of, text_of, written}
 use Rattle.judge.specs.declared.verdict.Verdict.{Verdict}
-use Rattle.judge.specs.declared.verdict.Verdict.TheVariants as verdicts
 use Rattle.judge.specs.Shown.{IsShown}
-use Rattle.outcomes.specs.declared.outcome.Answer.TheVariants.{Yes, No, Undecided}
-use Rattle.outcomes.specs.declared.outcome.RunOutcome.{RunOutcome}
-use Rattle.outcomes.specs.declared.outcome.RunOutcome.TheVariants.{Answered, Noted, Refused, Memory, Words, Failed}
 use Rattle.outcomes.specs.Outcomes.{IsTextOutcome}
 use Rattle.answer_hints.specs.Outcomes.{IsHintedOutcome}
 use Rattle.history_engines.specs.Answers.{answer_of, IsHistoryRefusal, IsHintedJudgeAnswer, IsJudgeAnswer}
 use Rattle.explain_engines.specs.Answers.{IsExplainAnswer}
-use Rattle.potzendai.specs.Calls.{IsBudget, IsCall, status_of, text_of, written}
 use Rattle.potzendai.specs.Verdicts.{SpellsLinearizable, SpellsUnlinearizable}
+use Rattle.judge.specs.declared.verdict.Verdict.TheVariants as verdicts
 
 -- an outcome is written
 pub IsCall-outcome : (IsOutcome : RunOutcome → Type 0) (budget : ℕ) (before after : List ℕ) (size status : ℕ) (outcome : RunOutcome)

@@ -1,12 +1,10 @@
 -- What is written of the follower of a handle.
-use Rattle.std.proofs.Common.{◌≡◌, ℕ, List, [], Option, Some, None, refl, sym, ◌∙◌, append-nil}
-use Rattle.stream_engines.specs.declared.handed.LineFollower.{LineFollower}
+use Rattle.potzendai.proofs.Common.{◌≡◌, ℕ, List, [], Option, Some, None, refl, sym, ◌∙◌, LineFollower, lines_of, Follows, standing_of, IsToldSoFar}
+use Rattle.potzendai.proofs.Common.{SpellLinearizable, BeginUnlinearizable}
+use Rattle.std.proofs.Common.{append-nil}
 use Rattle.stream_engines.specs.declared.handed.LineFollower.TheVariants.{Going, Ended}
 use Rattle.stream_engines.specs.Reading.{AreLinesOf}
 use Rattle.stream_engines.specs.StreamTexts.{BeginsWith}
-use Rattle.stream_text.specs.Cuts.{lines_of}
-use Rattle.potzendai.specs.Follows.{Follows, standing_of, IsToldSoFar}
-use Rattle.potzendai.specs.Streams.{SpellLinearizable, BeginUnlinearizable}
 use Rattle.potzendai.proofs.StreamLemmas.{yes_has_order, no_has_none}
 
 -- a text with these lines begins with them

@@ -1,5 +1,6 @@
 -- The machine values of what C holds. Assumes `Logic`.
-use Rattle.std.proofs.Common.{lit<, ◌≡◌, ℕ, Bool, true, false, List, [], ◌∷◌, ◌++◌, refl, subst, Option, None, Some}
+use Rattle.potzendai.proofs.Common.{lit<, ◌≡◌, ℕ, Bool, true, false, List, [], ◌∷◌, ◌++◌, refl, subst, Option, None, Some, Good, LineFollower, heap}
+use Rattle.potzendai.proofs.Common.{boxed, held}
 use seplogic.Ra.Ura.{Ura}
 use mir.Raw.{raw as bare}
 use mir.Syntax.{ty_ptr}
@@ -14,15 +15,12 @@ use denote.Memory.{lone}
 use denote.RawPtr.{Ptr, block_ptr, null_ptr, ptr_val, in_a_block}
 use denote.Steps.{nothing}
 use denote.Param.{layout}
-use Rattle.std.proofs.cell.Inside.{Good}
 use denote.Struct.Struct.{within}
 use denote.Struct.Owning.{shape}
 use Rattle.std.specs.contracts.impls.GlobalAllocator.TheImpl.{ghosts}
-use Rattle.stream_engines.specs.declared.handed.LineFollower.{LineFollower}
 use Rattle.stream_engines.specs.contracts.handed.LineFollower.{the_row}
-use Rattle.potzendai.specs.Handle.{heap, boxed, held}
-use Rattle.potzendai.specs.contracts.handle.PotzendaiFollower as handle
 use Rattle.potzendai.proofs.LooseValues.{both}
+use Rattle.potzendai.specs.contracts.handle.PotzendaiFollower as handle
 
 module _ {M : Type 1} {𝓤 : Ura M} {𝓛 : Logic 𝓤} {K : Type 0} {Γ : List (Item 𝓤)} {G : Goal 𝓤 𝓛.H} where
   -- the handle is made

@@ -1,3 +1,4 @@
+mod Common
 mod CallLemmas
 mod StreamLemmas
 mod RoomLemmas

@@ -1,5 +1,5 @@
 -- The machine values of a `Loose`. Assumes `Logic`.
-use Rattle.std.proofs.Common.{◌≡◌, ℕ, List, [], ◌∷◌, ◌++◌, refl, subst}
+use Rattle.potzendai.proofs.Common.{◌≡◌, ℕ, List, [], ◌∷◌, ◌++◌, refl, subst, Al, handle_tells, Good, box_owns, and_tt}
 use mathlib.Core.Bool.{true, ◌&&◌}
 use lib.Dec.{T}
 use seplogic.Ra.Ura.{Ura}
@@ -19,10 +19,6 @@ use denote.Param.Laws.{Laws}
 use denote.Struct.Struct.{within}
 use denote.Struct.Owning.{shape}
 use Rattle.std.specs.declared.alloc.Allocator.{Ghosts}
-use Rattle.std.proofs.alloc.Calls.{Al, handle_tells}
-use Rattle.std.proofs.cell.Inside.{Good}
-use Rattle.std.specs.Box.Ownership.{box_owns}
-use Rattle.std.proofs.ResultValues.{and_tt}
 use Rattle.potzendai.specs.contracts.loose.Loose as loose
 
 -- a struct of two values

@@ -1,8 +1,7 @@
 -- A room after a text was copied to its front and a zero byte was put behind it.
-use Rattle.std.proofs.Common.{◌≡◌, ◌≢◌, ℕ, suc, ◌+◌, ◌-◌, ◌<◌, List, [], ◌∷◌, ◌++◌, length, take, drop, min, refl, sym, ap, ◌∙◌, append_assoc, arith, slice_set}
-use Rattle.std.proofs.Math.Seq.{drop-cons, drop-append_seam, take-append_seam, take-append-add, take-length}
-use Rattle.std.proofs.lemmas.List.{set-append_right, length-append, length-drop, length-take, drop-drop}
-use Rattle.potzendai.specs.Calls.{written}
+use Rattle.potzendai.proofs.Common.{◌≡◌, ◌≢◌, ℕ, suc, ◌+◌, ◌-◌, ◌<◌, List, [], ◌∷◌, ◌++◌, length, take, drop, min, refl, sym, ap, ◌∙◌, append_assoc}
+use Rattle.potzendai.proofs.Common.{arith, slice_set, drop-cons, drop-append_seam, take-append_seam, take-append-add, take-length, set-append_right}
+use Rattle.potzendai.proofs.Common.{length-append, length-drop, length-take, drop-drop, written}
 
 -- a zero byte is written at the first place behind a front
 set_behind : (front rest : List ℕ) (n : ℕ) → length front ≡ n → n < length rest

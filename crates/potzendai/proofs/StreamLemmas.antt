@@ -1,20 +1,13 @@
 -- What the status of a stream says of its lines.
-use Rattle.std.proofs.Common.{◌≡◌, ℕ, List, [], ◌∷◌, ◌++◌, Some, sym, ◌∙◌, subst, append_assoc}
+use Rattle.potzendai.proofs.Common.{◌≡◌, ℕ, List, [], ◌∷◌, ◌++◌, Some, sym, ◌∙◌, subst, append_assoc, with_event, operations, IsLinearizable, Yes, No}
+use Rattle.potzendai.proofs.Common.{Undecided, RunOutcome, Answered, Noted, Refused, Memory, Words, Failed, lines_of, status_of, SpellLinearizable}
+use Rattle.potzendai.proofs.Common.{BeginUnlinearizable}
 use Rattle.events.specs.declared.event.Event.{Event}
-use Rattle.events.specs.declared.event.Event.TheVariants as events
-use Rattle.events.specs.HistoryView.{with_event}
-use Rattle.events.specs.Operations.{operations}
-use Rattle.orders.specs.Orders.{IsLinearizable}
-use Rattle.outcomes.specs.declared.outcome.Answer.TheVariants.{Yes, No, Undecided}
-use Rattle.outcomes.specs.declared.outcome.RunOutcome.{RunOutcome}
-use Rattle.outcomes.specs.declared.outcome.RunOutcome.TheVariants.{Answered, Noted, Refused, Memory, Words, Failed}
 use Rattle.losses.specs.declared.loss.Loss.{Loss}
-use Rattle.stream_text.specs.Cuts.{lines_of}
 use Rattle.stream_engines.specs.Answers.{GoesWrongHere}
 use Rattle.stream_engines.specs.Outcomes.{IsStreamOutcome}
 use Rattle.stream_engines.proofs.StreamLemmas.{SpellStream-push}
-use Rattle.potzendai.specs.Calls.{status_of}
-use Rattle.potzendai.specs.Streams.{SpellLinearizable, BeginUnlinearizable}
+use Rattle.events.specs.declared.event.Event.TheVariants as events
 
 -- the events before the wrong answer, with it, have no order
 wrong_lines : (lines : List (List ℕ)) (loss : Loss) → GoesWrongHere lines loss → BeginUnlinearizable lines

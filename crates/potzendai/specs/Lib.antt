@@ -3,3 +3,4 @@ pub mod Verdicts
 pub mod Streams
 pub mod Handle
 pub mod Follows
+pub mod Values

@@ -2,14 +2,17 @@
 //! goes wrong, explain or draw the verdict, show it as a page, and follow a stream's text.
 //!
 //! A call starts no thread and waits for nobody. Only a follower stays in memory between calls. It
-//! takes the lines of a stream as they come. A call writes its answer into a room of the caller.
+//! takes the lines of a stream, or its events by their values, as they come. A call writes its answer
+//! into a room of the caller.
 #![tactic(auto)]
 
 mod by_lines;
+mod by_values;
 mod calls;
 mod draws;
 mod follows;
 mod handle;
+mod kinds;
 mod loose;
 mod pages;
 mod told;
@@ -17,8 +20,10 @@ mod told;
 pub use by_lines::{
     potzendai_follow_close, potzendai_follow_event, potzendai_follow_open, potzendai_follow_verdict,
 };
+pub use by_values::{potzendai_follow_answer_with, potzendai_follow_invoke};
 pub use calls::{potzendai_draw, potzendai_explain, potzendai_judge, potzendai_locate};
 pub use draws::potzendai_draw_part;
 pub use follows::potzendai_follow;
 pub use handle::PotzendaiFollower;
+pub use kinds::PotzendaiPair;
 pub use pages::potzendai_page;

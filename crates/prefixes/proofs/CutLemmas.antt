@@ -36,18 +36,18 @@ is_refused_later None None = false
 is_refused_later None (Some response) = is_refused response.reply
 is_refused_later (Some response) whole = false
 
--- the number of a call, before those that are kept of the numbers behind it
+-- the number of a call, before those that are kept of the numbers after it
 abbrev pub keep_first : ℕ → Option Operation → Option Operation → List ℕ → List ℕ
 keep_first n None whole rest = []
 keep_first n (Some a) None rest = []
 keep_first n (Some a) (Some b) rest = cond (is_refused_later a.response b.response) rest (n ∷ rest)
 
--- the numbers up to the first that the part has not, without the calls that are refused later
+-- the numbers up to the first that the part does not have, without the calls that are refused later
 abbrev pub kept : List Operation → List Operation → List ℕ → List ℕ
 kept part whole [] = []
 kept part whole (n ∷ order) = keep_first n (slice_get part n) (slice_get whole n) (kept part whole order)
 
--- what is kept behind a number is that number or was kept before
+-- what is kept after a number is that number or was kept before
 from_first : (n : ℕ) (a b : Option Operation) (rest : List ℕ) (x : ℕ) → Contains (keep_first n a b rest) x → (n ≡ x) ⊎ Contains rest x
 from_first n None b rest x h = absurd (Contains-nil x h)
 from_first n (Some a) None rest x h = absurd (Contains-nil x h)
@@ -65,7 +65,7 @@ Contains-from_kept part whole (n ∷ order) x h =
     (λ later. Contains-later n order x (Contains-from_kept part whole order x later))
     (from_first n (slice_get part n) (slice_get whole n) (kept part whole order) x h)
 
--- a number of the part stands before numbers of the part
+-- a number of the part comes before numbers of the part
 known_first : (count n : ℕ) (a b : Option Operation) (rest : List ℕ) → (a ≢ None → n < count) → All (λ x. x < count) rest
     → All (λ x. x < count) (keep_first n a b rest)
 known_first count n None b rest here known = All-nil (λ x. x < count)
@@ -168,7 +168,7 @@ stays place m call None None extended h = refl
 stays place m call None (Some response) extended h = others_are_done m call response.reply h
 stays place m call (Some response) whole extended h = ap (after_call m call) extended.0
 
--- and is legal there where it is in the whole
+-- a call that stays is legal in the part if it is legal in the whole
 stays_legal : (place : ℕ) (m : Contents) (call : Call) (response whole : Option Response) → IsExtendedResponse place response whole
     → IsLegalCall m call whole → IsLegalCall m call response
 stays_legal place m call None whole extended h = tt
@@ -211,7 +211,7 @@ kept-legal place part whole m (n ∷ order) extends legal =
 abbrev IsDoneIn : List Operation → ℕ → Type 0
 IsDoneIn part n = (a : Operation) × (response : Response) × (slice_get part n ≡ Some a) × (a.response ≡ Some response)
 
--- stands among the kept ones
+-- is among the kept ones
 stays_first : (n : ℕ) (a b : Operation) (response : Response) (rest : List ℕ) → a.response ≡ Some response
     → Contains (cond (is_refused_later a.response b.response) rest (n ∷ rest)) n
 stays_first n a b response rest is = rw is (Contains-first n rest)
@@ -220,7 +220,8 @@ stays_later : (m n : ℕ) (c : Bool) (rest : List ℕ) → Contains rest n → C
 stays_later m n true rest h = h
 stays_later m n false rest h = Contains-later m rest n h
 
--- where an order keeps precedence, no call that the part has completed stands behind one that the part has not
+-- if an order keeps precedence, no call that the part has completed comes after one that the part
+-- has not
 clash : (place : ℕ) (response : Response) (other : Option Response) (inv : ℕ) → IsExtendedResponse place (Some response) other → place ≤ inv
     → is_before other inv ≡ false → ⊥
 clash place response other inv extended later h =
@@ -271,7 +272,7 @@ done_at part n h = let (a, at, completed) = some_at (slice_get part n) (λ a. Is
     found a at None is some = absurd (false≢true some)
     found a at (Some response) is some = (a, response, at, is)
 
--- it is so in the whole
+-- a call that is completed in the part is so in the whole
 done_in_whole : (place : ℕ) (part whole : List Operation) (n : ℕ) → Extends place part whole → IsDoneIn part n → IsCompletedAt whole n
 done_in_whole place part whole n extends done =
     let (a, response, at, answered) = done in

@@ -22,7 +22,8 @@ abbrev IsAnsweredAt : ℕ → List Event → ℕ → Type 0
 IsAnsweredAt i events place = (n : ℕ) × IsSomeAnd (slice_get (operations_from i events) n) (λ a. IsSomeAnd a.response
     (λ response. response.res ≡ place))
 
--- or the process waits, and its first response is the one at this place
+-- a call of the list is answered at this place, or the process waits and its first response is the
+-- one there
 abbrev IsAnswered : ℕ → ℕ → Bool → List Event → ℕ → Type 0
 IsAnswered p i waiting events place =
     IsAnsweredAt i events place ⊎ ((waiting ≡ true) × IsSomeAnd (response_from p i events) (λ response. response.res ≡ place))
@@ -88,7 +89,8 @@ after_answer : (c w : Bool) (p : ℕ) (reply : Reply) (events : List Event) → 
 after_answer true w p reply events h = (and_parts w _ h).1
 after_answer false w p reply events h = h
 
--- where the processes that wait are among these, there are as many events as twice the calls to come and one answer for each of these
+-- if the processes that wait are among these, there are as many events as twice the calls to come
+-- and one answer for each of these
 few_from : (waits : ℕ → Bool) (waiting_ones : List ℕ) (events : List Event) → ((q : ℕ) → takes_turns (waits q) (events_of q events) ≡ true)
     → ((q : ℕ) → waits q ≡ true → Contains waiting_ones q) → length events ≤ 2 * call_count events + length waiting_ones
 few_from waits waiting_ones [] turns covers = omega arith
@@ -130,12 +132,12 @@ few_events events formed =
 abbrev IsResponseAt : ℕ → ℕ → List Event → ℕ → Type 0
 IsResponseAt p i events place = IsSomeAnd (response_from p i events) (λ response. response.res ≡ place)
 
--- so is that of the call of this number
+-- the response to the call of this number is the one at this place
 abbrev IsResponseOf : ℕ → List Event → ℕ → ℕ → Type 0
 IsResponseOf i events n place = IsSomeAnd (slice_get (operations_from i events) n) (λ a. IsSomeAnd a.response
     (λ response. response.res ≡ place))
 
--- neither stands before the list
+-- neither comes before the list
 response_from-later : (p i : ℕ) (events : List Event) (place : ℕ) → IsResponseAt p i events place → i ≤ place
 response_from-later p i [] place h = absurd h
 response_from-later p i (Invoke q call ∷ events) place h = let later = response_from-later p (suc i) events place h in omega arith

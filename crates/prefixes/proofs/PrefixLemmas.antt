@@ -78,7 +78,7 @@ pub prefix_is_history : (events : List Event) (count : ℕ) → AreHistoryEvents
 prefix_is_history events count h =
     front_of_history (take count events) (drop count events) (subst AreHistoryEvents (sym (take-append-drop count events)) h)
 
--- known numbers name the same calls where there is one more
+-- known numbers name the same calls in a list with one more
 calls_at-more_calls : (calls : List Operation) (a : Operation) (order : List ℕ) → All (λ n. n < length calls) order
     → calls_at (calls ++ a ∷ []) order ≡ calls_at calls order
 calls_at-more_calls calls a [] known = refl

@@ -1,19 +1,12 @@
--- Where its reply says so, a call leaves the pairs as they are.
+-- If its reply says so, a call leaves the pairs as they are.
 use Rattle.events.specs.declared.event.Reply.TheVariants as replies
-use Rattle.std.proofs.Common.{◌≡◌, ℕ, Bool, true, false, not, ◌==◌, ◌||◌, Option, Some, None, ◌++◌, refl, sym, ap, ◌∙◌, subst, inl, inr, ⊎_elim}
-use Rattle.std.proofs.Common.{arith, eqb-true}
-use Rattle.std.specs.Prelude.{if◌then◌else◌, is_some, IsSomeAnd}
-use Rattle.std.proofs.lemmas.Bool.{false≢true, not-true, or_right, cases_order}
-use Rattle.events.specs.declared.event.Call.{Call}
-use Rattle.events.specs.declared.event.Call.TheVariants.{Get, Insert, Remove, Scan, Replace}
-use Rattle.events.specs.declared.event.Reply.{Reply}
-use Rattle.events.specs.declared.operation.Response.{Response}
-use Rattle.events.specs.Keys.{low_key, high_key}
-use Rattle.map_object.specs.MapObject.{Contents, IsRising, value_at, below, above, put, is_just, value_reply, reply_to, after, after_reply}
-use Rattle.map_object.specs.MapObject.{is_none_or_other, misses, IsLegalReply}
-use Rattle.map_object.proofs.MapLemmas.{AreBelow-below, AreAbove-above, value_at_found, value_at_gap, IsRising-insert, IsRising-remove}
-use Rattle.orders.specs.Orders.{after_call, IsLegalCall}
-use Rattle.quiet_cuts.specs.KeptCalls.{begun_at}
+use Rattle.quiet_cuts.proofs.Common.{◌≡◌, ℕ, Bool, true, false, not, ◌==◌, ◌||◌, Option, Some, None, ◌++◌, refl, sym, ap, ◌∙◌, subst, inl, inr}
+use Rattle.quiet_cuts.proofs.Common.{⊎_elim, arith, if◌then◌else◌, is_some, IsSomeAnd, false≢true, not-true, or_right, cases_order, Call, Get, Insert}
+use Rattle.quiet_cuts.proofs.Common.{Remove, Scan, Replace, Reply, Response, low_key, high_key, Contents, IsRising, value_at, below, above, put}
+use Rattle.quiet_cuts.proofs.Common.{is_just, value_reply, reply_to, after, after_reply, is_none_or_other, misses, IsLegalReply, AreBelow-below}
+use Rattle.quiet_cuts.proofs.Common.{AreAbove-above, value_at_found, value_at_gap, IsRising-insert, IsRising-remove, after_call, IsLegalCall}
+use Rattle.quiet_cuts.proofs.Common.{begun_at}
+use Rattle.std.proofs.Common.{eqb-true}
 use Rattle.quiet_cuts.specs.Replies.{says_unchanged}
 use Rattle.quiet_cuts.proofs.ValueLemmas.{same_pairs, value_left}
 
@@ -61,7 +54,7 @@ replace_again m key expected value (Some found) rising is says = by_test (found 
         let expected_is : expected ≡ value = eqb-true expected value (not_or (found == expected) (expected == value) says e) in
         rw e (put_again m key value rising (is ∙ ap Some (eqb-true found expected e ∙ expected_is)))
 
--- where the reply says so, a call changes nothing
+-- if the reply says so, a call changes nothing
 unchanged_by : (m : Contents) (call : Call) (reply : Reply) → IsRising m → says_unchanged call reply ≡ true → reply ≡ reply_to m call
     → after m call ≡ m
 unchanged_by m (Get key) reply rising says is = refl
@@ -85,12 +78,12 @@ same_again : (m : Contents) (key expected value : ℕ) → IsRising m → (expec
 same_again m key expected value rising same =
     replace_again m key expected value (value_at m key) rising refl (same_says expected value key (value_at m key) same)
 
--- nor does one that found another value
+-- a replace that found another value changes nothing
 missed : (expected : ℕ) (o : Option ℕ) → is_none_or_other expected (value_reply o) ≡ true → is_just o expected ≡ false
 missed expected None h = refl
 missed expected (Some found) h = not-true (found == expected) h
 
--- where less is told than the map answers, and that says so, a call changes nothing, too
+-- a call changes nothing, too, if its answer is partial and says so
 unchanged_done : (m : Contents) (call : Call) → IsRising m → says_unchanged call replies.Done ≡ true → after m call ≡ m
 unchanged_done m (Get key) rising says = refl
 unchanged_done m (Scan low high) rising says = refl
@@ -132,7 +125,7 @@ pub read_completed : (call : Call) (response : Option Response) → IsSomeAnd re
 read_completed call None says = absurd says
 read_completed call (Some r) says = refl
 
--- and leaves the pairs as they are
+-- a call that says so leaves the pairs as they are
 pub read_leaves : (m : Contents) (call : Call) (response : Option Response) → IsSomeAnd response (λ r. says_unchanged call r.reply ≡ true)
     → IsRising m → IsLegalCall m call response → after_call m call response ≡ m
 read_leaves m call None says rising legal = absurd says

@@ -1,27 +1,18 @@
 -- All passes of a recorder: they are of processes that differ, and all draws are with them.
-use Rattle.std.proofs.Common.{◌≡◌, ◌≢◌, ℕ, zero, suc, ◌+◌, ◌*◌, ◌<◌, ◌≤◌, List, [], ◌∷◌, ◌++◌, length, map, take, drop, refl, sym, ap, ◌∙◌}
-use Rattle.std.proofs.Common.{arith, subst, inl, inr, ⊎_elim}
-use Rattle.std.specs.Prelude.{◌⊎◌, Some, All, AllPairs, Contains, sum_by, slice_get}
-use Rattle.std.specs.List.{range_with_len}
-use Rattle.std.proofs.Math.Nat.{mul-le-mul_right}
-use Rattle.std.proofs.lemmas.Bool.{cases_order}
+use Rattle.recorder.proofs.Common.{◌≡◌, ◌≢◌, ℕ, zero, suc, ◌+◌, ◌*◌, ◌<◌, ◌≤◌, List, [], ◌∷◌, ◌++◌, length, map, take, drop, refl, sym, ap, ◌∙◌}
+use Rattle.recorder.proofs.Common.{arith, subst, inl, inr, ⊎_elim, ◌⊎◌, Some, All, AllPairs, Contains, sum_by, slice_get, range_with_len}
+use Rattle.recorder.proofs.Common.{mul-le-mul_right, cases_order, length-append, length-map, sum_by-cons, All-head, All-tail, All-weaker}
+use Rattle.recorder.proofs.Common.{Contains-append_left, AllPairs-from_at, Contains-nil, Contains-take, Contains-around, length-distinct}
+use Rattle.recorder.proofs.Common.{AllPairs-from_map, AreHistoryEvents, Pass, process_number, calls_of, draws_of, processes_of, calls_for_each}
+use Rattle.recorder.proofs.Common.{IsPassOf, HasProcesses, AreAll, history_of, HasOwnEvents}
 use Rattle.std.proofs.lemmas.Option.{get_or_from_slice_get, slice_get_within}
-use Rattle.std.proofs.lemmas.List.{length-append, length-map}
 use Rattle.std.proofs.lemmas.List.FromFn.{length-range_with_len, get_or-range_with_len}
-use Rattle.std.proofs.lemmas.List.Sums.{sum_by-cons}
-use Rattle.std.proofs.lemmas.List.Elements.{All-head, All-tail, All-weaker, Contains-append_left}
-use Rattle.list_laws.proofs.Lists.{AllPairs-from_at, Contains-nil, Contains-take, Contains-around, length-distinct}
 use Rattle.list_laws.proofs.Places.{parts_at}
-use Rattle.list_laws.proofs.FilterLemmas.{AllPairs-from_map}
-use Rattle.events.specs.Histories.{AreHistoryEvents}
-use Rattle.recorder.specs.declared.pass.Pass.{Pass}
 use Rattle.recorder.specs.declared.recorders.Recorder.{Recorder}
-use Rattle.recorder.specs.Passes.{process_number, calls_of, draws_of}
-use Rattle.recorder.specs.Recorders.{processes_of, calls_for_each, IsPassOf, HasProcesses, AreAll, history_of, HasOwnEvents}
 use Rattle.recorder.proofs.PassLemmas.{draws-are}
 use Rattle.recorder.proofs.MergeLemmas.{AreApart, AreHistoryEvents-apart, AreHistoryEvents-nothing, own-apart, own-nothing}
 
--- Numbers among which all below n stand are apart, where they are n.
+-- n numbers, among which are all below n, are distinct
 
 below-range : (n : ℕ) → All (λ k. k < n) (range_with_len 0 n)
 below-range n i d within =

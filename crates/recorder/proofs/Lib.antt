@@ -1,3 +1,4 @@
+mod Common
 mod RecordLemmas
 mod MergeLemmas
 mod PassLemmas

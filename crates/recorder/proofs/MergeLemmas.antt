@@ -1,27 +1,17 @@
 -- The logs of all passes, put together, are a history.
-use Rattle.std.proofs.Common.{◌≡◌, ◌≢◌, ℕ, ◌+◌, ◌*◌, ◌<◌, ◌≤◌, ◌==◌, Bool, true, false, ◌&&◌, cond, List, [], ◌∷◌, ◌++◌, length, map}
-use Rattle.std.proofs.Common.{filter}
-use Rattle.std.proofs.Common.{refl, sym, ap, ◌∙◌, arith, subst, inl, inr, ⊎_elim, eq-eqb, ne_eqb}
-use Rattle.std.specs.Prelude.{◌⊎◌, All, AllPairs, Contains, flat_map, sum_by}
-use Rattle.std.specs.List.{list_all}
+use Rattle.recorder.proofs.Common.{◌≡◌, ◌≢◌, ℕ, ◌+◌, ◌*◌, ◌<◌, ◌≤◌, ◌==◌, Bool, true, false, ◌&&◌, cond, List, [], ◌∷◌, ◌++◌, length, map, filter}
+use Rattle.recorder.proofs.Common.{refl, sym, ap, ◌∙◌, arith, subst, inl, inr, ⊎_elim, ne_eqb, ◌⊎◌, All, AllPairs, Contains, flat_map, sum_by}
+use Rattle.recorder.proofs.Common.{list_all, append-nil, nil_from_length, sum_by-cons, sum_by-append, get_or-le-sum_by, flat_map-cons, All-head}
+use Rattle.recorder.proofs.Common.{All-tail, All-weaker, All-contains, filter-append, AllPairs-head, AllPairs-tail, All-from_contains, Contains-nil}
+use Rattle.recorder.proofs.Common.{Contains-cases, filter_all, filter_none, Event, process_of, is_invocation, events_of, takes_turns, IsWellFormed}
+use Rattle.recorder.proofs.Common.{is_shaped, is_small, call_count, AreHistoryEvents, Stamped, by_stamp, events_by_stamp, Pass, events_in, StampsRise}
+use Rattle.recorder.proofs.Common.{process_number, log_of, events_by, draws_of, history_of}
+use Rattle.std.proofs.Common.{eq-eqb}
 use Rattle.std.proofs.lemmas.Bool.Decides.{eqb_tells}
-use Rattle.std.proofs.lemmas.List.{append-nil, nil_from_length}
-use Rattle.std.proofs.lemmas.List.Sums.{sum_by-cons, sum_by-append, get_or-le-sum_by}
 use Rattle.std.proofs.lemmas.List.Folds.{list_all-append}
-use Rattle.std.proofs.lemmas.List.Concat.{flat_map-cons}
-use Rattle.std.proofs.lemmas.List.Elements.{All-head, All-tail, All-weaker, All-contains, filter-append}
-use Rattle.list_laws.proofs.Lists.{AllPairs-head, AllPairs-tail, All-from_contains, Contains-nil, Contains-cases, filter_all, filter_none}
-use Rattle.events.specs.declared.event.Event.{Event}
 use Rattle.events.specs.Limits.{call_limit}
-use Rattle.events.specs.Events.{process_of, is_invocation, events_of, takes_turns, IsWellFormed}
-use Rattle.events.specs.Histories.{is_shaped, is_small, call_count, AreHistoryEvents}
-use Rattle.logs.specs.Logs.{Stamped, by_stamp, events_by_stamp}
 use Rattle.logs.proofs.SortLemmas.{rises}
 use Rattle.logs.proofs.MergeLemmas.{by_stamp-rising, filter-by_stamp, all-by_stamp, sum-by_stamp}
-use Rattle.recorder.specs.declared.pass.Pass.{Pass}
-use Rattle.recorder.specs.Records.{events_in, StampsRise}
-use Rattle.recorder.specs.Passes.{process_number, log_of, events_by, draws_of}
-use Rattle.recorder.specs.Recorders.{history_of}
 use Rattle.recorder.proofs.RecordLemmas.{no-events}
 use Rattle.recorder.proofs.PassLemmas.{draws-are}
 
@@ -108,7 +98,7 @@ all-dropped q (p ∷ passes) h =
     ∙ (ap (λ l. l ++ filter (is_of q) (together passes)) (others-dropped q p (All-head (λ p. process_number p ≢ q) p passes h))
     ∙ all-dropped q passes (All-tail (λ p. process_number p ≢ q) p passes h))
 
--- of passes that are apart, a process has nothing, or one pass
+-- among passes that are apart, a process has nothing, or one pass
 one-log : (q : ℕ) (passes : List Pass) → AreApart passes
     → (filter (is_of q) (together passes) ≡ []) ⊎ ((p : Pass) × (process_number p ≡ q) × (filter (is_of q) (together passes) ≡ log_of p))
 one-log q [] apart = inl refl
@@ -132,7 +122,7 @@ one-log q (p ∷ passes) apart = elim (eqb_tells (process_number p) q) [
       ]
 ]
 
--- of passes that are apart, what is kept of a process that has one is its log
+-- among passes that are apart, what is recorded of a process that has one is its log
 own-log : (passes : List Pass) → AreApart passes → (p : Pass) → Contains passes p
     → filter (is_of (process_number p)) (together passes) ≡ log_of p
 own-log [] apart p there = absurd (Contains-nil p there)

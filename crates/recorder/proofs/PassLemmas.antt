@@ -1,11 +1,6 @@
 -- The draws of a pass, and a process that none of the passes is of.
-use Rattle.std.proofs.Common.{◌≡◌, ◌≢◌, ℕ, ◌*◌, List, map, length, ap, arith}
-use Rattle.std.specs.Prelude.{All, Contains}
-use Rattle.std.proofs.lemmas.List.{length-map}
-use Rattle.std.proofs.lemmas.List.Elements.{All-contains}
-use Rattle.list_laws.proofs.FilterLemmas.{Contains-from_map}
-use Rattle.recorder.specs.declared.pass.Pass.{Pass}
-use Rattle.recorder.specs.Passes.{process_number, calls_of, draws_of}
+use Rattle.recorder.proofs.Common.{◌≡◌, ◌≢◌, ℕ, ◌*◌, List, map, length, ap, arith, All, Contains, length-map, All-contains, Contains-from_map, Pass}
+use Rattle.recorder.proofs.Common.{process_number, calls_of, draws_of}
 
 module _ (p : Pass) where
   -- a pass has two draws for each of its calls

@@ -1,19 +1,10 @@
 -- A log grows by one event, in which nothing is wrong.
-use Rattle.std.proofs.Common.{◌≡◌, ℕ, ◌+◌, ◌*◌, ◌<◌, ◌≤◌, Bool, true, false, not, cond, List, [], ◌∷◌, ◌++◌, length, None, refl, sym, ap}
-use Rattle.std.proofs.Common.{◌∙◌}
-use Rattle.std.proofs.Common.{arith, subst}
-use Rattle.std.specs.Prelude.{All}
-use Rattle.std.proofs.lemmas.List.{length-append, map-append}
-use Rattle.std.proofs.lemmas.List.Elements.{All-nil, All-cons, All-head, All-tail, All-push}
-use Rattle.list_laws.proofs.Lists.{AllPairs-nil, AllPairs-append}
-use Rattle.events.specs.declared.event.Event.{Event}
-use Rattle.events.specs.Events.{process_of, is_invocation}
-use Rattle.events.specs.Histories.{AreHistoryEvents, call_count}
+use Rattle.recorder.proofs.Common.{◌≡◌, ℕ, ◌+◌, ◌*◌, ◌<◌, ◌≤◌, Bool, true, false, not, cond, List, [], ◌∷◌, ◌++◌, length, None, refl, sym, ap, ◌∙◌}
+use Rattle.recorder.proofs.Common.{arith, subst, All, length-append, map-append, All-nil, All-cons, All-head, All-tail, All-push, AllPairs-nil}
+use Rattle.recorder.proofs.Common.{AllPairs-append, Event, process_of, is_invocation, AreHistoryEvents, call_count, eq-eqb, Stamped, events_in}
+use Rattle.recorder.proofs.Common.{stamps_in, StampsRise, IsRecord}
 use Rattle.events.specs.HistoryFaults.{has_open_call, fault_after}
 use Rattle.events.proofs.HistoryLemmas.{AreHistoryEvents-push, has_open_call-push, call_count-push}
-use Rattle.std.proofs.lemmas.Bool.{eq-eqb}
-use Rattle.logs.specs.Logs.{Stamped}
-use Rattle.recorder.specs.Records.{events_in, stamps_in, StampsRise, IsRecord}
 
 -- nothing is a history
 pub no-events : AreHistoryEvents []

@@ -87,7 +87,8 @@ static SCAN: [(u8, Option<Call>, u32); 4] = [
     (0, None, WHOLE),
 ];
 
-/// An insert has read the root when another one hangs its leaf there; then that leaf is searched.
+/// An insert has read the root when another one hangs its leaf there. In the end a get looks for
+/// that leaf.
 static LOCK: [(u8, Option<Call>, u32); 4] = [
     (0, Some(Call::Insert(5, 50)), 3),
     (1, Some(Call::Insert(9, 90)), WHOLE),

@@ -1,10 +1,9 @@
 // Schedules that are drawn, and run on machines.
 use crate::shapes::eights;
 use art::Variant;
-use drawn_schedules::{Draw, Strategy, drawn_replay};
 use machine::Machine;
-use plan_text::read_plan;
-use replay_text::{Replay, write_replay};
+use plan_text::{Replay, read_plan, write_replay};
+use replays::{Draw, Strategy, drawn_replay};
 use std::alloc::Global;
 use std::process::Abort;
 use std::test::Fail;

@@ -51,8 +51,8 @@ static PLAN: &str = r#"{"scripts":[[["get",5]],[["get",6]]],"version":1}"#;
 static HELD_LAST: &str =
     r#"{"events":[{"invoke":["get",6],"process":1},{"answer":null,"process":1},{"invoke":["get",5],"process":0},{"answer":null,"process":0}],"version":1}"#;
 
-/// Where a process was held behind its call, its call would come first, or the two would overlap. A
-/// thread may be held up by the machine, hence most of nine rounds.
+/// If a process waited at the gate after its call began, the call would come first, or the two
+/// would overlap. The machine may delay a thread, so the test asks for most of nine rounds only.
 #[test]
 fn a_process_enters_the_gate_before_its_calls(rt: HostRuntime) -> Result<(), Fail> {
     let alloc = rt.alloc();

@@ -3,8 +3,7 @@ ghost use Rattle.std.specs.Prelude.{◌≤◌, IfOk};
 ghost use Rattle.recorder.specs.Recorders.{IsPassOf};
 
 use events::{Call, Event, Reply};
-use locked_map::LockedMap;
-use recorder::{CloseFault, Pass, Recorder, RecorderFault, Subject};
+use recorder::{CloseFault, LockedMap, Pass, Recorder, RecorderFault, Subject};
 use std::alloc::Global;
 use std::test::Fail;
 use std::thread::join_mut;

@@ -1,5 +1,5 @@
 // Replays that are read and written: the program writes only numbers of turns.
-use replay_text::{read_replay, write_replay};
+use plan_text::{read_replay, write_replay};
 use std::process::Abort;
 use std::test::Fail;
 

@@ -15,8 +15,7 @@ use std::sync::atomic::{AtomicBool, AtomicU64, Ordering};
 use std::test::Fail;
 use std::thread::Threads;
 
-/// Answers a key plus 7. A call on key 0 waits for one on key 1, and that one for one on key 2. It
-/// counts the calls that saw that the call for which they waited had begun.
+/// It counts the calls that waited for another one to begin and then saw that it had begun.
 #[derive(Drop)]
 struct Meeting {
     first: AtomicBool,

@@ -1,2 +1,6 @@
+mod Common
 mod LinearizableLemmas
 mod PlayLemmas
+mod PlanLemmas
+mod RestLemmas
+mod TurnLemmas

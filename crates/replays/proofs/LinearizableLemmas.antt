@@ -1,23 +1,12 @@
 -- The history of a replay of a full tree is linearizable: its turns are a schedule, and they are few.
-use Rattle.std.proofs.Common.{◌≡◌, ◌⊎◌, ℕ, zero, suc, ◌+◌, List, [], ◌∷◌, ◌++◌, length, map, sum, Option, Some, None, refl, sym, ap, subst}
-use Rattle.std.proofs.Common.{◌∙◌, arith, ⊎_elim, length-append}
-use Rattle.std.specs.Prelude.{replicate}
-use Rattle.std.proofs.lemmas.Option.{same_Some}
-use Rattle.std.proofs.lemmas.List.{length-replicate}
-use Rattle.events.specs.HistoryView.{HistoryView}
+use Rattle.replays.proofs.Common.{◌≡◌, ◌⊎◌, ℕ, zero, suc, ◌+◌, List, [], ◌∷◌, ◌++◌, length, map, sum, refl, sym, ap, subst, ◌∙◌, arith, ⊎_elim}
+use Rattle.replays.proofs.Common.{length-append, replicate, same_Some, length-replicate, HistoryView, Item, CoupledIsLinearizable}
+use Rattle.replays.proofs.Common.{OptimisticIsLinearizable, Plan, State, idle, opened_on, step, IsRun, run_on, Gives, StartsOn, all_steps, nowhere}
+use Rattle.replays.proofs.Common.{one-step, run-on-append, ReplayView, IsReplay, plan_in, Records}
+use Rattle.std.proofs.Common.{Option, Some, None}
 use Rattle.orders.specs.Orders.{IsLinearizableHistory}
 use Rattle.art_steps.specs.declared.variant.Variant.TheVariants.{Coupled, Optimistic}
-use Rattle.art_core.specs.declared.item.Item.{Item}
-use Rattle.art_core.specs.Claims.{CoupledIsLinearizable, OptimisticIsLinearizable}
-use Rattle.art_core.specs.Core.{Plan, State, idle, opened_on, step}
 use Rattle.art_core.specs.NamedTurns.{process_of_item, AreMadeWhole}
-use Rattle.art_core.specs.Plans.{IsRun}
-use Rattle.art_core.specs.Runs.{run_on, Gives}
-use Rattle.art_core.specs.Starts.{StartsOn}
-use Rattle.art_core.proofs.HistoryLemmas.{all_steps, nowhere, one-step}
-use Rattle.art_core.proofs.RunLemmas.{run-on-append}
-use Rattle.replay_text.specs.Replays.{ReplayView, IsReplay, plan_in}
-use Rattle.replays.specs.Played.{Records}
 
 -- each turn is one step
 steps-are-turns : (plan : Plan) (schedule : List ℕ) (first s : State) → Gives plan first schedule s

@@ -1,20 +1,11 @@
--- From what a machine says of a run to what is said of a replay.
-use Rattle.std.proofs.Common.{◌≡◌, ℕ, List, Bool, true, false, if◌then◌else◌, Result, Ok, Err, IfOk, IfErr, arith, subst}
-use Rattle.events.specs.HistoryView.{HistoryView}
-use Rattle.map_object.specs.MapObject.{Contents}
-use Rattle.art_core.specs.declared.item.Item.{Item}
-use Rattle.art_core.specs.Claims.{CoupledIsLinearizable, OptimisticIsLinearizable}
-use Rattle.art_core.specs.Core.{Plan, State, opened_on}
-use Rattle.art_core.specs.Starts.{StartsOn}
-use Rattle.machine.specs.declared.machines.Machine.{Machine}
-use Rattle.plans.specs.declared.fault.MachineFault.{MachineFault}
+-- What the run of a machine says, as a statement about the replay.
+use Rattle.replays.proofs.Common.{◌≡◌, ℕ, List, Bool, true, false, if◌then◌else◌, Result, Ok, Err, IfOk, IfErr, arith, subst, HistoryView, Contents}
+use Rattle.replays.proofs.Common.{Item, CoupledIsLinearizable, OptimisticIsLinearizable, Plan, State, opened_on, StartsOn, Machine, MachineFault}
+use Rattle.replays.proofs.Common.{HasStoppedAt, ReplayView, IsReplay, plan_in, is_memory, Records, StopsAt, Plays, IsUnrecorded, IsUnplayedFor}
 use Rattle.plans.specs.declared.fault.RunFault.{RunFault}
-use Rattle.machine.specs.Running.{HasStoppedAt}
-use Rattle.replay_text.specs.Replays.{ReplayView, IsReplay, plan_in}
 use Rattle.replays.specs.declared.fault.ReplayFault.{ReplayFault}
-use Rattle.replays.specs.declared.fault.ReplayFault.TheVariants as faults
-use Rattle.replays.specs.Played.{is_memory, Records, StopsAt, Plays, IsUnrecorded, IsUnplayedFor}
 use Rattle.replays.proofs.LinearizableLemmas.{linearizable}
+use Rattle.replays.specs.declared.fault.ReplayFault.TheVariants as faults
 
 -- what holds of an answer may be said otherwise
 pub if_ok : {A E : Type 0} {P Q : A → Type 0} (result : Result A E) → ((a : A) → P a → Q a) → IfOk result P → IfOk result Q
@@ -56,7 +47,7 @@ unplayed-run r words (faults.Replay fault) starts h = absurd h
 unplayed-run r words (faults.Schedule stop) starts h = (h.0, record { words = words; starts = starts; stops = h.1 })
 unplayed-run r words faults.Memory starts h = tt
 
--- the same with the schedule, the turns and the pairs of the machine
+-- what the run of a schedule says, with the schedule, the turns and the pairs of the machine
 pub plays-as : CoupledIsLinearizable → OptimisticIsLinearizable → (r : ReplayView) → IsReplay r → (words : List ℕ) (items : List Item) (left : ℕ)
     (start : Contents) (history : HistoryView) → items ≡ r.schedule → left ≡ r.limit
     → start ≡ r.start → StartsOn r.shape r.variant r.start words

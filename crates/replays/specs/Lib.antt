@@ -1,1 +1,4 @@
 pub mod Played
+pub mod Rest
+pub mod Drawn
+pub mod Turns

@@ -12,22 +12,21 @@ use Rattle.plans.specs.declared.fault.MachineFault.{MachineFault}
 use Rattle.plans.specs.declared.fault.MachineFault.TheVariants as machines
 use Rattle.machine.specs.Refusals.{IsRefusedIn}
 use Rattle.machine.specs.Starting.{IsNotOpened}
-use Rattle.replay_text.specs.Replays.{ReplayView, plan_in}
-use Rattle.replay_text.specs.ReplayTexts.{SpellsReplay}
-use Rattle.replay_text.specs.ReplayTextFaults.{IsReplayTextFault}
+use Rattle.plan_text.specs.Replays.{ReplayView, plan_in}
+use Rattle.plan_text.specs.ReplayTexts.{SpellsReplay}
+use Rattle.plan_text.specs.ReplayTextFaults.{IsReplayTextFault}
 use Rattle.replays.specs.declared.fault.ReplayFault.{ReplayFault}
 use Rattle.replays.specs.declared.fault.ReplayFault.TheVariants.{Replay, Schedule, Memory}
 
--- want of memory
+-- whether memory ran out
 abbrev pub is_memory : MachineFault → Bool
 is_memory machines.Memory = true
 is_memory fault = false
 
 -- ---- the run of a schedule
 
--- From the first state, all turns that the items name lead to a state, and they are no more than were left: this is the history of that
--- state, which carries
--- the starting pairs.
+-- From the first state, all turns that the items name lead to a state, and they are no more than
+-- were left. The history is that of this state, and has the starting pairs.
 pub record Records (plan : Plan) (items : List Item) (first : State) (left : ℕ) (start : Contents) (history : HistoryView) : Type 0 where
   pub state : State
   pub made : ℕ
@@ -35,8 +34,8 @@ pub record Records (plan : Plan) (items : List Item) (first : State) (left : ℕ
   pub few : made ≤ left
   pub recorded : history ≡ record { start = start; events = history_of state }
 
--- From the first state, with so many turns left, the items before this place are made whole; of the
--- item there some turns are made, and the next one that it names is refused for this cause.
+-- From the first state, with this many turns left, the items before this place are made whole; of
+-- the item there some turns are made, and the next one that it names is refused for this cause.
 pub record StopsAt (plan : Plan) (items : List Item) (first : State) (left place : ℕ) (fault : MachineFault) : Type 0 where
   pub item : Item
   pub is_item : slice_get items place ≡ Some item

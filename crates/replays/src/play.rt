@@ -2,7 +2,7 @@
 ghost use Rattle.std.specs.Prelude.{◌≡◌, if◌then◌else◌, IfErr, IfOk};
 ghost use Rattle.art_core.specs.Core.{Plan, State};
 ghost use Rattle.machine.specs.Machines.{Shows, start_of, turns_left};
-ghost use Rattle.replay_text.specs.ReplayViews.{shown};
+ghost use Rattle.plan_text.specs.ReplayViews.{shown};
 ghost use Rattle.replays.specs.Played.{Records, IsUnrecorded, Plays, IsUnplayedFor, IsPlayed, IsUnplayed, is_memory};
 ghost use Rattle.replays.specs.declared.fault.ReplayFault.TheVariants as faults;
 
@@ -11,13 +11,14 @@ use art_core::Item;
 use art_schedules::{coupled_is_linearizable, optimistic_is_linearizable};
 use events::History;
 use machine::Machine;
+use plan_text::{Replay, read_replay};
 use plans::{MachineFault, RunFault};
-use replay_text::{Replay, read_replay};
 use std::alloc::Global;
 
-/// The history that the run of a replay records, whose text this is: the whole schedule is run. Otherwise why there is none.
-/// Calls that are open at the end are pending, and calls that were not begun are not in it. Where the tree is full, the history is
-/// linearizable, whatever the schedule.
+/// The history that the run of a replay records, given the replay's text: the whole schedule is
+/// run. Otherwise it says why there is none. Calls that are open at the end are pending, and calls
+/// that were not begun are not in it. If the tree is full, the history is linearizable, whatever
+/// the schedule.
 pub fn replay_history(alloc: Global, text: &[u8]) -> Result<History, ReplayFault>
     ensures played { IfOk result (IsPlayed text.now) }
     ensures refused { IfErr result (IsUnplayed text.now) }
@@ -28,7 +29,7 @@ pub fn replay_history(alloc: Global, text: &[u8]) -> Result<History, ReplayFault
     }
 }
 
-/// The history that the run of a replay records. Where the tree is full, it is linearizable.
+/// The history that the run of a replay records. If the tree is full, it is linearizable.
 fn play(alloc: Global, replay: Replay) -> Result<History, ReplayFault>
     ensures played { IfOk result (Plays (shown replay)) }
     ensures refused { IfErr result (IsUnplayedFor (shown replay)) }

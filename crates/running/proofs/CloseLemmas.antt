@@ -1,16 +1,8 @@
 -- The history of the logs is that of the state.
-use Rattle.std.proofs.Common.{◌≡◌, ℕ, List, [], ◌∷◌, ◌++◌, map, length, refl, sym, ap, ◌∙◌}
-use Rattle.std.specs.Prelude.{flat_map, vec_len}
-use Rattle.logs.specs.Logs.{events_by_stamp}
-use Rattle.art_core.specs.Core.{history_of}
-use Rattle.art_shared.specs.declared.view.Setup.{Setup}
-use Rattle.art_shared.specs.declared.view.View.{View}
-use Rattle.art_shared.specs.Views.{Numbered}
-use Rattle.art_shared.specs.Ends.{state_of}
+use Rattle.running.proofs.Common.{◌≡◌, ℕ, List, [], ◌∷◌, ◌++◌, map, length, refl, sym, ap, ◌∙◌, flat_map, vec_len, events_by_stamp, history_of, Setup}
+use Rattle.running.proofs.Common.{View, Numbered, state_of, Run, Fit, shows, opened_for, IsGroupOf}
 use Rattle.running.specs.declared.arena.Arena.{Arena}
 use Rattle.running.specs.declared.group.Pass.{Pass}
-use Rattle.running.specs.Fitting.{Run, Fit}
-use Rattle.running.specs.Groups.{shows, opened_for, IsGroupOf}
 use Rattle.running.proofs.FitLemmas.{fit-length}
 
 same-logs : (setup : Setup) (xs : List Numbered) (rs : List Run) → Fit setup xs rs

@@ -1,17 +1,8 @@
 -- Processes that fit: the calls left to the first one, and lists of them, made one or cut in two.
-use Rattle.std.proofs.Common.{◌≡◌, ℕ, suc, ◌+◌, Bool, true, false, List, [], ◌∷◌, ◌++◌, length, map, take, drop, refl, sym, ap, subst}
-use Rattle.std.proofs.Common.{◌∙◌, arith}
-use Rattle.std.specs.Prelude.{None, if◌then◌else◌, nat_lt}
-use Rattle.std.specs.List.{range_with_len}
+use Rattle.running.proofs.Common.{◌≡◌, ℕ, suc, ◌+◌, Bool, true, false, List, [], ◌∷◌, ◌++◌, length, map, take, drop, refl, sym, ap, subst, ◌∙◌, arith}
+use Rattle.running.proofs.Common.{None, if◌then◌else◌, nat_lt, range_with_len, Idle, FitsDoing, begun, idle, Setup, View, Numbered, left_of_first}
+use Rattle.running.proofs.Common.{calls_left, placed, merge, Runner, Run, FitsProcess, Fit, IsFirst}
 use Rattle.std.proofs.lemmas.List.FromFn.{map-range_with_len_more}
-use Rattle.art.specs.declared.doing.Doing.TheVariants.{Idle}
-use Rattle.art.specs.Doings.{FitsDoing}
-use Rattle.art_core.specs.Core.{begun, idle}
-use Rattle.art_shared.specs.declared.view.Setup.{Setup}
-use Rattle.art_shared.specs.declared.view.View.{View}
-use Rattle.art_shared.specs.Views.{Numbered, left_of_first, calls_left, placed, merge}
-use Rattle.running.specs.declared.runner.Runner.{Runner}
-use Rattle.running.specs.Fitting.{Run, FitsProcess, Fit, IsFirst}
 
 pub left-is : (v : View) (n : ℕ) (r : Runner) → IsFirst v n r → calls_left v ≡ r.left
 left-is v n r first =

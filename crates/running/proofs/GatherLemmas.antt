@@ -1,7 +1,5 @@
 -- Putting processes at their places.
-use Rattle.std.proofs.Common.{◌≡◌, ℕ, ◌+◌, Bool, true, false, List, [], ◌∷◌, ◌++◌, length, refl, ap, arith}
-use Rattle.std.specs.Prelude.{if◌then◌else◌, nat_lt}
-use Rattle.art_shared.specs.Views.{placed, merge}
+use Rattle.running.proofs.Common.{◌≡◌, ℕ, ◌+◌, Bool, true, false, List, [], ◌∷◌, ◌++◌, length, refl, ap, arith, if◌then◌else◌, nat_lt, placed, merge}
 
 -- the last of the others goes first
 pub merge-last : {A : Type 0} (xs ys : List (ℕ × A)) (y : ℕ × A) → merge xs (ys ++ y ∷ []) ≡ merge (placed y xs) ys

@@ -1,3 +1,12 @@
+mod Common
+pub mod NumberedLemmas
+pub mod RisingLemmas
+pub mod CountLemmas
+pub mod GivenLemmas
+pub mod ReachedLemmas
+pub mod SharedStepLemmas
+pub mod OwnLemmas
+pub mod EndLemmas
 pub mod FitLemmas
 pub mod StepLemmas
 pub mod GatherLemmas

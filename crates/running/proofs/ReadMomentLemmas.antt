@@ -1,19 +1,10 @@
 -- The laws of the moments of reads, for processes that have come to their end.
-use Rattle.std.proofs.Common.{ℕ, List, []}
-use Rattle.art_rows.specs.Table.{opening}
-use Rattle.art_core.specs.Core.{opened}
-use Rattle.art_core.specs.Runs.{Gives, HasFewSteps}
-use Rattle.art_core.specs.Plans.{IsRun}
-use Rattle.art_versions.specs.moments.Reads.{RunsHaveMomentsOfScans, RunsHaveMomentsOfGets}
-use Rattle.art_shared.specs.declared.view.Setup.{Setup}
-use Rattle.art_shared.specs.declared.view.View.{View}
-use Rattle.art_shared.specs.Ends.{plan_of, state_of, Ended}
+use Rattle.running.proofs.Common.{ℕ, List, [], opening, opened, Gives, HasFewSteps, IsRun, Setup, View, plan_of, state_of, Ended, ◌≡◌, ⊎_elim, subst}
+use Rattle.running.proofs.Common.{sym, HistoryView, with_no_start, history_of}
+use Rattle.art_schedules.specs.moments.Reads.{RunsHaveMomentsOfScans, RunsHaveMomentsOfGets}
 use Rattle.running.specs.ReadMoments.{ScansHaveMoments, GetsHaveMoments}
 use Rattle.running.specs.Linearizable.{IsLinearizableIn}
-use Rattle.std.proofs.Common.{◌≡◌, ⊎_elim, subst, sym}
-use Rattle.events.specs.HistoryView.{HistoryView, with_no_start}
 use Rattle.orders.specs.Orders.{IsLinearizableHistory}
-use Rattle.art_core.specs.Core.{history_of}
 use Rattle.art_core.specs.Claims.{CoupledIsLinearizable, OptimisticIsLinearizable}
 
 -- any schedule that gives them is a run

@@ -1,30 +1,13 @@
 -- A step of a process as a thread runs it is a step of the process that it fits.
-use Rattle.std.proofs.Common.{◌≡◌, ℕ, zero, suc, ◌+◌, IsTrue, List, [], ◌∷◌, ◌++◌, length, refl, sym, ap, subst, ◌∙◌, arith}
-use Rattle.std.specs.Prelude.{Option, Some, None, MatchOption}
-use Rattle.std.proofs.lemmas.List.{append-nil, length-append}
-use Rattle.std.proofs.lemmas.List.Elements.{filter_map-append}
-use Rattle.events.specs.declared.event.Call.{Call}
-use Rattle.events.specs.declared.event.Reply.{Reply}
-use Rattle.events.specs.declared.event.Event.TheVariants.{Invoke, Answer}
-use Rattle.logs.specs.Logs.{Stamped}
-use Rattle.art_steps.specs.declared.access.Access.{Access}
-use Rattle.art_steps.specs.Steps.{Turn, Rest, Asks, Answers, access_of, reply_of}
-use Rattle.art_steps.specs.Act.{act}
-use Rattle.art_steps.specs.Fits.{Fits}
+use Rattle.running.proofs.Common.{◌≡◌, ℕ, zero, suc, ◌+◌, IsTrue, List, [], ◌∷◌, ◌++◌, length, refl, sym, ap, subst, ◌∙◌, arith, Option, Some, None}
+use Rattle.running.proofs.Common.{MatchOption, append-nil, length-append, filter_map-append, Call, Reply, Invoke, Answer, Stamped, Access, Turn, Rest}
+use Rattle.running.proofs.Common.{Asks, Answers, access_of, reply_of, act, Fits, Idle, Going, Answered, rest_of, FitsDoing, after_access, Process}
+use Rattle.running.proofs.Common.{Move, Invokes, Makes, Responds, begun, invoked, move_of, after_move, Setup, View, Numbered, view, open_move}
+use Rattle.running.proofs.Common.{next_in, next_of, moved_first, moved_if, advanced, invoking, IsAnswered, Runner, FitsProcess, others_of, IsFirst}
+use Rattle.running.proofs.Common.{IsBeside, is_open, Ran, HasReplied}
 use Rattle.art.specs.declared.task.Task.{Task}
-use Rattle.art.specs.declared.doing.Doing.TheVariants.{Idle, Going, Answered}
-use Rattle.art.specs.Tasks.{rest_of}
-use Rattle.art.specs.Doings.{FitsDoing, after_access}
 use Rattle.art.proofs.DoingLemmas.{next-asks, fits-after}
-use Rattle.art_core.specs.declared.process.Process.{Process}
 use Rattle.art_core.specs.Accesses.{told}
-use Rattle.art_core.specs.Core.{Move, Invokes, Makes, Responds, begun, invoked, move_of, after_move}
-use Rattle.art_shared.specs.declared.view.Setup.{Setup}
-use Rattle.art_shared.specs.declared.view.View.{View}
-use Rattle.art_shared.specs.Views.{Numbered, view, open_move, next_in, next_of, moved_first, moved_if, advanced, invoking, IsAnswered}
-use Rattle.running.specs.declared.runner.Runner.{Runner}
-use Rattle.running.specs.Fitting.{FitsProcess, others_of, IsFirst, IsBeside}
-use Rattle.running.specs.Steps.{is_open, Ran, HasReplied}
 
 -- What a call does next.
 
@@ -167,7 +150,7 @@ beside-same v w e = record { setup = ap (λ z. z.setup) e; others = ap others_of
 pub beside-after : (u v w : View) → IsBeside u v → IsBeside v w → IsBeside u w
 beside-after u v w a b = record { setup = b.setup ∙ a.setup; others = b.others ∙ a.others }
 
--- what a step told
+-- what a step replied
 pub told-some : (w : View) (o : Option Reply) (reply : Reply) → o ≡ Some reply → MatchOption o (IsTrue (is_open w)) (λ r. HasReplied r w)
     → HasReplied reply w
 told-some w o reply is told = subst (λ z. MatchOption z (IsTrue (is_open w)) (λ r. HasReplied r w)) is told

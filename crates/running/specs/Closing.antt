@@ -4,9 +4,9 @@ use Rattle.events.specs.HistoryView.{HistoryView, with_no_start}
 use Rattle.art_core.specs.Core.{history_of, opened}
 use Rattle.art_core.specs.Runs.{Gives}
 use Rattle.art_core.specs.Plans.{IsPlan}
-use Rattle.art_shared.specs.declared.view.Setup.{Setup}
-use Rattle.art_shared.specs.declared.view.View.{View}
-use Rattle.art_shared.specs.Ends.{plan_of, state_of}
+use Rattle.running.specs.declared.view.Setup.{Setup}
+use Rattle.running.specs.declared.view.View.{View}
+use Rattle.running.specs.Ends.{plan_of, state_of}
 use Rattle.running.specs.declared.arena.Arena.{Arena}
 use Rattle.running.specs.declared.group.Pass.{Pass}
 use Rattle.running.specs.declared.fault.ArenaClose.{ArenaClose}

@@ -2,10 +2,10 @@
 use Rattle.std.specs.Prelude.{◌≡◌, ℕ, ◌<◌, ◌≤◌, vec_len, vec_capacity}
 use Rattle.art_rows.specs.declared.table.Shape.{Shape}
 use Rattle.art_steps.specs.declared.variant.Variant.{Variant}
-use Rattle.art_shared.specs.declared.view.Setup.{Setup}
-use Rattle.art_shared.specs.declared.view.View.{View}
-use Rattle.art_shared.specs.Places.{setup_of, shown, IsPlaceOf}
-use Rattle.art_shared.specs.Setups.{IsSetup}
+use Rattle.running.specs.declared.view.Setup.{Setup}
+use Rattle.running.specs.declared.view.View.{View}
+use Rattle.running.specs.Places.{setup_of, shown, IsPlaceOf}
+use Rattle.running.specs.Setups.{IsSetup}
 use Rattle.running.specs.declared.arena.Arena.{Arena}
 use Rattle.running.specs.declared.group.Pass.{Pass}
 use Rattle.running.specs.Fitting.{Fit}

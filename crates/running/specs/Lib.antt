@@ -1,3 +1,8 @@
+pub mod Setups
+pub mod Views
+pub mod Rule
+pub mod Ends
+pub mod Places
 pub mod Fitting
 pub mod Groups
 pub mod Steps

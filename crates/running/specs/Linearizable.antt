@@ -4,12 +4,12 @@ use Rattle.events.specs.HistoryView.{HistoryView}
 use Rattle.orders.specs.Orders.{IsLinearizableHistory}
 use Rattle.art_steps.specs.declared.variant.Variant.TheVariants.{Coupled, Optimistic}
 use Rattle.art_core.specs.Runs.{HasFewSteps}
-use Rattle.art_shared.specs.declared.view.Setup.{Setup}
-use Rattle.art_shared.specs.declared.view.View.{View}
-use Rattle.art_shared.specs.Ends.{state_of}
+use Rattle.running.specs.declared.view.Setup.{Setup}
+use Rattle.running.specs.declared.view.View.{View}
+use Rattle.running.specs.Ends.{state_of}
 
 -- If the tree is a full one and the processes made few enough steps, the history has an order,
--- however the threads interleaved and whoever stopped.
+-- however the threads interleaved and whichever of them stopped.
 abbrev pub IsLinearizableIn : Setup → View → HistoryView → Type 0
 IsLinearizableIn setup v h =
     (setup.variant ≡ Coupled) ⊎ (setup.variant ≡ Optimistic) → ((words : List ℕ) → HasFewSteps (state_of words v)) → IsLinearizableHistory h

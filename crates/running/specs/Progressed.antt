@@ -1,6 +1,6 @@
 -- What some turns of an open call did.
 use Rattle.std.specs.Prelude.{ℕ, ◌<◌, ◌≤◌, IsTrue}
-use Rattle.art_shared.specs.declared.view.View.{View}
+use Rattle.running.specs.declared.view.View.{View}
 use Rattle.running.specs.declared.progress.Progress.{Progress}
 use Rattle.running.specs.declared.progress.Progress.TheVariants.{Done, Going}
 use Rattle.running.specs.Steps.{is_open, Ran, HasReplied}

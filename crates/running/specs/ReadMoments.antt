@@ -4,10 +4,10 @@ use Rattle.art_rows.specs.Table.{opening}
 use Rattle.art_steps.specs.declared.variant.Variant.TheVariants.{Optimistic}
 use Rattle.art_core.specs.Core.{Plan, opened}
 use Rattle.art_core.specs.Runs.{Gives, HasFewSteps}
-use Rattle.art_versions.specs.moments.Reads.{AnsweredScansHaveMoments, AnsweredGetsHaveMoments}
-use Rattle.art_shared.specs.declared.view.Setup.{Setup}
-use Rattle.art_shared.specs.declared.view.View.{View}
-use Rattle.art_shared.specs.Ends.{plan_of, state_of}
+use Rattle.art_schedules.specs.moments.Reads.{AnsweredScansHaveMoments, AnsweredGetsHaveMoments}
+use Rattle.running.specs.declared.view.Setup.{Setup}
+use Rattle.running.specs.declared.view.View.{View}
+use Rattle.running.specs.Ends.{plan_of, state_of}
 
 -- If the tree is the optimistic one and the processes made few enough steps, this holds for every
 -- schedule that gives them.

@@ -5,8 +5,8 @@ use Rattle.events.specs.declared.event.Reply.{Reply}
 use Rattle.events.specs.declared.event.Event.TheVariants.{Answer}
 use Rattle.logs.specs.Logs.{Stamped}
 use Rattle.art_core.specs.declared.process.Process.{Process}
-use Rattle.art_shared.specs.declared.view.View.{View}
-use Rattle.art_shared.specs.Views.{Numbered, next_of, advanced, invoking, AllStamps}
+use Rattle.running.specs.declared.view.View.{View}
+use Rattle.running.specs.Views.{Numbered, next_of, advanced, invoking, AllStamps}
 
 abbrev pub first_number : List Numbered → ℕ
 first_number [] = 0

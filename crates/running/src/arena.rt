@@ -1,5 +1,5 @@
 // The shared part of the running trees.
-use art_shared::SharedCore;
+use crate::shared_core::SharedCore;
 
 /// The words of one tree, which the threads of all processes share. A group is used only with its
 /// own arena.

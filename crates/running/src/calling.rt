@@ -1,6 +1,6 @@
 // Calls, one step after another.
 ghost use Rattle.std.specs.Prelude.{◌≡◌, ◌<◌, IsTrue, IfOk, OnOk, OnErr};
-ghost use Rattle.art_shared.specs.Views.{is_idle, calls_left};
+ghost use Rattle.running.specs.Views.{is_idle, calls_left};
 ghost use Rattle.running.specs.Groups.{shows, IsGroupOf};
 ghost use Rattle.running.specs.Steps.{is_open, HasInvoked};
 ghost use Rattle.running.specs.Progressed.{HasProgressed, HasStopped};

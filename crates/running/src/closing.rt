@@ -1,6 +1,6 @@
 // An arena ends, and what its processes did becomes a history.
 ghost use Rattle.std.specs.Prelude.{◌≡◌, flat_map, IfOk, IfErr, OnOk};
-ghost use Rattle.art_shared.specs.Ends.{HasOwnEvents};
+ghost use Rattle.running.specs.Ends.{HasOwnEvents};
 ghost use Rattle.running.specs.Groups.{shows, opened_for, IsGroupOf};
 ghost use Rattle.running.specs.Closing.{HoldsAll, IsHistoryOf, IsHandedBack};
 ghost use Rattle.running.specs.Linearizable.{IsLinearizableIn};
@@ -10,8 +10,10 @@ use crate::arena::Arena;
 use crate::fault::ArenaClose;
 use crate::group::Pass;
 use crate::runner::Runner;
-use art_schedules::{coupled_is_linearizable, optimistic_is_linearizable};
-use art_versions::{answered_gets_have_moments, answered_scans_have_moments};
+use art_schedules::{
+    answered_gets_have_moments, answered_scans_have_moments, coupled_is_linearizable,
+    optimistic_is_linearizable,
+};
 use events::{Event, History, Memory};
 use logs::{append_log, history_by_stamp};
 use std::alloc::Global;
@@ -19,13 +21,11 @@ use std::alloc::Global;
 impl Arena {
     /// Closes the arena, and returns the history of all that the processes did: their events by
     /// rising stamp. Open calls are pending, and there are no starting pairs. If it fails, it
-    /// returns the arena and the group.
-    ///
-    /// If the tree is full and fewer than 2^61 steps were made, the history is linearizable,
-    /// however the threads interleaved and whoever stopped. If it is the optimistic one, each scan
-    /// that was answered has a moment within it at which nothing that it read is different. Each
-    /// get has one for the last row that it read, which says its reply. For n events it takes time
-    /// n log n.
+    /// returns the arena and the group. If the tree is full and fewer than 2^61 steps were made,
+    /// the history is linearizable, however the threads interleaved and whichever of them stopped.
+    /// If it is the optimistic one, each scan that was answered has a moment within it at which
+    /// nothing that it read is different. Each get has one for the last row that it read, which
+    /// says its reply. For n events it takes time n log n.
     pub fn close(self, alloc: Global, group: Pass) -> Result<History, ArenaClose>
         requires own { IsGroupOf self group }
         ensures history { IfOk result (IsHistoryOf (opened_for self) (shows group)) }

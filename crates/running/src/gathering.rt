@@ -1,6 +1,6 @@
 // Processes of two groups, by their numbers.
 ghost use Rattle.std.specs.Prelude.{◌≡◌, ◌+◌, ◌<◌, ◌≤◌, vec_len, vec_capacity, insert, length, [], ◌++◌};
-ghost use Rattle.art_shared.specs.Views.{placed, merge};
+ghost use Rattle.running.specs.Views.{placed, merge};
 ghost use Rattle.running.specs.declared.runner.Runner.{Runner};
 
 use crate::runner::Runner;

@@ -1,6 +1,7 @@
 // The part of an arena with which a thread runs processes.
+use crate::place::Place;
 use crate::runner::Runner;
-use art_shared::{Place, Setup};
+use crate::view::Setup;
 
 /// Some processes of an [`Arena`](crate::Arena), for one thread at a time: each with its number,
 /// its open call and its events with their stamps, by rising number. There is room for all

@@ -1,15 +1,16 @@
 // An arena, and the group with all its processes.
 ghost use Rattle.std.specs.Prelude.{◌≡◌, ◌*◌, ◌≤◌, IfOk, vec_len, vec_capacity};
 ghost use Rattle.art_rows.specs.Table.{IsWithinLimits};
-ghost use Rattle.art_shared.specs.Views.{all_idle};
+ghost use Rattle.running.specs.Views.{all_idle};
 ghost use Rattle.running.specs.Fitting.{Fit};
 ghost use Rattle.running.specs.Groups.{shows, setup_with, opened_for, IsGroupOf};
 
 use crate::arena::Arena;
 use crate::group::Pass;
 use crate::runner::Runner;
+use crate::shared_core::SharedCore;
+use crate::view::Setup;
 use art::{Doing, Shape, Variant};
-use art_shared::{Setup, SharedCore};
 use events::{MAX_CALLS, Memory, PROCESSES};
 use std::alloc::Global;
 

@@ -1,6 +1,6 @@
 // Processes move to groups of their own, and back.
 ghost use Rattle.std.specs.Prelude.{◌≡◌, ◌+◌, ◌≤◌, length, IfOk, OnOk, OnErr};
-ghost use Rattle.art_shared.specs.Views.{without_last, last_alone, merged};
+ghost use Rattle.running.specs.Views.{without_last, last_alone, merged};
 ghost use Rattle.running.specs.Groups.{shows, IsGroupOf};
 
 use crate::arena::Arena;

@@ -1,6 +1,6 @@
 // What a group shows of its least process.
 ghost use Rattle.std.specs.Prelude.{◌≡◌, not};
-ghost use Rattle.art_shared.specs.Views.{is_idle, calls_left};
+ghost use Rattle.running.specs.Views.{is_idle, calls_left};
 ghost use Rattle.running.specs.Steps.{is_open, least_process};
 ghost use Rattle.running.specs.Groups.{shows, IsGroup};
 

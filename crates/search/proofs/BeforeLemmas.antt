@@ -1,20 +1,13 @@
 -- Lists of numbers that come before a cursor.
-use Rattle.std.proofs.Common.{◌≡◌, ℕ, zero, suc, ◌+◌, ◌<◌, ◌≤◌, true, false, List, [], ◌∷◌, ◌++◌, length, refl, sym, ap, ◌∙◌, subst, inl}
-use Rattle.std.proofs.Common.{inr, ⊎_elim, arith}
-use Rattle.std.specs.Prelude.{◌⊎◌, All}
-use Rattle.std.proofs.lemmas.Bool.{false≢true, both_ways, cases_order, cases_lt, false_from_ne_true}
-use Rattle.std.proofs.lemmas.List.{append-nil, append_assoc}
-use Rattle.std.proofs.lemmas.List.Elements.{All-head}
-use Rattle.search.specs.LeastOrder.{is_at_or_before}
-use Rattle.list_laws.proofs.Lists.{All-back}
+use Rattle.search.proofs.Common.{◌≡◌, ℕ, zero, suc, ◌+◌, ◌<◌, ◌≤◌, true, false, List, [], ◌∷◌, ◌++◌, length, refl, sym, ap, ◌∙◌, subst, inl, inr}
+use Rattle.search.proofs.Common.{⊎_elim, arith, ◌⊎◌, All, false≢true, both_ways, cases_order, cases_lt, false_from_ne_true, append-nil, append_assoc}
+use Rattle.search.proofs.Common.{All-head, is_at_or_before, All-back, ComesBefore, cursor}
 use Rattle.search.proofs.LeastOrderLemmas.{is_at_or_before-same, is_at_or_before-lower, is_at_or_before-higher, is_at_or_before-refl}
-use Rattle.search.proofs.LeastOrderLemmas.{is_at_or_before-trans}
-use Rattle.search.proofs.LeastOrderLemmas.{is_at_or_before-append, is_at_or_before-front, is_at_or_before-total}
-use Rattle.search.proofs.LeastOrderLemmas.{is_at_or_before-first_lower}
-use Rattle.search.proofs.LeastOrderLemmas.{is_at_or_before-first_higher, IsLowerAtDifference, is_at_or_before-parts}
-use Rattle.search.specs.Cursor.{ComesBefore, cursor}
+use Rattle.search.proofs.LeastOrderLemmas.{is_at_or_before-trans, is_at_or_before-append, is_at_or_before-front, is_at_or_before-total}
+use Rattle.search.proofs.LeastOrderLemmas.{is_at_or_before-first_lower, is_at_or_before-first_higher, IsLowerAtDifference, is_at_or_before-parts}
 
--- how a list stands to all that begin with another: it goes on from it, comes before all of them, or after all of them
+-- how a list compares with all that begin with another: it goes on from it, comes before all of
+-- them, or after all of them
 against : (f p : List ℕ)
     → ((rest : List ℕ) × (f ≡ p ++ rest)) ⊎ (((ys : List ℕ) → is_at_or_before (p ++ ys) f ≡ false) ⊎ ((ys : List ℕ) → is_at_or_before
     (p ++ ys) f ≡ true))

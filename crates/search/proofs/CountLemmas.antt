@@ -1,13 +1,6 @@
 -- Laws of how many configurations count.
-use Rattle.std.proofs.Common.{◌≡◌, ℕ, ◌≤◌, List, length, arith}
-use Rattle.std.specs.Prelude.{All, Contains}
-use Rattle.std.proofs.lemmas.List.Elements.{All-weaker, All-contains_itself}
-use Rattle.events.specs.declared.operation.Operation.{Operation}
-use Rattle.map_object.specs.MapObject.{Contents}
-use Rattle.configurations.specs.Configurations.{Configuration, IsReachable}
-use Rattle.search.specs.LeastCounts.{IsCounted, HasCount, CountIsWithin, CountIsAbove}
-use Rattle.configurations.specs.Counts.{AreDistinct, ReachesMoreThan}
-use Rattle.list_laws.proofs.Lists.{length-distinct}
+use Rattle.search.proofs.Common.{◌≡◌, ℕ, ◌≤◌, List, length, arith, All, Contains, All-weaker, All-contains_itself, Operation, Contents, Configuration}
+use Rattle.search.proofs.Common.{IsReachable, IsCounted, HasCount, CountIsWithin, CountIsAbove, AreDistinct, ReachesMoreThan, length-distinct}
 
 -- a configuration that counts is reachable
 pub IsReachable-from_counted : (start : Contents) (calls : List Operation) (c : Configuration) → IsCounted start calls c
@@ -47,7 +40,7 @@ pub CountIsAbove-not_within : (start : Contents) (calls : List Operation) (n : �
 CountIsAbove-not_within start calls n above (count, has, within) =
     absurd (omega (arith, above.above, counted_within start calls count above.counted has above.distinct above.each))
 
--- where the count is above a number, more than so many configurations are reachable
+-- if the count is above a number, more than that many configurations are reachable
 pub ReachesMoreThan-from_count : (start : Contents) (calls : List Operation) (n : ℕ) → CountIsAbove start calls n
     → ReachesMoreThan start calls n
 ReachesMoreThan-from_count start calls n h = record {

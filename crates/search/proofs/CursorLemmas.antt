@@ -1,33 +1,18 @@
 -- How the relation to a cursor is kept at each step of a search, and what it says at the end.
-use Rattle.std.proofs.Common.{◌≡◌, ℕ, ◌+◌, ◌<◌, ◌≤◌, true, List, [], ◌∷◌, ◌++◌, length, refl, sym, ap, ◌∙◌, subst, inl, inr, ⊎_elim, arith}
-use Rattle.std.specs.Prelude.{◌≢◌, ◌⊎◌, All, Contains}
-use Rattle.std.proofs.lemmas.Bool.{both_ways, cases_Bool, false_from_ne_true}
-use Rattle.std.proofs.lemmas.List.{get_or_default}
-use Rattle.std.proofs.lemmas.List.Elements.{All-head, All-weaker, All-contains, Contains-push, Contains-push_cases, Contains-append_left}
-use Rattle.std.proofs.lemmas.List.Elements.{Contains-append_right}
-use Rattle.std.proofs.lemmas.List.Elements.{Contains-append_cases}
-use Rattle.std.proofs.lemmas.List.Quantifiers.{all_pairs_push}
-use Rattle.events.specs.declared.operation.Operation.{Operation}
-use Rattle.events.specs.Precedence.{NonePrecedesItself}
-use Rattle.map_object.specs.MapObject.{Contents}
-use Rattle.orders.specs.Orders.{IsOrder, IsLinearizable, after_calls, calls_at}
-use Rattle.configurations.specs.Fronts.{IsFront}
-use Rattle.configurations.specs.Configurations.{Configuration, LeadsTo}
-use Rattle.search.specs.LeastOrder.{is_at_or_before, IsLeastOrder}
-use Rattle.search.specs.LeastCounts.{IsCounted, HasCount, CountIsAbove}
-use Rattle.list_laws.proofs.Lists.{All-from_contains, AllPairs-nil}
-use Rattle.orders.proofs.OrderLemmas.{after_calls-append, calls_at-append}
-use Rattle.configurations.proofs.FrontLemmas.{IsFront-from_order, IsFront-front, IsFront-nil, IsNext-from_front}
-use Rattle.configurations.proofs.ConfigurationLemmas.{configuration_of, configuration_unique, LeadsTo-nil}
+use Rattle.search.proofs.Common.{◌≡◌, ℕ, ◌+◌, ◌<◌, ◌≤◌, true, List, [], ◌∷◌, ◌++◌, length, refl, sym, ap, ◌∙◌, subst, inl, inr, ⊎_elim, arith, ◌≢◌}
+use Rattle.search.proofs.Common.{◌⊎◌, All, Contains, both_ways, cases_Bool, false_from_ne_true, get_or_default, All-head, All-weaker, All-contains}
+use Rattle.search.proofs.Common.{Contains-push, Contains-push_cases, Contains-append_left, Contains-append_right, Contains-append_cases}
+use Rattle.search.proofs.Common.{all_pairs_push, Operation, NonePrecedesItself, Contents, IsOrder, IsLinearizable, after_calls, calls_at, IsFront}
+use Rattle.search.proofs.Common.{Configuration, LeadsTo, is_at_or_before, IsLeastOrder, IsCounted, HasCount, CountIsAbove, All-from_contains}
+use Rattle.search.proofs.Common.{AllPairs-nil, after_calls-append, calls_at-append, IsFront-from_order, IsFront-front, IsFront-nil, IsNext-from_front}
+use Rattle.search.proofs.Common.{configuration_of, configuration_unique, LeadsTo-nil, IsMetInTurn, ComesBefore, cursor, IsBehind, StandsAtCursor}
 use Rattle.search.proofs.FutureLemmas.{same_future, same_completion}
 use Rattle.search.proofs.LeastOrderLemmas.{is_at_or_before-refl, is_at_or_before-trans, is_at_or_before-total, is_at_or_before-front}
 use Rattle.search.proofs.LeastOrderLemmas.{is_at_or_before-higher}
-use Rattle.search.specs.LongestFront.{IsMetInTurn}
-use Rattle.search.specs.Cursor.{ComesBefore, cursor, IsBehind, StandsAtCursor}
 use Rattle.search.proofs.EarliestLemmas.{length-taken}
 use Rattle.search.proofs.BeforeLemmas.{ComesBefore-itself, at_or_before-from_cursor, ComesBefore-from_at_or_before, ComesBefore-moved}
-use Rattle.search.proofs.BeforeLemmas.{ComesBefore-move}
-use Rattle.search.proofs.BeforeLemmas.{ComesBefore-pushed, ComesBefore-push, ComesBefore-pop, ComesBefore-popped, ComesBefore-longer}
+use Rattle.search.proofs.BeforeLemmas.{ComesBefore-move, ComesBefore-pushed, ComesBefore-push, ComesBefore-pop, ComesBefore-popped}
+use Rattle.search.proofs.BeforeLemmas.{ComesBefore-longer}
 
 -- what follows two fronts of one configuration leads to one configuration
 same_leads : (start : Contents) (calls : List Operation) (f g rest : List ℕ) (c d : Configuration) → LeadsTo start calls f c
@@ -59,7 +44,7 @@ taken_again start calls path k rest is_front within =
     next.new within
 
 module _ (start : Contents) (calls : List Operation) where
-  -- what is behind a cursor is behind each cursor that comes no earlier
+  -- what is after a cursor is after each cursor that comes no earlier
   IsBehind-later : (path : List ℕ) (next : ℕ) (path2 : List ℕ) (next2 : ℕ) (c : Configuration)
       → ((f : List ℕ) → IsFront start calls f → ComesBefore f (cursor path next) → ComesBefore f (cursor path2 next2))
       → IsBehind start calls path next c
@@ -102,7 +87,7 @@ module _ (start : Contents) (calls : List Operation) where
   module _ (path : List ℕ) (next : ℕ) (visited : List Configuration) (stands : StandsAtCursor start calls path next visited) where
     -- ---- what the relation says
 
-    -- a configuration behind the cursor was visited
+    -- a configuration after the cursor was visited
     pub visited_from_front : (f : List ℕ) (c : Configuration) → IsFront start calls f → LeadsTo start calls f c
         → ComesBefore f (cursor path next)
         → Contains visited c
@@ -138,7 +123,7 @@ module _ (start : Contents) (calls : List Operation) where
             subst (λ o. is_at_or_before f o ≡ true) (sym is) (of_taken f is_front taken (ComesBefore-moved path f 0 next before)))
             (cases_Bool (is_at_or_before (cursor path next) order))
 
-    -- and it was visited in its turn
+    -- all that was visited was visited in its turn
     pub met_in_turn : All (IsMetInTurn start calls visited) visited
     met_in_turn = All-from_contains (IsMetInTurn start calls visited) visited (λ c h.
         let b = (stands.exact c).0 h in
@@ -152,7 +137,7 @@ module _ (start : Contents) (calls : List Operation) where
               (λ later. both_ways _ b.before (is_at_or_before-trans (cursor path next) other b.front later before)));
         })
 
-    -- a length above a number is a count above it
+    -- if more configurations were visited than a number, the count is above it
     pub CountIsAbove-at_cursor : (budget : ℕ) → budget < length visited → CountIsAbove start calls budget
     CountIsAbove-at_cursor budget above = record { counted = visited; distinct = stands.distinct; each = counted_at_cursor; above = above }
 
@@ -260,7 +245,7 @@ module _ (start : Contents) (calls : List Operation) where
 
     -- ---- ends
 
-    -- at the end of the cursor each front is behind it
+    -- at the end of the cursor each front is after it
     all_behind : path ≡ [] → length calls ≤ next → (f : List ℕ) → IsFront start calls f → ComesBefore f (cursor path next)
     all_behind empty past [] is_front = ComesBefore-from_at_or_before path [] next refl
     all_behind empty past (x ∷ f) is_front =
@@ -278,7 +263,7 @@ module _ (start : Contents) (calls : List Operation) where
         (subst (IsOrder start calls)
         (stands.first order is_order (all_behind empty past order (IsFront-from_order start calls order apart is_order))).0 is_order)
 
-    -- and visited is all that is reachable
+    -- all that is reachable was visited
     pub HasCount-at_end : NonePrecedesItself calls → path ≡ [] → length calls ≤ next → (IsOrder start calls path → ⊥)
         → HasCount start calls (length visited)
     HasCount-at_end apart empty past not_order = record {
@@ -308,7 +293,7 @@ module _ (start : Contents) (calls : List Operation) where
             (λ earlier. subst (λ o. is_at_or_before path o ≡ true) (sym (stands.first other is earlier).0) (is_at_or_before-refl path))
             (cases_Bool (is_at_or_before (cursor path next) other))
 
-    -- and visited is what counts
+    -- what was visited is what counts
     pub HasCount-at_order : IsOrder start calls path → HasCount start calls (length visited)
     HasCount-at_order is_order = record {
       counted = visited;

@@ -1,23 +1,9 @@
 -- How many calls a configuration has taken, and what the earliest answer says of a front.
-use Rattle.std.proofs.Common.{◌≡◌, ℕ, ◌+◌, ◌<◌, ◌≤◌, true, false, List, Option, Some, None, length, refl, sym, subst, ⊎_elim, arith, ◌∙◌}
-use Rattle.std.specs.Prelude.{◌≢◌, is_some, slice_get, AllPairs, Contains}
-use Rattle.std.specs.List.Sorted.{IsStrictlyIncreasing}
-use Rattle.std.proofs.lemmas.Bool.{false≢true, both_ways, cases_Bool, lt-ltb}
-use Rattle.std.proofs.lemmas.List.Kept.{AllPairs-from_increasing}
-use Rattle.std.proofs.lemmas.Option.{same_Some}
-use Rattle.events.specs.declared.operation.Operation.{Operation}
-use Rattle.events.specs.declared.operation.Response.{Response}
-use Rattle.list_laws.specs.Lists.{has_number}
-use Rattle.events.specs.Precedence.{is_before, precedes}
-use Rattle.map_object.specs.MapObject.{Contents}
-use Rattle.orders.specs.Orders.{IsCompletedAt, IsOrder}
-use Rattle.configurations.specs.Fronts.{IsFront, PrecedesAt}
-use Rattle.configurations.specs.Configurations.{Configuration, LeadsTo}
-use Rattle.list_laws.proofs.Lists.{All-from_contains, length-distinct}
-use Rattle.list_laws.proofs.NumberLemmas.{has_number-Contains, has_number-from_Contains, slice_get-below}
-use Rattle.orders.proofs.OrderLemmas.{IsCompletedAt-below}
-use Rattle.configurations.proofs.FrontLemmas.{IsOrder-from_front}
-use Rattle.search.specs.Remaining.{RemainsBefore, IsEarliestAnswer}
+use Rattle.search.proofs.Common.{◌≡◌, ℕ, ◌+◌, ◌<◌, ◌≤◌, true, false, List, Option, Some, None, length, refl, sym, subst, ⊎_elim, arith, ◌∙◌, ◌≢◌}
+use Rattle.search.proofs.Common.{is_some, slice_get, AllPairs, Contains, IsStrictlyIncreasing, false≢true, both_ways, cases_Bool, lt-ltb}
+use Rattle.search.proofs.Common.{AllPairs-from_increasing, same_Some, Operation, Response, has_number, is_before, precedes, Contents, IsCompletedAt}
+use Rattle.search.proofs.Common.{IsOrder, IsFront, PrecedesAt, Configuration, LeadsTo, All-from_contains, length-distinct, has_number-Contains}
+use Rattle.search.proofs.Common.{has_number-from_Contains, slice_get-below, IsCompletedAt-below, IsOrder-from_front, RemainsBefore, IsEarliestAnswer}
 
 -- rising numbers are distinct
 pub distinct_from_increasing : (xs : List ℕ) → IsStrictlyIncreasing xs → AllPairs (λ m n. m ≢ n) xs
@@ -46,7 +32,7 @@ IsCompletedAt-before calls n a place here before = rw here (of_response a.respon
     of_response None h = h
     of_response (Some r) h = refl
 
--- a response stands before some place
+-- a response comes before some place
 place_after : (response : Option Response) → is_some response ≡ true → (place : ℕ) × (is_before response place ≡ true)
 place_after None h = absurd (false≢true h)
 place_after (Some r) h = (r.res + 1, lt-ltb r.res (r.res + 1) (omega arith))

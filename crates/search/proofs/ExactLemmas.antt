@@ -1,13 +1,10 @@
 -- One answer only is exact.
-use Rattle.std.proofs.Common.{ℕ, sym, ap, ◌∙◌}
-use Rattle.segments.specs.SegmentView.{SegmentView}
-use Rattle.segments.specs.SegmentOrders.{numbers_at}
+use Rattle.search.proofs.Common.{ℕ, sym, ap, ◌∙◌, SegmentView, numbers_at, IsExactAnswer, AreSameAnswer}
 use Rattle.search.proofs.LeastOrderLemmas.{IsLeastOrder-unique}
 use Rattle.search.proofs.CountLemmas.{CountIsAbove-not_within, ReachesMoreThan-from_count}
 use Rattle.search.specs.declared.found.Found.{Found}
 use Rattle.search.specs.declared.found.Found.TheVariants.{Order, NoOrder, Spent}
 use Rattle.search.specs.Found.{IsSoundAnswer}
-use Rattle.search.specs.Exact.{IsExactAnswer, AreSameAnswer}
 
 pub one_exact_answer : (budget : ℕ) (segment : SegmentView) (a b : Found) → IsExactAnswer budget segment a
     → IsExactAnswer budget segment b → AreSameAnswer a b

@@ -1,44 +1,26 @@
 -- Some calls have a least order or none, and a count: their fronts can be listed.
-use Rattle.std.proofs.Common.{◌≡◌, ℕ, zero, suc, ◌<◌, ◌≤◌, true, List, Option, Some, None, [], ◌∷◌, ◌++◌, length, refl, sym, ap, ◌∙◌, subst}
-use Rattle.std.proofs.Common.{inl, inr, ⊎_elim}
-use Rattle.std.proofs.Common.{arith}
-use Rattle.std.specs.Prelude.{◌≢◌, ◌⊎◌, Bool, IsTrue, slice_get, All, Contains}
-use Rattle.std.proofs.lemmas.Bool.{both_ways, cases_Bool, cases_lt}
-use Rattle.std.proofs.lemmas.List.{append-nil, append_assoc, get_or_default}
-use Rattle.std.proofs.lemmas.List.Elements.{All-nil, All-cons, All-head, All-tail, All-push, All-append, All-contains, Contains-append_left}
-use Rattle.std.proofs.lemmas.List.Elements.{Contains-append_right}
-use Rattle.std.proofs.lemmas.List.Quantifiers.{all_pairs_push}
-use Rattle.std.proofs.lemmas.List.Elements.{Contains-push}
-use Rattle.std.proofs.lemmas.Option.{none-some, same_Some, slice_get_within}
-use Rattle.events.specs.declared.event.Call.{Call}
+use Rattle.search.proofs.Common.{◌≡◌, ℕ, zero, suc, ◌<◌, ◌≤◌, true, List, Option, Some, None, [], ◌∷◌, ◌++◌, length, refl, sym, ap, ◌∙◌, subst, inl}
+use Rattle.search.proofs.Common.{inr, ⊎_elim, arith, ◌≢◌, ◌⊎◌, IsTrue, slice_get, All, Contains, both_ways, cases_Bool, cases_lt, append-nil}
+use Rattle.search.proofs.Common.{append_assoc, get_or_default, All-nil, All-cons, All-head, All-tail, All-push, All-append, All-contains}
+use Rattle.search.proofs.Common.{Contains-append_left, Contains-append_right, all_pairs_push, Contains-push, none-some, same_Some, slice_get_within}
+use Rattle.search.proofs.Common.{Call, Operation, Response, has_number, is_completed, precedes, NonePrecedesItself, Contents, reply_to, is_value}
+use Rattle.search.proofs.Common.{misses, TellsOf, IsLegalReply, IsLegalCall, IsCompletedAt, IsOrder, IsLinearizable, after_calls, calls_at}
+use Rattle.search.proofs.Common.{PrecedesAt, IsFront, Configuration, LeadsTo, is_at_or_before, IsLeastOrder, IsCounted, HasCount, AreDistinct}
+use Rattle.search.proofs.Common.{Contains-first, Contains-later, Contains-nil, Contains-cases, AllPairs-nil, has_number-Contains}
+use Rattle.search.proofs.Common.{has_number-from_Contains, IsCompletedAt-below, IsFront-nil, IsFront-next, IsFront-from_order, IsNext}
+use Rattle.search.proofs.Common.{IsNext-from_front, length-front_le, IsOrder-from_front, configuration_of, configuration_unique, LeadsTo-exists}
+use Rattle.search.proofs.Common.{is_same, Decides-is_same}
+use Rattle.std.specs.Prelude.{Bool}
 use Rattle.events.specs.declared.event.Reply.{Reply}
-use Rattle.events.specs.declared.event.Reply.TheVariants as replies
-use Rattle.events.specs.declared.operation.Operation.{Operation}
-use Rattle.events.specs.declared.operation.Response.{Response}
-use Rattle.list_laws.specs.Lists.{has_number}
-use Rattle.events.specs.Precedence.{is_completed, precedes, NonePrecedesItself}
-use Rattle.map_object.specs.MapObject.{Contents, reply_to, is_value, misses, TellsOf, IsLegalReply}
-use Rattle.orders.specs.Orders.{IsLegalCall, IsCompletedAt, IsOrder, IsLinearizable, after_calls, calls_at}
-use Rattle.configurations.specs.Fronts.{PrecedesAt, IsFront}
-use Rattle.configurations.specs.Configurations.{Configuration, LeadsTo}
-use Rattle.search.specs.LeastOrder.{is_at_or_before, IsLeastOrder}
-use Rattle.search.specs.LeastCounts.{IsCounted, HasCount}
-use Rattle.configurations.specs.Counts.{AreDistinct}
-use Rattle.list_laws.proofs.Lists.{Contains-first, Contains-later, Contains-nil, Contains-cases, AllPairs-nil}
-use Rattle.list_laws.proofs.NumberLemmas.{has_number-Contains, has_number-from_Contains}
-use Rattle.orders.proofs.OrderLemmas.{IsCompletedAt-below}
-use Rattle.configurations.proofs.FrontLemmas.{IsFront-nil, IsFront-next, IsFront-from_order, IsNext, IsNext-from_front, length-front_le}
-use Rattle.configurations.proofs.FrontLemmas.{IsOrder-from_front}
-use Rattle.configurations.proofs.ConfigurationLemmas.{configuration_of, configuration_unique, LeadsTo-exists}
 use Rattle.search.proofs.LeastOrderLemmas.{is_at_or_before-refl, is_at_or_before-total, is_at_or_before-trans}
-use Rattle.memo.specs.Equality.{is_same, Decides-is_same}
 use Rattle.search.proofs.MemoLemmas.{visited_or_not}
+use Rattle.events.specs.declared.event.Reply.TheVariants as replies
 
 -- a statement or its contrary
 abbrev IsTold : Type 0 → Type 0
 IsTold P = P ⊎ (P → ⊥)
 
--- ---- what can be told
+-- ---- what can be decided
 
 same_pairs : (a b : Contents) → IsTold (a ≡ b)
 same_pairs a b = ⊎_elim
@@ -51,7 +33,7 @@ same_pairs a b = ⊎_elim
 true_told : (b : Bool) → IsTold (IsTrue b)
 true_told b = ⊎_elim (λ e. inl e) (λ e. inr (λ h. both_ways b e h)) (cases_Bool b)
 
--- a reply as a list of pairs: the first tells which reply it is, and its value
+-- a reply as a list of pairs: the first says which reply it is, and its value
 abbrev pairs_of : Reply → Contents
 pairs_of replies.None = (0, 0) ∷ []
 pairs_of (replies.Some value) = (1, value) ∷ []
@@ -61,7 +43,7 @@ pairs_of replies.Done = (4, 0) ∷ []
 pairs_of replies.Found = (5, 0) ∷ []
 pairs_of replies.Other = (6, 0) ∷ []
 
--- and back
+-- a list of pairs as a reply
 abbrev reply_of : Contents → Reply
 reply_of [] = replies.None
 reply_of ((zero, value) ∷ pairs) = replies.None
@@ -87,7 +69,7 @@ same_reply a b = ⊎_elim
     (λ not. inr (λ is. not (ap pairs_of is)))
     (same_pairs (pairs_of a) (pairs_of b))
 
--- whether a reply tells of the whole answer
+-- it can be decided whether a reply reports of the whole answer
 tells_told : (call : Call) (whole reply : Reply) → IsTold (TellsOf call whole reply)
 tells_told call whole replies.None = same_reply replies.None whole
 tells_told call whole (replies.Some value) = same_reply (replies.Some value) whole
@@ -106,7 +88,7 @@ legal_told m call (Some r) = by_cases (same_reply r.reply replies.Refused) (tell
     by_cases (inr not) (inl tells) = inl (inr tells)
     by_cases (inr not) (inr other) = inr (λ h. ⊎_elim not other h)
 
--- what is told of each number below a bound is told of all
+-- if each number below a bound can be decided, all can
 all_told : (P : ℕ → Type 0) → ((k : ℕ) → IsTold (P k)) → (n : ℕ) → IsTold ((k : ℕ) → k < n → P k)
 all_told P each zero = inl (λ k lt. absurd (omega arith))
 all_told P each (suc n) = by_cases (all_told P each n) (each n)
@@ -170,7 +152,7 @@ module _ (start : Contents) (calls : List Operation) where
     each : All (IsFront start calls) fronts
     all : (rest : List ℕ) → length rest ≤ fuel → IsFront start calls (front ++ rest) → Contains fronts (front ++ rest)
 
-  -- those whose next call is below a bound
+  -- the fronts whose next call is below a bound
   record AreListedBelow (front : List ℕ) (fuel bound : ℕ) : Type 0 where
     fronts : List (List ℕ)
     each : All (IsFront start calls) fronts

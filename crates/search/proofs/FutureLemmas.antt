@@ -1,17 +1,8 @@
 -- What may follow a front depends on its configuration alone.
-use Rattle.std.proofs.Common.{◌≡◌, ℕ, List, Some, [], ◌∷◌, ◌++◌, sym, ap, ◌∙◌, subst, ⊎_elim}
-use Rattle.std.specs.Prelude.{slice_get, Contains}
-use Rattle.std.proofs.lemmas.List.{append-nil, append_assoc}
-use Rattle.std.proofs.lemmas.List.Elements.{Contains-append_left, Contains-append_right, Contains-append_cases, Contains-push}
-use Rattle.std.proofs.lemmas.List.Elements.{Contains-push_cases}
-use Rattle.events.specs.declared.operation.Operation.{Operation}
-use Rattle.map_object.specs.MapObject.{Contents}
-use Rattle.orders.specs.Orders.{IsLegalCall, after_call, after_calls, calls_at, IsOrder}
-use Rattle.configurations.specs.Fronts.{IsFront}
-use Rattle.configurations.specs.Configurations.{Configuration, LeadsTo}
-use Rattle.orders.proofs.OrderLemmas.{after_calls-push}
-use Rattle.events.specs.Precedence.{NonePrecedesItself}
-use Rattle.configurations.proofs.FrontLemmas.{IsFront-from_order, IsOrder-from_front, IsNext, IsNext-from_front, IsFront-next}
+use Rattle.search.proofs.Common.{◌≡◌, ℕ, List, Some, [], ◌∷◌, ◌++◌, sym, ap, ◌∙◌, subst, ⊎_elim, slice_get, Contains, append-nil, append_assoc}
+use Rattle.search.proofs.Common.{Contains-append_left, Contains-append_right, Contains-append_cases, Contains-push, Contains-push_cases, Operation}
+use Rattle.search.proofs.Common.{Contents, IsLegalCall, after_call, after_calls, calls_at, IsOrder, IsFront, Configuration, LeadsTo, after_calls-push}
+use Rattle.search.proofs.Common.{NonePrecedesItself, IsFront-from_order, IsOrder-from_front, IsNext, IsNext-from_front, IsFront-next}
 
 -- two fronts hold the same calls and leave the same pairs
 record AreAlike (start : Contents) (calls : List Operation) (f g : List ℕ) : Type 0 where

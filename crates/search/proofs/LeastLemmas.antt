@@ -1,19 +1,8 @@
 -- The least order by fronts, and by numbers.
-use Rattle.std.proofs.Common.{◌≡◌, ℕ, ◌<◌, List, [], ◌∷◌, length, refl, sym, ap, ◌∙◌, ⊎_elim}
-use Rattle.std.specs.Prelude.{◌↔◌, slice_index, All}
-use Rattle.std.specs.List.Sorted.{IsStrictlyIncreasing}
-use Rattle.std.proofs.lemmas.Bool.{cases_order}
-use Rattle.std.proofs.lemmas.List.Elements.{All-head, All-tail}
-use Rattle.std.proofs.lemmas.List.Kept.{AllPairs-from_increasing}
-use Rattle.events.specs.declared.operation.Operation.{Operation}
-use Rattle.events.specs.Precedence.{NonePrecedesItself}
-use Rattle.map_object.specs.MapObject.{Contents}
-use Rattle.segments.specs.SegmentView.{SegmentView}
-use Rattle.segments.specs.SegmentOrders.{numbers_at}
-use Rattle.search.specs.LeastOrder.{is_at_or_before, IsLeastOrder}
-use Rattle.configurations.proofs.FrontLemmas.{IsFront-from_order, IsOrder-from_front}
+use Rattle.search.proofs.Common.{◌≡◌, ℕ, ◌<◌, List, [], ◌∷◌, length, refl, sym, ap, ◌∙◌, ⊎_elim, ◌↔◌, slice_index, All, IsStrictlyIncreasing}
+use Rattle.search.proofs.Common.{cases_order, All-head, All-tail, AllPairs-from_increasing, Operation, NonePrecedesItself, Contents, SegmentView}
+use Rattle.search.proofs.Common.{numbers_at, is_at_or_before, IsLeastOrder, IsFront-from_order, IsOrder-from_front, IsLeastWholeFront}
 use Rattle.search.proofs.LeastOrderLemmas.{is_at_or_before-same, is_at_or_before-lower, is_at_or_before-higher}
-use Rattle.search.specs.Exact.{IsLeastWholeFront}
 
 pub least_order_by_fronts : (start : Contents) (calls : List Operation) (order : List ℕ) → NonePrecedesItself calls
     → IsLeastOrder start calls order ↔ IsLeastWholeFront start calls order

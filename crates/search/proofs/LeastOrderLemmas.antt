@@ -1,10 +1,6 @@
 -- Laws of lists of numbers compared by their first difference.
-use Rattle.std.proofs.Common.{◌≡◌, ℕ, ◌<◌, true, false, List, [], ◌∷◌, ◌++◌, refl, sym, ap, ◌∙◌, inl, inr, ⊎_elim, arith}
-use Rattle.std.specs.Prelude.{◌⊎◌}
-use Rattle.std.proofs.lemmas.Bool.{false≢true, both_ways, cases_order, eq-eqb, ne_eqb, lt-ltb, le-ltb}
-use Rattle.events.specs.declared.operation.Operation.{Operation}
-use Rattle.map_object.specs.MapObject.{Contents}
-use Rattle.search.specs.LeastOrder.{is_at_or_before, IsLeastOrder}
+use Rattle.search.proofs.Common.{◌≡◌, ℕ, ◌<◌, true, false, List, [], ◌∷◌, ◌++◌, refl, sym, ap, ◌∙◌, inl, inr, ⊎_elim, arith, ◌⊎◌, false≢true}
+use Rattle.search.proofs.Common.{both_ways, cases_order, eq-eqb, ne_eqb, lt-ltb, le-ltb, Operation, Contents, is_at_or_before, IsLeastOrder}
 
 -- lists with the same first number compare as the rest
 pub is_at_or_before-same : (x : ℕ) (xs ys : List ℕ) → is_at_or_before (x ∷ xs) (x ∷ ys) ≡ is_at_or_before xs ys
@@ -18,7 +14,8 @@ is_at_or_before-lower x xs y ys h = rw (ne_eqb x y (omega arith)) (lt-ltb x y h)
 pub is_at_or_before-higher : (x : ℕ) (xs : List ℕ) (y : ℕ) (ys : List ℕ) → y < x → is_at_or_before (x ∷ xs) (y ∷ ys) ≡ false
 is_at_or_before-higher x xs y ys h = rw (ne_eqb x y (omega arith)) (le-ltb x y (omega arith))
 
--- of two lists in order, the first number is lower, or it is the same and the rest is in order
+-- if two lists are in order, the first number of the first is lower, or it is the same and the rest
+-- is in order
 pub is_at_or_before-cases : (x : ℕ) (xs : List ℕ) (y : ℕ) (ys : List ℕ) → is_at_or_before (x ∷ xs) (y ∷ ys) ≡ true
     → (x < y) ⊎ ((x ≡ y) × (is_at_or_before xs ys ≡ true))
 is_at_or_before-cases x xs y ys h = ⊎_elim
@@ -31,7 +28,7 @@ pub is_at_or_before-refl : (xs : List ℕ) → is_at_or_before xs xs ≡ true
 is_at_or_before-refl [] = refl
 is_at_or_before-refl (x ∷ xs) = is_at_or_before-same x xs xs ∙ is_at_or_before-refl xs
 
--- of two lists, one is at or before the other
+-- one of two lists is at or before the other
 pub is_at_or_before-total : (xs ys : List ℕ) → (is_at_or_before xs ys ≡ true) ⊎ (is_at_or_before ys xs ≡ true)
 is_at_or_before-total [] ys = inl refl
 is_at_or_before-total (x ∷ xs) [] = inr refl

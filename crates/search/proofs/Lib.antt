@@ -1,3 +1,4 @@
+mod Common
 pub mod CountLemmas
 pub mod FutureLemmas
 pub mod LeastOrderLemmas

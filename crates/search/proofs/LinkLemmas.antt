@@ -1,24 +1,15 @@
 -- Nodes that are taken out of a list by its links, and put back.
-use Rattle.std.proofs.Common.{◌≡◌, ℕ, zero, suc, ◌+◌, ◌<◌, ◌≤◌, ◌==◌, Bool, true, false, not, ◌||◌, List, [], ◌∷◌, ◌++◌, length, set, refl}
-use Rattle.std.proofs.Common.{sym, ap, ◌∙◌, subst}
-use Rattle.std.proofs.Common.{inl, inr, ⊎_elim, arith}
-use Rattle.std.specs.Prelude.{◌≢◌, ◌⊎◌, slice_index, filter, All, AllPairs, Contains}
-use Rattle.std.proofs.lemmas.Bool.{both_ways, cases_Bool, false_from_ne_true, eq-eqb}
-use Rattle.std.proofs.lemmas.List.{get_or-set_same, get_or-set_other, set-get_or, length-set}
-use Rattle.std.proofs.lemmas.List.Elements.{All-head, All-tail, All-contains, All-weaker, Contains-append_cases, Contains-append_left}
-use Rattle.std.proofs.lemmas.List.Elements.{Contains-append_right}
-use Rattle.std.proofs.lemmas.List.Elements.{filter-append}
-use Rattle.list_laws.specs.Lists.{has_number}
-use Rattle.list_laws.proofs.Lists.{AllPairs-head, AllPairs-tail, AllPairs-back, AllPairs-across, Contains-first, Contains-later}
-use Rattle.list_laws.proofs.Lists.{Contains-nil, Contains-cases}
-use Rattle.list_laws.proofs.Lists.{Contains-split, Contains-filter, Contains-from_filter, Contains-range, filter_all, All-from_contains}
+use Rattle.search.proofs.Common.{◌≡◌, ℕ, zero, suc, ◌+◌, ◌<◌, ◌≤◌, ◌==◌, Bool, true, false, not, ◌||◌, List, [], ◌∷◌, ◌++◌, length, set, refl, sym}
+use Rattle.search.proofs.Common.{ap, ◌∙◌, subst, inl, inr, ⊎_elim, arith, ◌≢◌, ◌⊎◌, slice_index, filter, All, AllPairs, Contains, both_ways}
+use Rattle.search.proofs.Common.{cases_Bool, false_from_ne_true, eq-eqb, get_or-set_same, get_or-set_other, set-get_or, length-set, All-head}
+use Rattle.search.proofs.Common.{All-tail, All-contains, All-weaker, Contains-append_cases, Contains-append_left, Contains-append_right}
+use Rattle.search.proofs.Common.{filter-append, has_number, AllPairs-head, AllPairs-tail, AllPairs-back, AllPairs-across, Contains-first}
+use Rattle.search.proofs.Common.{Contains-later, Contains-nil, Contains-cases, Contains-split, Contains-filter, Contains-from_filter, Contains-range}
+use Rattle.search.proofs.Common.{filter_all, All-from_contains, IsStrictlyIncreasing-range, range_with_len, AllPairs-cons, AllPairs-filter}
+use Rattle.search.proofs.Common.{AllPairs-from_increasing, has_number-Contains, has_number-from_Contains, LinksView, AreWithin, unlinked, put_back}
+use Rattle.search.proofs.Common.{linked_last, IsChain, without, AreLeft}
 use Rattle.list_laws.proofs.FilterLemmas.{filter_implied}
-use Rattle.list_laws.proofs.RisingLemmas.{IsStrictlyIncreasing-range}
-use Rattle.std.specs.List.{range_with_len}
 use Rattle.std.proofs.lemmas.List.FromFn.{length-range_with_len, get_or-range_with_len}
-use Rattle.std.proofs.lemmas.List.Kept.{AllPairs-cons, AllPairs-filter, AllPairs-from_increasing}
-use Rattle.list_laws.proofs.NumberLemmas.{has_number-Contains, has_number-from_Contains}
-use Rattle.search.specs.Links.{LinksView, AreWithin, unlinked, put_back, linked_last, IsChain, without, AreLeft}
 
 -- the numbers of a range are below its end
 pub range_below : (size n : ℕ) → Contains (range_with_len 0 size) n → n < size

@@ -1,23 +1,11 @@
 -- The longest front, as a walk goes on.
-use Rattle.std.proofs.Common.{◌≡◌, true, false, refl, ℕ, ◌<◌, ◌≤◌, List, [], ◌∷◌, ◌++◌, length, sym, ap, ◌∙◌, subst, ⊎_elim, arith}
-use Rattle.std.specs.Prelude.{All, Contains, slice_index}
-use Rattle.std.proofs.lemmas.Bool.{cases_Bool}
-use Rattle.std.proofs.lemmas.List.{length-map}
-use Rattle.std.proofs.lemmas.List.Elements.{All-contains, All-weaker, Contains-append_left, Contains-push_cases}
-use Rattle.configurations.specs.Configurations.{Configuration, LeadsTo}
-use Rattle.configurations.specs.Fronts.{IsFront}
-use Rattle.configurations.proofs.ConfigurationLemmas.{configuration_of, LeadsTo-nil, LeadsTo-exists}
-use Rattle.configurations.proofs.FrontLemmas.{IsFront-nil}
-use Rattle.list_laws.proofs.Lists.{All-from_contains, Contains-at, Contains-nil, Contains-cases}
-use Rattle.segments.specs.SegmentView.{SegmentView}
-use Rattle.segments.specs.SegmentOrders.{numbers_at}
-use Rattle.search.specs.declared.standing.Level.{Level}
-use Rattle.search.specs.declared.standing.Standing.{Standing}
-use Rattle.search.specs.Cursor.{cursor}
-use Rattle.search.specs.LeastOrder.{is_at_or_before}
+use Rattle.search.proofs.Common.{◌≡◌, true, false, refl, ℕ, ◌<◌, ◌≤◌, List, [], ◌∷◌, ◌++◌, length, sym, ap, ◌∙◌, subst, ⊎_elim, arith, All, Contains}
+use Rattle.search.proofs.Common.{slice_index, cases_Bool, length-map, All-contains, All-weaker, Contains-append_left, Contains-push_cases}
+use Rattle.search.proofs.Common.{Configuration, LeadsTo, IsFront, configuration_of, LeadsTo-nil, LeadsTo-exists, IsFront-nil, All-from_contains}
+use Rattle.search.proofs.Common.{Contains-at, Contains-nil, Contains-cases, SegmentView, numbers_at, Level, Standing, cursor, is_at_or_before, places}
+use Rattle.search.proofs.Common.{Stands, HasMoved}
 use Rattle.search.proofs.BeforeLemmas.{ComesBefore-from_at_or_before}
 use Rattle.search.proofs.CursorLemmas.{visited_from_front}
-use Rattle.search.specs.Standing.{places, Stands, HasMoved}
 use Rattle.search.proofs.EarliestLemmas.{length-taken}
 
 -- the front leads to a configuration that was visited, none of which has more calls taken, and it is the least of the fronts as long
@@ -48,7 +36,7 @@ module _ (segment : SegmentView) (standing : Standing) (s : Stands segment.start
   as_many : (c : Configuration) → LeadsTo segment.start segment.calls path c → length c.taken ≡ length path
   as_many c leads = length-taken segment.start segment.calls path c s.cursor.is_front leads
 
-  -- and there are as many as levels
+  -- as many calls are taken as there are levels
   pub as_long : length path ≡ length standing.levels.items
   as_long = length-map standing.levels.items (λ (l : Level). l.place)
 
@@ -138,7 +126,7 @@ module _ (segment : SegmentView) (old new : Standing) (longest : List ℕ) (stoo
         least = least;
       }
     where
-      -- no front as long was behind the cursor
+      -- no front as long was after the cursor
       none_behind : (other : List ℕ) → IsFront segment.start segment.calls other → length other ≡ length (places new.levels.items)
           → is_at_or_before (cursor (places old.levels.items) old.next) other ≡ false → ⊥
       none_behind other is_front long before =

@@ -1,10 +1,6 @@
--- Whether a configuration was visited can be told.
-use Rattle.std.proofs.Common.{◌≡◌, Bool, true, false, List, [], ◌∷◌, subst, inl, inr, ⊎_elim}
-use Rattle.std.specs.Prelude.{◌⊎◌, ◌↔◌, Contains, IsTrue}
-use Rattle.std.proofs.lemmas.Bool.{both_ways, cases_Bool}
-use Rattle.configurations.specs.Configurations.{Configuration}
-use Rattle.list_laws.proofs.Lists.{Contains-first, Contains-later, Contains-nil, Contains-cases}
-use Rattle.memo.specs.Equality.{is_same, Decides-is_same}
+-- Whether a configuration was visited can be decided.
+use Rattle.search.proofs.Common.{◌≡◌, Bool, true, false, List, [], ◌∷◌, subst, inl, inr, ⊎_elim, ◌⊎◌, ◌↔◌, Contains, IsTrue, both_ways, cases_Bool}
+use Rattle.search.proofs.Common.{Configuration, Contains-first, Contains-later, Contains-nil, Contains-cases, is_same, Decides-is_same}
 
 pub visited_or_not : (visited : List Configuration) (c : Configuration) → Contains visited c ⊎ (Contains visited c → ⊥)
 visited_or_not [] c = inr (λ h. Contains-nil c h)

@@ -1,18 +1,8 @@
 -- There is one longest front that a search meets.
-use Rattle.std.proofs.Common.{◌≡◌, ℕ, ◌≤◌, true, List, [], ◌∷◌, ◌++◌, length, sym, ap, ◌∙◌, subst, ⊎_elim, arith}
-use Rattle.std.specs.Prelude.{◌≢◌, Contains}
-use Rattle.std.proofs.lemmas.List.{length-append, get_or_default}
-use Rattle.std.proofs.lemmas.List.Elements.{All-contains, Contains-push_cases}
-use Rattle.std.proofs.lemmas.List.Quantifiers.{all_pairs_push}
-use Rattle.events.specs.declared.operation.Operation.{Operation}
-use Rattle.events.specs.Precedence.{NonePrecedesItself}
-use Rattle.map_object.specs.MapObject.{Contents}
-use Rattle.configurations.specs.Configurations.{Configuration}
-use Rattle.list_laws.proofs.Lists.{All-from_contains, length-distinct}
-use Rattle.segments.specs.SegmentView.{SegmentView}
-use Rattle.segments.specs.SegmentOrders.{numbers_at}
-use Rattle.search.specs.LeastOrder.{is_at_or_before}
-use Rattle.search.specs.LongestFront.{HasMetEnough, IsMetInTurn, IsLongestFront}
+use Rattle.search.proofs.Common.{◌≡◌, ℕ, ◌≤◌, true, List, [], ◌∷◌, ◌++◌, length, sym, ap, ◌∙◌, subst, ⊎_elim, arith, ◌≢◌, Contains, length-append}
+use Rattle.search.proofs.Common.{get_or_default, All-contains, Contains-push_cases, all_pairs_push, Operation, NonePrecedesItself, Contents}
+use Rattle.search.proofs.Common.{Configuration, All-from_contains, length-distinct, SegmentView, numbers_at, is_at_or_before, HasMetEnough}
+use Rattle.search.proofs.Common.{IsMetInTurn, IsLongestFront}
 use Rattle.search.proofs.CountLemmas.{counted_within}
 use Rattle.search.proofs.EarliestLemmas.{length-taken}
 use Rattle.search.proofs.ExistsLemmas.{has_count}
@@ -20,7 +10,7 @@ use Rattle.search.proofs.LeastOrderLemmas.{is_at_or_before-total, is_at_or_befor
 use Rattle.search.proofs.MemoLemmas.{visited_or_not}
 
 module _ (start : Contents) (calls : List Operation) (budget : ℕ) where
-  -- of two lists of configurations met, what is in one alone came behind all of the other
+  -- take two lists of configurations met: what is only in one came after all of the other
   all_before : (met others : List Configuration) → HasMetEnough start calls budget met → HasMetEnough start calls budget others
       → (c : Configuration)
       → Contains met c → (Contains others c → ⊥) → (d : Configuration) → Contains others d → Contains met d
@@ -56,7 +46,7 @@ module _ (start : Contents) (calls : List Operation) (budget : ℕ) where
       )))
       (visited_or_not others c)
 
--- so the longest fronts are as long
+-- the longest fronts of two searches are equally long
 no_longer : (budget : ℕ) (segment : SegmentView) (a b : List ℕ) → NonePrecedesItself segment.calls → (h : IsLongestFront budget segment a)
     → (k : IsLongestFront budget segment b) → length h.places ≤ length k.places
 no_longer budget segment a b apart h k =

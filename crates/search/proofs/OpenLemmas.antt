@@ -1,28 +1,13 @@
--- The links of a walk before its first call, and where it stands there.
-use Rattle.std.proofs.Common.{◌≡◌, ℕ, zero, suc, ◌+◌, ◌-◌, ◌<◌, ◌≤◌, true, List, Some, [], ◌∷◌, ◌++◌, length, get_or, set, take, drop, replicate, refl}
-use Rattle.std.proofs.Common.{sym, ap, ◌∙◌}
-use Rattle.std.proofs.Common.{subst, inl, inr, ⊎_elim, arith}
-use Rattle.std.specs.Prelude.{◌≢◌, ◌⊎◌, slice_get, slice_index, All, AllPairs, Contains}
-use Rattle.std.specs.List.{range_with_len}
-use Rattle.std.proofs.lemmas.Bool.{cases_lt}
-use Rattle.std.proofs.lemmas.List.{length-set, length-replicate, get_or-replicate, take_more, take-append-drop}
-use Rattle.std.proofs.lemmas.List.Elements.{All-nil, All-cons, All-weaker, All-contains, All-take, Contains-get_or, Contains-append_left}
-use Rattle.std.proofs.lemmas.List.Elements.{Contains-append_right}
-use Rattle.std.proofs.lemmas.List.Elements.{Contains-append_cases}
-use Rattle.std.proofs.lemmas.List.Kept.{AllPairs-cons}
-use Rattle.std.proofs.lemmas.Option.{none-some}
+-- The links of a walk before its first call, and its state there.
+use Rattle.search.proofs.Common.{◌≡◌, ℕ, zero, suc, ◌+◌, ◌-◌, ◌<◌, ◌≤◌, true, List, Some, [], ◌∷◌, ◌++◌, length, get_or, set, take, drop, replicate}
+use Rattle.search.proofs.Common.{refl, sym, ap, ◌∙◌, subst, inl, inr, ⊎_elim, arith, ◌≢◌, ◌⊎◌, slice_get, slice_index, All, AllPairs, Contains}
+use Rattle.search.proofs.Common.{range_with_len, cases_lt, length-set, length-replicate, get_or-replicate, take_more, take-append-drop, All-nil}
+use Rattle.search.proofs.Common.{All-cons, All-weaker, All-contains, All-take, Contains-get_or, Contains-append_left, Contains-append_right}
+use Rattle.search.proofs.Common.{Contains-append_cases, AllPairs-cons, none-some, Operation, is_before, NonePrecedesItself, Contents, Configuration}
+use Rattle.search.proofs.Common.{AllPairs-nil, AllPairs-append, AllPairs-front, AllPairs-back, AllPairs-across, All-front, All-back, Contains-first}
+use Rattle.search.proofs.Common.{Contains-later, Contains-cases, Contains-nil, All-from_contains, configuration_of, LeadsTo-nil, Level, LinksView}
+use Rattle.search.proofs.Common.{AreWithin, no_links, linked_last, IsChain, IsNoLater, IsByAnswer, IsLinkedByAnswer, StandsWith}
 use Rattle.std.proofs.Math.Seq.{drop-cons}
-use Rattle.events.specs.declared.operation.Operation.{Operation}
-use Rattle.events.specs.Precedence.{is_before, NonePrecedesItself}
-use Rattle.map_object.specs.MapObject.{Contents}
-use Rattle.configurations.specs.Configurations.{Configuration}
-use Rattle.list_laws.proofs.Lists.{AllPairs-nil, AllPairs-append, AllPairs-front, AllPairs-back, AllPairs-across, All-front, All-back, Contains-first}
-use Rattle.list_laws.proofs.Lists.{Contains-later}
-use Rattle.list_laws.proofs.Lists.{Contains-cases, Contains-nil, All-from_contains}
-use Rattle.configurations.proofs.ConfigurationLemmas.{configuration_of, LeadsTo-nil}
-use Rattle.search.specs.declared.standing.Level.{Level}
-use Rattle.search.specs.Links.{LinksView, AreWithin, no_links, linked_last, IsChain}
-use Rattle.search.specs.Standing.{IsNoLater, IsByAnswer, IsLinkedByAnswer, StandsWith}
 use Rattle.search.proofs.LinkLemmas.{IsChain-push, IsNextLeft, IsNextLeft-first}
 use Rattle.search.proofs.CursorLemmas.{StandsAtCursor-open, StandsAtCursor-pass}
 
@@ -64,7 +49,7 @@ not_before xs i d lt distinct = All-from_contains (λ n. n ≢ get_or xs i d) (t
     All-contains (λ x. All (λ k. x ≢ k) (get_or xs i d ∷ drop (suc i) xs)) (take i xs) n
     (AllPairs-across (λ a b. a ≢ b) (take i xs) (get_or xs i d ∷ drop (suc i) xs) parts) h 0 d (omega arith))
 
--- a call that stands by its answer is a node
+-- a call that is sorted by its answer is a node
 pub node_within : (calls : List Operation) (order : List ℕ) (i d size len : ℕ) → IsByAnswer calls size order → i < length order
     → len ≡ size + 1
     → get_or order i d < len
@@ -88,7 +73,7 @@ IsChain-next calls order l i d size sorted within len lt chain =
 
 -- ---- the order of answers
 
--- no call stands among none
+-- no call is among none
 pub IsByAnswer-nil : (calls : List Operation) → IsByAnswer calls 0 []
 IsByAnswer-nil calls = record {
   below = All-nil (λ n. n < 0);
@@ -97,7 +82,8 @@ IsByAnswer-nil calls = record {
   sorted = AllPairs-nil (IsNoLater calls);
 }
 
--- a call put among others that stand by their answers, behind those answered no later and before those answered no earlier
+-- a call put among others that are sorted by their answers, after those answered no later and
+-- before those answered no earlier
 pub IsByAnswer-insert : (calls : List Operation) (n at : ℕ) (order : List ℕ) → IsByAnswer calls n order
     → All (λ m. IsNoLater calls m n) (take at order)
     → All (IsNoLater calls n) (drop at order) → IsByAnswer calls (n + 1) (take at order ++ n ∷ drop at order)
@@ -157,7 +143,7 @@ IsByAnswer-insert calls n at order sorted before behind = record {
         (λ back. Contains-append_right (take at order) (n ∷ drop at order) m (Contains-later n (drop at order) m back))
         (Contains-append_cases (take at order) (drop at order) m (subst (λ xs. Contains xs m) whole h))
 
--- of two calls, the first is answered no later where the second's answer is no earlier
+-- the first of two calls is answered no later, if the second's answer is no earlier
 pub IsNoLater-from_read : (calls : List Operation) (m n : ℕ) (a b : Operation) → slice_get calls m ≡ Some a → slice_get calls n ≡ Some b
     → ((place : ℕ) → is_before b.response place ≡ true → is_before a.response place ≡ true) → IsNoLater calls m n
 IsNoLater-from_read calls m n a b here there h = λ place answered. rw here (h place (rw there at answered))

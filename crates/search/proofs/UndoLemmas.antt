@@ -1,17 +1,11 @@
 -- A change of one key is undone by putting the key back.
-use Rattle.std.proofs.Common.{◌≡◌, ℕ, ◌<◌, Bool, true, false, Option, Some, None, [], ◌∷◌, ◌++◌, refl, sym, ap, ◌∙◌, inl, inr, ⊎_elim}
-use Rattle.std.proofs.Common.{arith}
-use Rattle.std.specs.Prelude.{◌⊎◌, All, if◌then◌else◌}
-use Rattle.std.proofs.lemmas.Bool.{cases_order}
+use Rattle.search.proofs.Common.{◌≡◌, ℕ, ◌<◌, Bool, true, false, Option, Some, None, [], ◌∷◌, ◌++◌, refl, sym, ap, ◌∙◌, inl, inr, ⊎_elim, arith, ◌⊎◌}
+use Rattle.search.proofs.Common.{All, if◌then◌else◌, cases_order, Call, Contents, IsRising, value_at, below, above, after, put, is_just}
+use Rattle.search.proofs.Common.{AllPairs-head, AllPairs-tail, restoring}
 use Rattle.std.proofs.lemmas.Bool.Decides.{nat_tests}
-use Rattle.events.specs.declared.event.Call.{Call}
 use Rattle.events.specs.declared.event.Call.TheVariants.{Insert, Remove, Replace}
-use Rattle.map_object.specs.MapObject.{Contents, IsRising, value_at, below, above, after, put, is_just}
-use Rattle.list_laws.proofs.Lists.{AllPairs-head, AllPairs-tail}
-use Rattle.map_object.proofs.MapLemmas.{AreAbove, AreBelow-below, AreAbove-above, below_none, above_all, value_at_above, below_found}
-use Rattle.map_object.proofs.MapLemmas.{above_found, below_gap}
-use Rattle.map_object.proofs.MapLemmas.{above_gap}
-use Rattle.search.specs.Undo.{restoring}
+use Rattle.map_object.proofs.MapLemmas.{AreAbove, AreBelow-below, AreAbove-above, below_none, above_all, value_at_above, below_found, above_found}
+use Rattle.map_object.proofs.MapLemmas.{below_gap, above_gap}
 
 -- pairs with the value of a key, or none, between those below it and those above
 abbrev pub with_value : ℕ → Option ℕ → Contents → Contents → Contents

@@ -1,47 +1,21 @@
--- How a walk stands after each of its steps.
-use Rattle.std.proofs.Common.{◌≡◌, ℕ, ◌+◌, ◌-◌, ◌<◌, ◌≤◌, not, true, List, Option, Some, None, [], ◌∷◌, ◌++◌, length, take, reverse, refl}
-use Rattle.std.proofs.Common.{sym, ap, ◌∙◌, subst}
-use Rattle.std.proofs.Common.{⊎_elim, arith}
-use Rattle.std.specs.Prelude.{◌⊎◌, ◌↔◌, slice_get, slice_index, AllPairs, Contains}
-use Rattle.std.specs.List.{range_with_len}
-use Rattle.std.specs.List.Sorted.{IsStrictlyIncreasing}
-use Rattle.std.proofs.lemmas.List.Kept.{AllPairs-filter}
+-- The state of a walk after each of its steps.
+use Rattle.search.proofs.Common.{◌≡◌, ℕ, ◌+◌, ◌-◌, ◌<◌, ◌≤◌, not, true, List, Option, Some, None, [], ◌∷◌, ◌++◌, length, take, reverse, refl, sym, ap}
+use Rattle.search.proofs.Common.{◌∙◌, subst, ⊎_elim, arith, ◌⊎◌, ◌↔◌, slice_get, slice_index, AllPairs, Contains, range_with_len}
+use Rattle.search.proofs.Common.{IsStrictlyIncreasing, AllPairs-filter, false≢true, cases_order, lt-ltb, ltb-true, append-nil, map-append}
+use Rattle.search.proofs.Common.{reverse-append, take-append-le, take_at, length-set, All-contains, same_Some, slice_get_within, Call, Operation}
+use Rattle.search.proofs.Common.{Response, has_number, is_before, NonePrecedesItself, Contents, IsLegalCall, after_call, IsOrder, IsFront, PrecedesAt}
+use Rattle.search.proofs.Common.{Configuration, LeadsTo, slice_get-append_left, slice_get-middle, place-push, AllPairs-head, AllPairs-at}
+use Rattle.search.proofs.Common.{Contains-first, Contains-nil, Contains-cases, Contains-range, All-from_contains, slice_get-below, after_calls-push}
+use Rattle.search.proofs.Common.{IsStrictlyIncreasing-range, IsFront-push, IsNext, IsNext-from_front, LeadsTo-push, Level, cursor, StandsAtCursor}
+use Rattle.search.proofs.Common.{RemainsBefore, IsEarliestAnswer, LinksView, AreWithin, unlinked, put_back, AreLeft, without, undone, first_pairs}
+use Rattle.search.proofs.Common.{IsExhausted, places, pairs_after, IsConfigurationAt, Remembers, IsAnsweredBefore, IsNoLater, AreLinksOf, StandsWith}
+use Rattle.search.proofs.Common.{untried}
 use Rattle.std.proofs.lemmas.List.Sorted.{IsPermutation-sym, IsPermutation-reverse, Contains-permutation}
-use Rattle.std.proofs.lemmas.Bool.{false≢true, cases_order, lt-ltb, ltb-true}
-use Rattle.std.proofs.lemmas.List.{append-nil, map-append, reverse-append, take-append-le, take_at, length-set}
-use Rattle.std.proofs.lemmas.List.Elements.{All-contains}
-use Rattle.std.proofs.lemmas.Option.{same_Some, slice_get_within}
-use Rattle.events.specs.declared.event.Call.{Call}
-use Rattle.events.specs.declared.operation.Operation.{Operation}
-use Rattle.events.specs.declared.operation.Response.{Response}
-use Rattle.list_laws.specs.Lists.{has_number}
-use Rattle.events.specs.Precedence.{is_before, NonePrecedesItself}
-use Rattle.map_object.specs.MapObject.{Contents}
-use Rattle.orders.specs.Orders.{IsLegalCall, after_call, IsOrder}
-use Rattle.configurations.specs.Fronts.{IsFront, PrecedesAt}
-use Rattle.configurations.specs.Configurations.{Configuration, LeadsTo}
-use Rattle.list_laws.proofs.Lists.{slice_get-append_left, slice_get-middle, place-push, AllPairs-head, AllPairs-at, Contains-first}
-use Rattle.list_laws.proofs.Lists.{Contains-nil}
-use Rattle.list_laws.proofs.Lists.{Contains-cases, Contains-range, All-from_contains}
-use Rattle.list_laws.proofs.NumberLemmas.{slice_get-below}
-use Rattle.orders.proofs.OrderLemmas.{after_calls-push}
-use Rattle.list_laws.proofs.RisingLemmas.{IsStrictlyIncreasing-range}
-use Rattle.configurations.proofs.FrontLemmas.{IsFront-push, IsNext, IsNext-from_front}
-use Rattle.configurations.proofs.ConfigurationLemmas.{LeadsTo-push}
-use Rattle.search.specs.declared.standing.Level.{Level}
-use Rattle.search.specs.Cursor.{cursor, StandsAtCursor}
-use Rattle.search.specs.Remaining.{RemainsBefore, IsEarliestAnswer}
-use Rattle.search.specs.Links.{LinksView, AreWithin, unlinked, put_back, AreLeft, without}
-use Rattle.search.specs.Undo.{undone}
-use Rattle.search.specs.Standing.{first_pairs, IsExhausted, places, pairs_after, IsConfigurationAt, Remembers, IsAnsweredBefore, IsNoLater}
-use Rattle.search.specs.Standing.{AreLinksOf, StandsWith, untried}
 use Rattle.search.proofs.LinkLemmas.{range_below, first_or, after-end, IsChain-left, AreLeft-take, left-Contains, left-from_Contains}
-use Rattle.search.proofs.LinkLemmas.{IsNextLeft-first}
-use Rattle.search.proofs.LinkLemmas.{IsNextLeft-after}
+use Rattle.search.proofs.LinkLemmas.{IsNextLeft-first, IsNextLeft-after}
 use Rattle.search.proofs.EarliestLemmas.{distinct_from_increasing}
 use Rattle.search.proofs.BeforeLemmas.{ComesBefore-itself}
-use Rattle.search.proofs.CursorLemmas.{taken_again, StandsAtCursor-pass, StandsAtCursor-seen, StandsAtCursor-push, StandsAtCursor-pop}
-use Rattle.search.proofs.CursorLemmas.{none_at_end}
+use Rattle.search.proofs.CursorLemmas.{taken_again, StandsAtCursor-pass, StandsAtCursor-seen, StandsAtCursor-push, StandsAtCursor-pop, none_at_end}
 use Rattle.search.proofs.CursorLemmas.{HasCount-at_end}
 
 -- ---- lists
@@ -138,14 +112,14 @@ module _ (calls : List Operation) (path : List ℕ) (by_number by_answer : Links
           (left-from_Contains links.order (reverse path) y (subst (λ zs. Contains zs y) (sym same) (Contains-first y ys))).1
           (Contains-reverse path y (subst (Contains path) y_is taken))
 
-  -- it was answered before a place where one that remains was
+  -- if a call that remains was answered before a place, so was the first call left by answer
   answered_first : (x : ℕ) (a : Operation) → slice_index by_answer.after size ≡ x → x < size → slice_get calls x ≡ Some a → (place : ℕ)
       → RemainsBefore calls path place → is_before a.response place ≡ true
   answered_first x a is lt here place r =
       let h : IsAnsweredBefore calls x place = first_is_earliest answers refl place r x (sym first_answer ∙ is) lt in
       rw here at h
 
-  -- its answer is the earliest
+  -- the answer of the first call left by answer is the earliest
   pub earliest-first : (x : ℕ) (a : Operation) → slice_index by_answer.after size ≡ x → x < size → slice_get calls x ≡ Some a
       → (response : Option Response)
       → a.response ≡ response → IsEarliestAnswer calls path (answer_place response)
@@ -250,13 +224,13 @@ module _ (start : Contents) (calls : List Operation) (apart : NonePrecedesItself
           LeadsTo-push start calls (places levels) next a c d by here up taken
           (held ∙ ap (λ m. after_call m a.call a.response) (s.holds ∙ sym by.pairs))
 
-      -- it was visited
+      -- the configuration was visited
       pub cursor-seen : (d : Configuration) → LeadsTo start calls (cursor (places levels) next) d → Contains visited d
           → StandsAtCursor start calls (places levels) (next + 1) visited
       cursor-seen d leads within = StandsAtCursor-seen start calls (places levels) next visited s.cursor apart d IsFront-taken
           leads within not_order
 
-      -- it is new
+      -- the configuration is new
       module _ (d : Configuration) (leads : LeadsTo start calls (cursor (places levels) next) d) (new : Contains visited d → ⊥)
           (undo : Option Call)
           (level : Level) (place_is : level.place ≡ next) (at_is : level.at ≡ at) (after_pairs : Contents)
@@ -448,7 +422,7 @@ module _ (start : Contents) (calls : List Operation) (apart : NonePrecedesItself
     answer_parts : AreLeft (length calls) s.links.order (level.place ∷ reverse (places levels)) by_answer
     answer_parts = subst (λ out. AreLeft (length calls) s.links.order out by_answer) (reverse-push levels level) s.links.answers_left
 
-    -- the walk stands before the call again, which it has tried
+    -- the walk is before the call again, which it has tried
     pub StandsWith-back : (restored : Contents) → restored ≡ undone pairs level.undo
         → StandsWith start calls levels (slice_index (put_back by_number level.place).after level.place) level.at restored visited
         (put_back by_number level.place)
@@ -485,7 +459,7 @@ module _ (start : Contents) (calls : List Operation) (apart : NonePrecedesItself
         (omega (arith, left.later)) left.within in
         omega (arith, less, untried-push (length calls) levels level next)
 
--- a walk whose parts are these stands so
+-- a walk whose parts are equal to these is in the same state
 pub StandsWith-same : (start : Contents) (calls : List Operation) (levels l : List Level) (next n at a : ℕ) (pairs m : Contents)
     (visited v : List Configuration)
     (by_number b by_answer d : LinksView) → l ≡ levels → n ≡ next → a ≡ at → m ≡ pairs → v ≡ visited → b ≡ by_number → d ≡ by_answer

@@ -1,15 +1,9 @@
 -- The calls of a history that belong to a segment, found one after another.
-use Rattle.std.proofs.Common.{◌≡◌, ℕ, ◌+◌, ◌<◌, true, false, List, [], ◌∷◌, ◌++◌, length, get_or, Some, sym, subst}
-use Rattle.std.proofs.Common.{⊎_elim, arith}
-use Rattle.std.specs.Prelude.{◌↔◌, ◌⊎◌, slice_get, IsTrue, IsSomeAnd, AllPairs, Contains}
-use Rattle.std.proofs.lemmas.Bool.{both_ways}
-use Rattle.std.proofs.lemmas.List.Elements.{Contains-append_left, Contains-push, Contains-push_cases, Contains-get_or}
+use Rattle.segments.proofs.Common.{◌≡◌, ℕ, ◌+◌, ◌<◌, true, false, List, [], ◌∷◌, ◌++◌, length, get_or, Some, sym, subst, ⊎_elim, arith, ◌↔◌, ◌⊎◌}
+use Rattle.segments.proofs.Common.{slice_get, IsTrue, IsSomeAnd, AllPairs, Contains, both_ways, Contains-append_left, Contains-push}
+use Rattle.segments.proofs.Common.{Contains-push_cases, Contains-get_or, slice_get_within, Operation, belongs, some_at}
 use Rattle.std.proofs.lemmas.List.Quantifiers.{all_pairs_push}
-use Rattle.std.proofs.lemmas.Option.{slice_get_within}
-use Rattle.events.specs.declared.operation.Operation.{Operation}
-use Rattle.events.specs.Precedence.{belongs}
 use Rattle.segments.specs.Cuts.{BelongsAt}
-use Rattle.list_laws.proofs.NumberLemmas.{some_at}
 
 -- the numbers of the calls below a place that belong, by rising number
 pub record BelongBelow (calls : List Operation) (place : ℕ) (numbers : List ℕ) : Type 0 where
@@ -46,7 +40,7 @@ BelongBelow-take calls place numbers a h here belongs = record {
     below_more : (i n : ℕ) → n < i + 1 → (n < i) ⊎ (i ≡ n)
     below_more i n h = grind arith
 
--- no more, where it does not
+-- the call at the place does not belong, so no number is added
 pub BelongBelow-skip : (calls : List Operation) (place : ℕ) (numbers : List ℕ) (a : Operation) → BelongBelow calls place numbers
     → slice_get calls place ≡ Some a → belongs a ≡ false → BelongBelow calls (place + 1) numbers
 BelongBelow-skip calls place numbers a h here not_belongs = record {

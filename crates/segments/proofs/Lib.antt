@@ -1,3 +1,4 @@
+mod Common
 pub mod BelongingLemmas
 pub mod LocalityLemmas
 pub mod PartLemmas

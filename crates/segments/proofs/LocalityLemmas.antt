@@ -1,24 +1,12 @@
 -- An order of all calls gives each segment an order, so a segment without order refutes the history.
-use Rattle.std.proofs.Common.{◌≡◌, ℕ, ◌<◌, false, List, length, get_or, filter, sym, ap, ap₂, ◌∙◌, subst}
-use Rattle.std.specs.Prelude.{◌≢◌, slice_get, slice_index, All, Contains}
-use Rattle.std.proofs.lemmas.List.Elements.{All-filter, All-contains, Contains-get_or}
-use Rattle.std.proofs.lemmas.List.Kept.{AllPairs-filter}
-use Rattle.events.specs.declared.operation.Operation.{Operation}
-use Rattle.list_laws.specs.Lists.{has_number}
-use Rattle.events.specs.Precedence.{precedes}
-use Rattle.map_object.specs.MapObject.{Contents, within}
-use Rattle.orders.specs.Orders.{calls_at, IsLegalOrder, IsCompletedAt, IsOrder, IsLinearizable}
-use Rattle.segments.specs.SegmentView.{SegmentView}
-use Rattle.segments.specs.Segments.{IsSegment, AreSegments}
+use Rattle.segments.proofs.Common.{◌≡◌, ℕ, ◌<◌, false, List, length, get_or, filter, sym, ap, ap₂, ◌∙◌, subst, ◌≢◌, slice_get, slice_index, All}
+use Rattle.segments.proofs.Common.{Contains, All-filter, All-contains, Contains-get_or, AllPairs-filter, Operation, has_number, precedes, Contents}
+use Rattle.segments.proofs.Common.{within, calls_at, IsLegalOrder, IsCompletedAt, IsOrder, IsLinearizable, SegmentView, IsSegment, AreSegments}
+use Rattle.segments.proofs.Common.{All-from_contains, has_number-Contains, has_number-from_Contains, Contains-map, Contains-filter}
+use Rattle.segments.proofs.Common.{Contains-from_filter, AreRelatedAs, AllPairs-filter_map, AllPairs-from_filter_map, length-calls_at}
 use Rattle.segments.specs.SegmentOrders.{IsOrderOf, HasNoOrder}
-use Rattle.list_laws.proofs.Lists.{All-from_contains}
-use Rattle.list_laws.proofs.NumberLemmas.{has_number-Contains, has_number-from_Contains}
-use Rattle.list_laws.proofs.FilterLemmas.{Contains-map, Contains-filter, Contains-from_filter, AreRelatedAs, AllPairs-filter_map}
-use Rattle.list_laws.proofs.FilterLemmas.{AllPairs-from_filter_map}
-use Rattle.orders.proofs.PlaceLemmas.{at_places, place_of, places_of, All-at_places, IsLegalOrder-numbers, IsLegalOrder-places}
-use Rattle.orders.proofs.PlaceLemmas.{IsCompletedAt-number}
+use Rattle.orders.proofs.PlaceLemmas.{at_places, place_of, places_of, All-at_places, IsLegalOrder-numbers, IsLegalOrder-places, IsCompletedAt-number}
 use Rattle.orders.proofs.PlaceLemmas.{IsCompletedAt-place, Contains-place}
-use Rattle.orders.proofs.CallsAtLemmas.{length-calls_at}
 use Rattle.segments.proofs.PartLemmas.{IsLegal-part}
 use Rattle.segments.proofs.SegmentLemmas.{known-IsSegment, calls-IsSegment, GoesByKeys-segment}
 
@@ -31,7 +19,8 @@ start_is : (start : Contents) (calls : List Operation) (segment : SegmentView) �
 start_is start calls segment h =
     ap (λ s. s.start) h.view ∙ ap₂ (λ lo hi. within lo hi start) (ap (λ s. s.lo) (sym h.view)) (ap (λ s. s.hi) (sym h.view))
 
--- the calls of a segment, as they stand in a legal order of all, are a legal order from the pairs of its keys on
+-- the calls of a segment, as they are in a legal order of all, are a legal order from the pairs of
+-- its keys on
 IsLegalOrder-restricted : (start : Contents) (calls : List Operation) (segments : List SegmentView) (segment : SegmentView) (order : List ℕ)
     → AreSegments start calls segments
     → Contains segments segment → IsLegalOrder start calls order
@@ -49,7 +38,7 @@ IsLegalOrder-restricted start calls segments s order are is h =
           (λ k d within. GoesByKeys-segment start calls segments s (get_or order k d) are is) h.legal;
     }
 
--- the calls of a segment, as they stand in an order of all, are an order of the segment
+-- the calls of a segment, as they are in an order of all, are an order of the segment
 pub IsOrderOf-restricted : (start : Contents) (calls : List Operation) (segments : List SegmentView)
     (segment : SegmentView) (order : List ℕ)
     → AreSegments start calls segments
@@ -86,7 +75,7 @@ IsOrderOf-restricted start calls segments s order are is h =
       },
     )
 
--- where some segment has no order, the history has none
+-- if some segment has no order, the history has none
 pub not_linearizable-segment : (start : Contents) (calls : List Operation) (segments : List SegmentView) → AreSegments start calls segments
     → All (λ s. HasNoOrder s → IsLinearizable start calls → ⊥) segments
 not_linearizable-segment start calls segments are =

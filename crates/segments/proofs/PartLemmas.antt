@@ -1,11 +1,6 @@
 -- Legal lists of calls by key ranges: what is legal falls into legal parts, and legal parts join.
-use Rattle.std.proofs.Common.{◌≡◌, ℕ, Bool, true, false, cond, List, [], ◌∷◌, filter, Option, Some, None, refl}
-use Rattle.std.specs.Prelude.{MatchBool, slice_get, All}
-use Rattle.std.specs.List.{cons_option}
-use Rattle.std.proofs.lemmas.List.Elements.{All-head, All-tail}
-use Rattle.events.specs.declared.operation.Operation.{Operation}
-use Rattle.map_object.specs.MapObject.{Contents, within}
-use Rattle.orders.specs.Orders.{after_call, IsLegal, calls_at}
+use Rattle.segments.proofs.Common.{◌≡◌, ℕ, Bool, true, false, cond, List, [], ◌∷◌, filter, Option, Some, None, refl, MatchBool, slice_get, All}
+use Rattle.segments.proofs.Common.{cons_option, All-head, All-tail, Operation, Contents, within, after_call, IsLegal, calls_at}
 use Rattle.segments.proofs.RangeLemmas.{IsInside, IsOutside, within-after_call, within_left_call, IsLegalCall-within}
 
 -- a test of numbers goes by a key range: the call of a number that passes is within it, and that of another leaves its pairs
@@ -51,7 +46,8 @@ IsLegal-part calls test low high m (n ∷ order) by_keys legal =
     part (Some a) e false keys h rest = rw (within_left_call low high m a.call a.response (keys a e)) at
         (rest (after_call m a.call a.response) h.1)
 
--- a list of calls is legal where each of them is in one of some ranges, and the calls of each range are legal by themselves
+-- a list of calls is legal where each of them is in one of some ranges, and the calls of each range
+-- are legal on their own
 pub IsLegal-from_parts : {I : Type 0} (calls : List Operation) (test : I → ℕ → Bool) (low high : I → ℕ) (m : Contents) (order : List ℕ)
     → ((i : I) → All (GoesByKeys calls (test i) (low i) (high i)) order) → All (λ n. (i : I) × (test i n ≡ true)) order
     → ((i : I) → IsLegal (within (low i) (high i) m) (calls_at calls (filter (test i) order))) → IsLegal m (calls_at calls order)

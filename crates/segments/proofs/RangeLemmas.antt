@@ -1,21 +1,13 @@
 -- The map by key ranges: what a call does to the pairs of a range.
 use Rattle.events.specs.declared.event.Reply.TheVariants as replies
-use Rattle.std.proofs.Common.{◌≡◌, ℕ, ◌<◌, ◌≤◌, Bool, true, false, ◌==◌, ◌&&◌, nat_le, nat_lt, cond, [], ◌∷◌, ◌++◌, Some, None, Option}
-use Rattle.std.proofs.Common.{get_or, refl, sym, ap, ◌∙◌, inl}
-use Rattle.std.proofs.Common.{inr, ⊎_elim, arith}
-use Rattle.std.specs.Prelude.{◌⊎◌, ◌↔◌, All}
-use Rattle.std.proofs.lemmas.Bool.{false≢true, and_parts, and_from, and_left, and_right, leb-true, le-leb, lt-leb, lt-ltb, le-ltb, eqb-true}
-use Rattle.std.proofs.lemmas.Bool.{cases_Bool}
-use Rattle.std.proofs.lemmas.List.{append-nil}
-use Rattle.std.proofs.lemmas.List.Elements.{filter-append, filter_passes}
-use Rattle.events.specs.declared.event.Call.{Call}
-use Rattle.events.specs.declared.event.Call.TheVariants.{Get, Insert, Remove, Scan, Replace}
+use Rattle.segments.proofs.Common.{◌≡◌, ℕ, ◌<◌, ◌≤◌, Bool, true, false, ◌==◌, ◌&&◌, nat_le, nat_lt, cond, [], ◌∷◌, ◌++◌, Some, None, Option, get_or}
+use Rattle.segments.proofs.Common.{refl, sym, ap, ◌∙◌, inl, inr, ⊎_elim, arith, ◌⊎◌, ◌↔◌, All, false≢true, and_parts, and_from, and_left, and_right}
+use Rattle.segments.proofs.Common.{leb-true, le-leb, lt-leb, lt-ltb, le-ltb, eqb-true, cases_Bool, append-nil, filter-append, filter_passes, Call}
+use Rattle.segments.proofs.Common.{Get, Insert, Remove, Scan, Replace, Contents, value_at, below, above, within, put, is_just, value_reply, reply_to}
+use Rattle.segments.proofs.Common.{after, after_reply, after_call, IsLegalCall, low_key, high_key, may_change, filter_comm, filter_implied}
+use Rattle.segments.proofs.Common.{filter_excluded}
 use Rattle.events.specs.declared.event.Reply.{Reply}
 use Rattle.events.specs.declared.operation.Response.{Response}
-use Rattle.map_object.specs.MapObject.{Contents, value_at, below, above, within, put, is_just, value_reply, reply_to, after, after_reply}
-use Rattle.orders.specs.Orders.{after_call, IsLegalCall}
-use Rattle.events.specs.Keys.{low_key, high_key, may_change}
-use Rattle.list_laws.proofs.FilterLemmas.{filter_comm, filter_implied, filter_excluded}
 
 -- whether a key is from low to high
 abbrev pub in_range : ℕ → ℕ → ℕ → Bool
@@ -190,7 +182,7 @@ after_reply_either P m n call replies.Done same changed = changed
 after_reply_either P m n call replies.Found same changed = changed
 after_reply_either P m n call replies.Other same changed = changed
 
--- and after a call of a history
+-- what holds after a call holds after a call of a history
 after_call_either : (P : Contents → Contents → Type 0) (m n : Contents) (call : Call) (response : Option Response) → P m n
     → P (after m call) (after n call)
     → P (after_call m call response) (after_call n call response)

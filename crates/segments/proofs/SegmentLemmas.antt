@@ -1,20 +1,10 @@
 -- Laws of segments: their calls and their keys.
-use Rattle.std.proofs.Common.{◌≡◌, ℕ, ◌<◌, Bool, true, false, List, length, Some, refl, sym, ap, ◌∙◌, subst, inl, inr, ⊎_elim, arith}
-use Rattle.std.specs.Prelude.{slice_get, IsTrue, MatchBool, All, Contains}
-use Rattle.std.proofs.lemmas.Bool.{true≢false, cases_order, or_parts}
-use Rattle.std.proofs.lemmas.List.Elements.{All-contains}
-use Rattle.std.proofs.lemmas.Option.{same_Some, slice_get_within, slice_get-get_or}
-use Rattle.events.specs.declared.operation.Operation.{Operation}
-use Rattle.list_laws.specs.Lists.{has_number}
-use Rattle.events.specs.Precedence.{is_completed, belongs}
-use Rattle.events.specs.Keys.{low_key, high_key, may_change}
-use Rattle.map_object.specs.MapObject.{Contents}
-use Rattle.orders.specs.Orders.{calls_at}
-use Rattle.segments.specs.SegmentView.{SegmentView}
-use Rattle.segments.specs.Segments.{IsSegment, AreSegments}
-use Rattle.list_laws.proofs.Lists.{Contains-at, place_of-Contains, All-from_contains}
-use Rattle.list_laws.proofs.NumberLemmas.{greatest_bound, has_number-Contains, has_number-from_Contains, least_bound, some_at}
-use Rattle.list_laws.proofs.FilterLemmas.{AllPairs-at, Contains-filter_map}
+use Rattle.segments.proofs.Common.{◌≡◌, ℕ, ◌<◌, Bool, true, false, List, length, Some, refl, sym, ap, ◌∙◌, subst, inl, inr, ⊎_elim, arith, slice_get}
+use Rattle.segments.proofs.Common.{IsTrue, MatchBool, All, Contains, true≢false, cases_order, or_parts, All-contains, same_Some, slice_get_within}
+use Rattle.segments.proofs.Common.{slice_get-get_or, Operation, has_number, is_completed, belongs, low_key, high_key, may_change, Contents, calls_at}
+use Rattle.segments.proofs.Common.{SegmentView, IsSegment, AreSegments, Contains-at, place_of-Contains, All-from_contains, greatest_bound}
+use Rattle.segments.proofs.Common.{has_number-Contains, has_number-from_Contains, least_bound, some_at, Contains-filter_map}
+use Rattle.list_laws.proofs.FilterLemmas.{AllPairs-at}
 use Rattle.segments.proofs.RangeLemmas.{IsInside, IsOutside}
 use Rattle.segments.proofs.PartLemmas.{GoesByKeys}
 

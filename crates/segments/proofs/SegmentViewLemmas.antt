@@ -1,33 +1,19 @@
 -- What holds of the calls that some numbers name.
-use Rattle.std.proofs.Common.{◌≡◌, ℕ, zero, suc, ◌<◌, ◌≤◌, true, false, List, [], ◌∷◌, length, Option, Some, None, arith}
-use Rattle.std.specs.Prelude.{◌≢◌, map, slice_get, IfSome, All, AllPairs}
-use Rattle.std.specs.List.{cons_option, list_all}
+use Rattle.segments.proofs.Common.{◌≡◌, ℕ, zero, suc, ◌<◌, ◌≤◌, true, false, List, [], ◌∷◌, length, Option, Some, None, arith, ◌≢◌, map, slice_get}
+use Rattle.segments.proofs.Common.{IfSome, All, AllPairs, cons_option, list_all, and_parts, leb-true, AllPairs-from_increasing, AllPairs-filter}
+use Rattle.segments.proofs.Common.{All-nil, All-cons, All-head, All-tail, All-contains, All-weaker, Call, Get, Insert, Remove, Scan, Replace}
+use Rattle.segments.proofs.Common.{Operation, least, greatest, Contents, within, operation_of, operations_from, operations, precedes, low_key}
+use Rattle.segments.proofs.Common.{high_key, calls_at, segment_of, NamesKeysWithin, IsSegmentView, All-from_contains, length-distinct_below}
+use Rattle.segments.proofs.Common.{AllPairs-at, AllPairs-from_at, greatest_bound, least_bound, length-calls_at, number_at, AllPairs-weaker}
+use Rattle.segments.proofs.Common.{length-operations_le}
 use Rattle.std.specs.List.Sorted.{IsStrictlyIncreasing}
-use Rattle.std.proofs.lemmas.Bool.{and_parts, leb-true}
-use Rattle.std.proofs.lemmas.List.Kept.{AllPairs-from_increasing, AllPairs-filter}
-use Rattle.std.proofs.lemmas.List.Elements.{All-nil, All-cons, All-head, All-tail, All-contains, All-weaker}
 use Rattle.std.proofs.lemmas.List.Sums.{length-filter, count_by-le-length}
-use Rattle.events.specs.declared.event.Call.{Call}
-use Rattle.events.specs.declared.event.Call.TheVariants.{Get, Insert, Remove, Scan, Replace}
 use Rattle.events.specs.declared.event.Event.{Event}
 use Rattle.events.specs.declared.event.Event.TheVariants.{Invoke, Answer}
-use Rattle.events.specs.declared.operation.Operation.{Operation}
-use Rattle.list_laws.specs.Lists.{least, greatest}
 use Rattle.events.specs.Histories.{has_range, is_shaped, AreHistoryEvents, IsHistory}
 use Rattle.events.specs.HistoryView.{HistoryView}
 use Rattle.events.specs.Starts.{IsStart}
-use Rattle.map_object.specs.MapObject.{Contents, within}
 use Rattle.segments.proofs.RangeLemmas.{in_range, within_bounds}
-use Rattle.events.specs.Operations.{operation_of, operations_from, operations}
-use Rattle.events.specs.Precedence.{precedes}
-use Rattle.events.specs.Keys.{low_key, high_key}
-use Rattle.orders.specs.Orders.{calls_at}
-use Rattle.segments.specs.SegmentView.{segment_of, NamesKeysWithin, IsSegmentView}
-use Rattle.list_laws.proofs.Lists.{All-from_contains, length-distinct_below, AllPairs-at, AllPairs-from_at}
-use Rattle.list_laws.proofs.NumberLemmas.{greatest_bound, least_bound}
-use Rattle.orders.proofs.CallsAtLemmas.{length-calls_at, number_at}
-use Rattle.list_laws.proofs.FilterLemmas.{AllPairs-weaker}
-use Rattle.events.proofs.OperationLemmas.{length-operations_le}
 use Rattle.events.proofs.TimeLemmas.{NonePrecedesItself-operations, inv_rises}
 
 -- what holds of each call holds of the calls with some numbers

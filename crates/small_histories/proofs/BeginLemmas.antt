@@ -1,29 +1,12 @@
 -- One call more begins, by a process that is free.
-use Rattle.std.proofs.Common.{◌≡◌, ◌≢◌, ℕ, ◌+◌, ◌<◌, ◌≤◌, false, List, [], ◌∷◌, ◌++◌, length, take, Option, Some, None, refl, sym, ap, ◌∙◌}
-use Rattle.std.proofs.Common.{⊎_elim, inl, inr, subst, arith}
-use Rattle.std.specs.Prelude.{◌⊎◌, All, Contains, IfSome, IsSomeAnd, is_some, slice_get}
-use Rattle.std.proofs.lemmas.Bool.{lt-ltb, false≢true}
-use Rattle.std.proofs.lemmas.List.{length_push}
-use Rattle.std.proofs.lemmas.List.Elements.{All-contains, All-push, All-head, Contains-append_left, Contains-append_right}
-use Rattle.std.proofs.lemmas.List.Quantifiers.{all_pairs_push}
-use Rattle.std.proofs.lemmas.Option.{same_Some, slice_get_within, get_or_from_slice_get}
-use Rattle.events.specs.declared.event.Event.{Event}
-use Rattle.events.specs.declared.event.Event.TheVariants.{Invoke}
-use Rattle.events.specs.declared.operation.Operation.{Operation}
-use Rattle.events.specs.declared.operation.Response.{Response}
-use Rattle.events.specs.HistoryFaults.{has_open_call}
-use Rattle.events.specs.Limits.{process_limit}
-use Rattle.events.specs.Operations.{operations}
-use Rattle.events.specs.Precedence.{is_before, precedes}
-use Rattle.events.proofs.HistoryLemmas.{IsWellFormed-push}
-use Rattle.list_laws.proofs.Lists.{All-front, All-back, All-from_contains, AllPairs-front, AllPairs-across, Contains-first, Contains-take}
-use Rattle.list_laws.proofs.Lists.{place-push, slice_get-append_left, slice_get-middle}
-use Rattle.quiet_cuts.specs.KeptCalls.{begun_at}
-use Rattle.quiet_cuts.proofs.ContinueLemmas.{completed_at}
-use Rattle.quiet_cuts.proofs.EventLemmas.{operations-invoke}
-use Rattle.small_histories.specs.Seats.{place_in, begun_of, NoneEndsBefore, EndsOutside, MayFollow, IsSeat}
-use Rattle.small_histories.specs.Seats.{IsOpenOrAnswered, IsEventOf, AreSeatedAs}
-use Rattle.small_histories.specs.declared.seats.Seat.{Seat}
+use Rattle.small_histories.proofs.Common.{◌≡◌, ◌≢◌, ℕ, ◌+◌, ◌<◌, ◌≤◌, false, List, [], ◌∷◌, ◌++◌, length, take, Option, Some, None, refl, sym, ap}
+use Rattle.small_histories.proofs.Common.{◌∙◌, ⊎_elim, inl, inr, subst, arith, ◌⊎◌, All, Contains, IfSome, IsSomeAnd, is_some, slice_get, lt-ltb}
+use Rattle.small_histories.proofs.Common.{false≢true, length_push, All-contains, All-push, All-head, Contains-append_left, Contains-append_right}
+use Rattle.small_histories.proofs.Common.{all_pairs_push, same_Some, slice_get_within, get_or_from_slice_get, Event, Invoke, Operation, Response}
+use Rattle.small_histories.proofs.Common.{has_open_call, process_limit, operations, is_before, precedes, IsWellFormed-push, All-front, All-back}
+use Rattle.small_histories.proofs.Common.{All-from_contains, AllPairs-front, AllPairs-across, Contains-first, Contains-take, place-push}
+use Rattle.small_histories.proofs.Common.{slice_get-append_left, slice_get-middle, begun_at, completed_at, operations-invoke, place_in, begun_of}
+use Rattle.small_histories.proofs.Common.{NoneEndsBefore, EndsOutside, MayFollow, IsSeat, IsOpenOrAnswered, IsEventOf, AreSeatedAs, Seat}
 use Rattle.small_histories.proofs.OpenLemmas.{other_open, own_open, open_on}
 use Rattle.small_histories.proofs.PartLemmas.{not_before, behind_as_kept, kept_behind, begun_bound, answered_parts}
 
@@ -58,7 +41,7 @@ module _ (calls : List Operation) (count place : ℕ) (free : List ℕ) (p : ℕ
       let P : ℕ → Type 0 = λ q. q < process_limit in
       All-head P p [] (All-back P free (p ∷ []) h.free_known)
 
-  -- a call behind the invocation was there, or is the new one
+  -- a call after the invocation was there, or is the new one
   new_cases : (n : ℕ) (b c : Operation) → slice_get calls n ≡ Some b → slice_get (operations then) n ≡ Some c
       → (slice_get before n ≡ Some c) ⊎ ((n ≡ count) × (c ≡ new) × (b ≡ a))
   new_cases n b c b_at c_at = ⊎_elim

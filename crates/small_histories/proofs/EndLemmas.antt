@@ -1,43 +1,22 @@
 -- One of the open calls ends, and its process is free.
-use Rattle.std.proofs.Common.{◌≡◌, ◌≢◌, ℕ, ◌<◌, ◌≤◌, Bool, true, false, not, cond, ◌==◌, List, [], ◌∷◌, ◌++◌, length, map, Option, Some, None}
-use Rattle.std.proofs.Common.{refl, sym, ap, ap₂, ◌∙◌, ⊎_elim, inl, inr, subst, arith, IsTrue}
-use Rattle.std.specs.Prelude.{AllPairs, Contains, IsSomeAnd, slice_get, option_map}
-use Rattle.std.proofs.lemmas.Bool.{cases_eq, eq-eqb, ne_eqb, le-ltb, false≢true}
-use Rattle.std.proofs.lemmas.List.{length_push, length-append, length-map}
-use Rattle.std.proofs.lemmas.List.Elements.{All-contains, All-push}
-use Rattle.std.proofs.lemmas.List.Quantifiers.{all_pairs_push}
-use Rattle.std.proofs.lemmas.Option.{none-some, same_Some, slice_get-map, slice_get_within, get_or_from_slice_get}
-use Rattle.events.specs.declared.event.Event.{Event}
-use Rattle.events.specs.declared.event.Event.TheVariants.{Answer}
-use Rattle.events.specs.declared.event.Reply.{Reply}
-use Rattle.events.specs.declared.operation.Operation.{Operation}
-use Rattle.events.specs.declared.operation.Response.{Response}
-use Rattle.events.specs.Events.{events_of, takes_turns}
-use Rattle.events.specs.HistoryFaults.{has_open_call}
-use Rattle.events.specs.Limits.{process_limit}
-use Rattle.events.specs.Operations.{operations}
-use Rattle.events.specs.Precedence.{is_before, precedes}
-use Rattle.events.proofs.HistoryLemmas.{IsWellFormed-push}
-use Rattle.events.proofs.TimeLemmas.{inv_rises}
-use Rattle.list_laws.proofs.FilterLemmas.{AllPairs-weaker}
-use Rattle.list_laws.proofs.Lists.{All-from_contains, Contains-around, Contains-at}
-use Rattle.list_laws.proofs.NumberLemmas.{some_at}
-use Rattle.quiet_cuts.specs.Groups.{reply_in}
-use Rattle.quiet_cuts.specs.KeptCalls.{answered_at}
-use Rattle.quiet_cuts.proofs.ContinueLemmas.{invoked_before}
-use Rattle.quiet_cuts.proofs.EventLemmas.{operations-answer}
-use Rattle.small_histories.specs.Seats.{begun_of, IsSeat, IsAnsweredAs, IsOpenOrAnswered, IsEventOf, AreSeatedAs}
-use Rattle.small_histories.specs.declared.seats.Seat.{Seat}
+use Rattle.small_histories.proofs.Common.{◌≡◌, ◌≢◌, ℕ, ◌<◌, ◌≤◌, Bool, true, false, not, cond, ◌==◌, List, [], ◌∷◌, ◌++◌, length, map, Option, Some}
+use Rattle.small_histories.proofs.Common.{None, refl, sym, ap, ap₂, ◌∙◌, ⊎_elim, inl, inr, subst, arith, IsTrue, AllPairs, Contains, IsSomeAnd}
+use Rattle.small_histories.proofs.Common.{slice_get, option_map, cases_eq, eq-eqb, ne_eqb, le-ltb, false≢true, length_push, length-append, length-map}
+use Rattle.small_histories.proofs.Common.{All-contains, All-push, all_pairs_push, none-some, same_Some, slice_get-map, slice_get_within}
+use Rattle.small_histories.proofs.Common.{get_or_from_slice_get, Event, Answer, Reply, Operation, Response, events_of, takes_turns, has_open_call}
+use Rattle.small_histories.proofs.Common.{process_limit, operations, is_before, precedes, IsWellFormed-push, inv_rises, AllPairs-weaker}
+use Rattle.small_histories.proofs.Common.{All-from_contains, Contains-around, Contains-at, some_at, reply_in, answered_at, invoked_before}
+use Rattle.small_histories.proofs.Common.{operations-answer, begun_of, IsSeat, IsAnsweredAs, IsOpenOrAnswered, IsEventOf, AreSeatedAs, Seat}
 use Rattle.small_histories.proofs.OpenLemmas.{other_open, own_open, open_on}
-use Rattle.small_histories.proofs.PartLemmas.{All-middle, AllPairs-without, Contains-with, others_apart, one_number}
-use Rattle.small_histories.proofs.PartLemmas.{not_before, behind_as_kept, begun_bound}
+use Rattle.small_histories.proofs.PartLemmas.{All-middle, AllPairs-without, Contains-with, others_apart, one_number, not_before, behind_as_kept}
+use Rattle.small_histories.proofs.PartLemmas.{begun_bound}
 
 -- what a map makes of an element comes from one
 from_map : {X : Type 0} (f : X → X) (o : Option X) (y : X) → option_map f o ≡ Some y → (x : X) × (o ≡ Some x) × (y ≡ f x)
 from_map f None y h = absurd (none-some y h)
 from_map f (Some x) y h = (x, refl, sym (same_Some (f x) y h))
 
--- an answer changes neither what was called nor where
+-- an answer changes neither the call nor its place
 answered_inv : (inv place : ℕ) (reply : Reply) (c : Operation) → (answered_at inv place reply c).inv ≡ c.inv
 answered_inv inv place reply c = by_test (c.inv == inv)
   where

@@ -1,3 +1,4 @@
+mod Common
 mod PartLemmas
 mod OpenLemmas
 mod BeginLemmas

@@ -1,21 +1,14 @@
--- Which processes have an open call, behind one event more.
-use Rattle.std.proofs.Common.{◌≡◌, ◌≢◌, ℕ, ◌==◌, List, [], ◌∷◌, ◌++◌, refl, ap, ◌∙◌, append_assoc}
-use Rattle.std.specs.Prelude.{slice_get, IsSomeAnd, None, length}
-use Rattle.std.proofs.lemmas.Bool.{eq-eqb, ne_eqb}
-use Rattle.std.proofs.lemmas.List.Elements.{filter-append}
-use Rattle.events.specs.declared.event.Event.{Event}
-use Rattle.events.specs.declared.event.Event.TheVariants.{Invoke}
-use Rattle.events.specs.Events.{process_of, is_invocation, events_of}
-use Rattle.events.specs.HistoryFaults.{has_open_call}
-use Rattle.events.specs.Operations.{operations}
-use Rattle.events.proofs.HistoryLemmas.{has_open_call-push}
-use Rattle.small_histories.specs.Seats.{IsOpenAt}
+-- Which processes have an open call, after one event more.
+use Rattle.small_histories.proofs.Common.{◌≡◌, ◌≢◌, ℕ, ◌==◌, List, [], ◌∷◌, ◌++◌, refl, ap, ◌∙◌, append_assoc, slice_get, IsSomeAnd, eq-eqb, ne_eqb}
+use Rattle.small_histories.proofs.Common.{filter-append, Event, Invoke, process_of, is_invocation, events_of, has_open_call, operations}
+use Rattle.small_histories.proofs.Common.{has_open_call-push, IsOpenAt}
+use Rattle.std.specs.Prelude.{None, length}
 
--- that of another process stays
+-- an event of another process leaves the open call of a process
 pub other_open : (p : ℕ) (events : List Event) (e : Event) → process_of e ≢ p → has_open_call p (events ++ e ∷ []) ≡ has_open_call p events
 other_open p events e other = has_open_call-push p events e ∙ rw (ne_eqb (process_of e) p other) refl
 
--- that of its process is open behind an invocation
+-- the process of an event has an open call after it exactly if the event is an invocation
 pub own_open : (events : List Event) (e : Event) → has_open_call (process_of e) (events ++ e ∷ []) ≡ is_invocation e
 own_open events e = has_open_call-push (process_of e) events e ∙ rw (eq-eqb (process_of e) (process_of e) refl) refl
 

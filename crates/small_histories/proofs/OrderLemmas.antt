@@ -1,12 +1,8 @@
 -- A history with some calls has an order exactly where they have one.
-use Rattle.std.proofs.Common.{List, Option, Some, None, sym, subst}
-use Rattle.std.specs.Prelude.{◌↔◌, IfSome, MatchOption}
+use Rattle.small_histories.proofs.Common.{List, Option, Some, None, sym, subst, ◌↔◌, IfSome, MatchOption, operations, Operation, PlacesDoNotMatter}
 use Rattle.events.specs.HistoryView.{HistoryView}
-use Rattle.events.specs.Operations.{operations}
-use Rattle.events.specs.declared.operation.Operation.{Operation}
 use Rattle.map_object.specs.MapObject.{Contents}
 use Rattle.orders.specs.Orders.{IsLinearizable}
-use Rattle.quiet_cuts.specs.Groups.{PlacesDoNotMatter}
 use Rattle.small_histories.specs.SmallHistories.{IsHistoryWith, AreOfNoHistory}
 
 pub same_orders : PlacesDoNotMatter → (start : Contents) (calls : List Operation) (found : Option HistoryView)

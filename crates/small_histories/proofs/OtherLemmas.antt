@@ -1,29 +1,14 @@
 -- What calls are like of which some history has the like.
-use Rattle.std.proofs.Common.{◌≡◌, ◌≢◌, ℕ, ◌+◌, ◌<◌, ◌≤◌, true, false, List, [], ◌∷◌, ◌++◌, length, map, take, get_or, Option, Some, None}
-use Rattle.std.proofs.Common.{refl, sym, ap, ◌∙◌, ⊎_elim, inl, inr, subst, arith}
-use Rattle.std.specs.Prelude.{◌⊎◌, All, AllPairs, Contains, IfSome, slice_get}
-use Rattle.std.proofs.lemmas.Bool.{cases_lt, cases_order, lt-ltb, false≢true}
-use Rattle.std.proofs.lemmas.List.{length-append, length-map}
-use Rattle.std.proofs.lemmas.List.Elements.{All-contains, All-map, All-weaker, Contains-append_cases}
-use Rattle.std.proofs.lemmas.List.Quantifiers.{all_pairs_push}
-use Rattle.std.proofs.lemmas.Option.{IfSome_then, same_Some, slice_get-get_or, slice_get_within}
-use Rattle.events.specs.declared.event.Event.{Event}
-use Rattle.events.specs.declared.event.Reply.{Reply}
-use Rattle.events.specs.declared.operation.Operation.{Operation}
-use Rattle.events.specs.declared.operation.Response.{Response}
-use Rattle.events.specs.Histories.{has_range, pair_count, AreHistoryEvents}
-use Rattle.events.specs.Limits.{process_limit, call_limit, pair_limit}
-use Rattle.events.specs.Operations.{operations}
-use Rattle.events.specs.Precedence.{is_before, precedes}
-use Rattle.events.proofs.OperationLemmas.{length-operations_le}
-use Rattle.events.proofs.TimeLemmas.{inv_rises, response_later}
-use Rattle.list_laws.proofs.FilterLemmas.{AllPairs-map, AllPairs-weaker, Contains-from_map}
-use Rattle.list_laws.proofs.Lists.{All-from_contains, AllPairs-at, Contains-at, Contains-cases, Contains-nil, Contains-take}
-use Rattle.list_laws.proofs.Lists.{length-distinct_below, place_before-Contains, place_of-Contains}
-use Rattle.list_laws.proofs.NumberLemmas.{greatest_is, slice_get-below}
-use Rattle.quiet_cuts.specs.Groups.{AreAlike, reply_in}
-use Rattle.small_histories.specs.Seats.{begun_of, NoneEndsBefore, EndsOutside, MayFollow, IsSeat, AreSeatedAs}
-use Rattle.small_histories.specs.declared.seats.Seat.{Seat}
+use Rattle.small_histories.proofs.Common.{◌≡◌, ◌≢◌, ℕ, ◌+◌, ◌<◌, ◌≤◌, true, false, List, [], ◌∷◌, ◌++◌, length, map, take, get_or, Option, Some, None}
+use Rattle.small_histories.proofs.Common.{refl, sym, ap, ◌∙◌, ⊎_elim, inl, inr, subst, arith, ◌⊎◌, All, AllPairs, Contains, IfSome, slice_get}
+use Rattle.small_histories.proofs.Common.{cases_lt, cases_order, lt-ltb, false≢true, length-append, length-map, All-contains, All-map, All-weaker}
+use Rattle.small_histories.proofs.Common.{Contains-append_cases, all_pairs_push, IfSome_then, same_Some, slice_get-get_or, slice_get_within, Event}
+use Rattle.small_histories.proofs.Common.{Reply, Operation, Response, has_range, pair_count, AreHistoryEvents, process_limit, call_limit, pair_limit}
+use Rattle.small_histories.proofs.Common.{operations, is_before, precedes, length-operations_le, inv_rises, response_later, AllPairs-map}
+use Rattle.small_histories.proofs.Common.{AllPairs-weaker, Contains-from_map, All-from_contains, AllPairs-at, Contains-at, Contains-cases}
+use Rattle.small_histories.proofs.Common.{Contains-nil, Contains-take, length-distinct_below, place_before-Contains, place_of-Contains, greatest_is}
+use Rattle.small_histories.proofs.Common.{slice_get-below, AreAlike, reply_in, begun_of, NoneEndsBefore, EndsOutside, MayFollow, IsSeat, AreSeatedAs}
+use Rattle.small_histories.proofs.Common.{Seat}
 use Rattle.small_histories.proofs.OwnerLemmas.{owners, length-owners, owners_known, calls_shaped, replies_small, one_after_other}
 use Rattle.small_histories.proofs.PartLemmas.{not_before, before_later, behind_as_kept, begun_bound}
 
@@ -141,7 +126,8 @@ module _ (calls : List Operation) (others : List Event) (history : AreHistoryEve
               (λ behind. inr behind)
               (cases_lt r.res place)) (cases_lt r.res a.inv)
 
-  -- where all processes have a call open that does not end before the next one begins, there is none for it
+  -- if all processes have a call open that does not end before the next one begins, there is none
+  -- for it
   module _ (count place : ℕ) (seats : List Seat) (events : List Event) (h : AreSeatedAs calls count place [] seats events) (a : Operation)
       (here : slice_get calls count ≡ Some a) (place_is : place ≡ begun_of calls (count + 1)) (none : NoneEndsBefore place seats) where
     abbrev numbers : List ℕ

@@ -1,22 +1,11 @@
 -- The processes of the calls of events: calls of one process take turns.
-use Rattle.std.proofs.Common.{◌≡◌, ℕ, zero, suc, ◌<◌, ◌≤◌, Bool, true, false, not, cond, ◌==◌, List, [], ◌∷◌, length, Some}
-use Rattle.std.proofs.Common.{refl, sym, ap, ◌∙◌, subst, arith}
-use Rattle.std.specs.Prelude.{All, IfSome, nat_lt, nat_le, slice_get}
+use Rattle.small_histories.proofs.Common.{◌≡◌, ℕ, zero, suc, ◌<◌, ◌≤◌, Bool, true, false, not, cond, ◌==◌, List, [], ◌∷◌, length, Some, refl, sym, ap}
+use Rattle.small_histories.proofs.Common.{◌∙◌, subst, arith, All, IfSome, nat_lt, nat_le, slice_get, and_parts, eq-eqb, ltb-true, leb-true, lt-ltb}
+use Rattle.small_histories.proofs.Common.{false≢true, All-nil, All-cons, none-some, same_Some, Event, Invoke, Answer, Operation, process_of}
+use Rattle.small_histories.proofs.Common.{events_of, takes_turns, has_range, pair_count, is_shaped, is_small, process_limit, pair_limit}
+use Rattle.small_histories.proofs.Common.{response_from, operation_of, operations_from, is_before, precedes, Contains-at, invoked_from}
 use Rattle.std.specs.List.{list_all}
-use Rattle.std.proofs.lemmas.Bool.{and_parts, eq-eqb, ltb-true, leb-true, lt-ltb, false≢true}
-use Rattle.std.proofs.lemmas.List.Elements.{All-nil, All-cons}
-use Rattle.std.proofs.lemmas.Option.{none-some, same_Some}
 use Rattle.events.specs.declared.event.Call.{Call}
-use Rattle.events.specs.declared.event.Event.{Event}
-use Rattle.events.specs.declared.event.Event.TheVariants.{Invoke, Answer}
-use Rattle.events.specs.declared.operation.Operation.{Operation}
-use Rattle.events.specs.Events.{process_of, events_of, takes_turns}
-use Rattle.events.specs.Histories.{has_range, pair_count, is_shaped, is_small}
-use Rattle.events.specs.Limits.{process_limit, pair_limit}
-use Rattle.events.specs.Operations.{response_from, operation_of, operations_from}
-use Rattle.events.specs.Precedence.{is_before, precedes}
-use Rattle.list_laws.proofs.Lists.{Contains-at}
-use Rattle.quiet_cuts.proofs.ContinueLemmas.{invoked_from}
 
 -- the processes of the calls, by number
 abbrev pub owners : List Event → List ℕ
@@ -74,7 +63,7 @@ replies_small i (Invoke p call ∷ events) h =
 
 -- ---- turns
 
--- where a process has a call open, the response to it stands before each later call of the process
+-- if a process has a call open, the response to it comes before each later call of the process
 answered_before : (p i : ℕ) (events : List Event) (n : ℕ) (c : Operation) → takes_turns true (events_of p events) ≡ true
     → slice_get (owners events) n ≡ Some p → slice_get (operations_from i events) n ≡ Some c
     → is_before (response_from p i events) c.inv ≡ true
@@ -108,7 +97,7 @@ answered_before p i (Answer q reply ∷ events) n c turns own at =
         let from = invoked_from (suc i) events c (Contains-at (operations_from (suc i) events) n c at) in lt-ltb i c.inv (omega arith)
     by_test go false turns = go turns
 
--- the events of each process take turns, whoever begins
+-- the events of each process take turns, whichever process begins
 abbrev pub TakeTurns : List Event → Type 0
 TakeTurns events = (p : ℕ) → (waiting : Bool) × (takes_turns waiting (events_of p events) ≡ true)
 
@@ -125,7 +114,7 @@ turns_on e events turns p = by_test (process_of e == p) (turns p).0 (turns p).1
     by_test true waiting h = behind waiting e h
     by_test false waiting h = (waiting, h)
 
--- the process of an invocation has a call open behind it
+-- the process of an invocation has a call open after it
 open_behind : (p : ℕ) (call : Call) (events : List Event) → TakeTurns (Invoke p call ∷ events) → takes_turns true (events_of p events) ≡ true
 open_behind p call events turns =
     let (waiting, h) = turns p in
@@ -133,7 +122,7 @@ open_behind p call events turns =
     (and_parts (not waiting) (takes_turns true (events_of p events))
     (subst (λ (t : Bool). takes_turns waiting (cond t (Invoke p call ∷ events_of p events) (events_of p events)) ≡ true) own h)).1
 
--- of two calls of one process the first precedes the other
+-- the first of two calls of one process precedes the other
 pub one_after_other : (i : ℕ) (events : List Event) (m n p : ℕ) (c d : Operation) → TakeTurns events → m < n
     → slice_get (owners events) m ≡ Some p → slice_get (owners events) n ≡ Some p → slice_get (operations_from i events) m ≡ Some c
     → slice_get (operations_from i events) n ≡ Some d → precedes c d ≡ true

@@ -1,17 +1,10 @@
 -- A list without one of its elements, and places of calls.
-use Rattle.std.proofs.Common.{◌≡◌, ◌≢◌, ℕ, ◌<◌, ◌≤◌, true, false, List, ◌∷◌, ◌++◌, take, Option, Some, None, refl, sym}
-use Rattle.std.proofs.Common.{⊎_elim, subst, arith}
-use Rattle.std.specs.Prelude.{All, AllPairs, Contains, IfSome, slice_get}
-use Rattle.std.proofs.lemmas.Bool.{cases_order, le-ltb, lt-ltb, ltb-true}
-use Rattle.std.proofs.lemmas.List.Elements.{All-contains, All-head, All-tail, All-weaker}
-use Rattle.std.proofs.lemmas.List.Elements.{Contains-append_left, Contains-append_right, Contains-append_cases}
-use Rattle.events.specs.declared.operation.Operation.{Operation}
-use Rattle.events.specs.declared.operation.Response.{Response}
-use Rattle.events.specs.Precedence.{is_before}
-use Rattle.list_laws.proofs.Lists.{All-back, AllPairs-append, AllPairs-front, AllPairs-back, AllPairs-across, AllPairs-at}
-use Rattle.list_laws.proofs.Lists.{AllPairs-head, AllPairs-tail, Contains-later, Contains-take}
-use Rattle.list_laws.proofs.NumberLemmas.{greatest_bound}
-use Rattle.small_histories.specs.Seats.{place_in, begun_of, IsAnsweredAs}
+use Rattle.small_histories.proofs.Common.{◌≡◌, ◌≢◌, ℕ, ◌<◌, ◌≤◌, true, false, List, ◌∷◌, ◌++◌, take, Option, Some, None, refl, sym, ⊎_elim, subst}
+use Rattle.small_histories.proofs.Common.{arith, All, AllPairs, Contains, IfSome, slice_get, cases_order, le-ltb, lt-ltb, ltb-true, All-contains}
+use Rattle.small_histories.proofs.Common.{All-head, All-tail, All-weaker, Contains-append_left, Contains-append_right, Contains-append_cases}
+use Rattle.small_histories.proofs.Common.{Operation, Response, is_before, All-back, AllPairs-append, AllPairs-front, AllPairs-back, AllPairs-across}
+use Rattle.small_histories.proofs.Common.{AllPairs-at, AllPairs-head, AllPairs-tail, Contains-later, Contains-take, greatest_bound, place_in}
+use Rattle.small_histories.proofs.Common.{begun_of, IsAnsweredAs}
 
 -- ---- a list without one of its elements
 
@@ -32,7 +25,7 @@ Contains-with front x back z h = ⊎_elim
     (λ in_back. Contains-append_right front (x ∷ back) z (Contains-later x back z in_back))
     (Contains-append_cases front back z h)
 
--- where the keys of all are distinct, each other one has another key
+-- if the keys of all are distinct, each other one has another key
 pub others_apart : {X : Type 0} (key : X → ℕ) (front : List X) (x : X) (back : List X) (z : X)
     → AllPairs (λ s t. key s ≢ key t) (front ++ x ∷ back) → Contains (front ++ back) z → key z ≢ key x
 others_apart {X} key front x back z h is = ⊎_elim
@@ -57,7 +50,7 @@ one_number calls j k a b rise a_at b_at same = ⊎_elim
     apart)
     (cases_order j k)
 
--- what ends behind a place is not before one that is no later
+-- what ends after a place is not before one that is no later
 pub not_before : (o : Option Response) (place inv : ℕ) → IfSome o (λ response. place ≤ response.res) → inv ≤ place → is_before o inv ≡ false
 not_before None place inv h less = refl
 not_before (Some response) place inv h less = le-ltb response.res inv (omega arith)

@@ -1,24 +1,11 @@
 -- What events come to where all calls have begun and no open one is left that ends.
-use Rattle.std.proofs.Common.{◌≡◌, ℕ, ◌<◌, ◌≤◌, true, List, length, get_or, Option, Some, None, refl, sym, ap, ◌∙◌}
-use Rattle.std.proofs.Common.{⊎_elim, inl, inr, subst, arith}
-use Rattle.std.specs.Prelude.{All, Contains, IfSome, nat_lt, nat_le, slice_get}
-use Rattle.std.proofs.lemmas.Bool.{and_from, lt-ltb, le-leb}
-use Rattle.std.proofs.lemmas.List.Elements.{All-contains, All-weaker}
+use Rattle.small_histories.proofs.Common.{◌≡◌, ℕ, ◌<◌, ◌≤◌, true, List, length, get_or, Option, Some, None, refl, sym, ap, ◌∙◌, ⊎_elim, inl, inr}
+use Rattle.small_histories.proofs.Common.{subst, arith, All, Contains, IfSome, nat_lt, nat_le, slice_get, and_from, lt-ltb, le-leb, All-contains}
+use Rattle.small_histories.proofs.Common.{All-weaker, none-some, same_Some, Event, Invoke, Answer, Operation, Response, Reply, has_range, pair_count}
+use Rattle.small_histories.proofs.Common.{is_shaped, is_small, AreHistoryEvents, process_limit, pair_limit, operations, length-operations_from}
+use Rattle.small_histories.proofs.Common.{slice_get-below, AreAlike, reply_in, place_in, reply_at, IsSeat, IsAnsweredAs, IsEventOf, AreSeatedAs}
+use Rattle.small_histories.proofs.Common.{AreEventsWith, Seat}
 use Rattle.std.proofs.lemmas.List.Sums.{list_all-from_AllPass}
-use Rattle.std.proofs.lemmas.Option.{none-some, same_Some}
-use Rattle.events.specs.declared.event.Event.{Event}
-use Rattle.events.specs.declared.event.Event.TheVariants.{Invoke, Answer}
-use Rattle.events.specs.declared.operation.Operation.{Operation}
-use Rattle.events.specs.declared.operation.Response.{Response}
-use Rattle.events.specs.declared.event.Reply.{Reply}
-use Rattle.events.specs.Histories.{has_range, pair_count, is_shaped, is_small, AreHistoryEvents}
-use Rattle.events.specs.Limits.{process_limit, pair_limit}
-use Rattle.events.specs.Operations.{operations}
-use Rattle.events.proofs.OperationLemmas.{length-operations_from}
-use Rattle.list_laws.proofs.NumberLemmas.{slice_get-below}
-use Rattle.quiet_cuts.specs.Groups.{AreAlike, reply_in}
-use Rattle.small_histories.specs.Seats.{place_in, reply_at, IsSeat, IsAnsweredAs, IsEventOf, AreSeatedAs, AreEventsWith}
-use Rattle.small_histories.specs.declared.seats.Seat.{Seat}
 use Rattle.small_histories.proofs.OtherLemmas.{all_shaped, all_small, few_calls}
 use Rattle.small_histories.proofs.PartLemmas.{answered_parts}
 
@@ -74,7 +61,7 @@ has_answer calls count limit free seats events h s s_is res is =
       rw a_at (ap reply_in answered),
     )
 
--- where all calls have begun and none that is open ends, they are those of the events
+-- if all calls have begun and none that is open ends, they are those of the events
 pub seated_alike : (calls : List Operation) (limit : ℕ) (free : List ℕ) (seats : List Seat) (events : List Event)
     → AreSeatedAs calls (length calls) limit free seats events → All (λ s. s.res ≡ None) seats → AreAlike calls (operations events)
 seated_alike calls limit free seats events h pending = record {
@@ -99,7 +86,7 @@ seated_alike calls limit free seats events h pending = record {
         ap reply_in a_is ∙ (ap (λ (reply : Reply). Some reply) same ∙ sym (ap reply_in c_is)))
         (h.status n a c a_at c_at)
 
--- and these are events of a history where any that make such calls are
+-- these are events of a history if any events are that make such calls
 pub seated_history : (calls : List Operation) (limit : ℕ) (free : List ℕ) (seats : List Seat) (events others : List Event)
     → AreSeatedAs calls (length calls) limit free seats events → AreHistoryEvents others → AreAlike calls (operations others)
     → AreHistoryEvents events

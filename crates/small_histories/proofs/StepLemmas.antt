@@ -1,17 +1,9 @@
 -- One step of calls that are seated, by places of lists.
-use Rattle.std.proofs.Common.{◌≡◌, ℕ, ◌+◌, ◌<◌, ◌≤◌, max, List, [], ◌∷◌, ◌++◌, length, get_or, take, drop, Option, Some, None, sym, ap, ◌∙◌, subst}
-use Rattle.std.proofs.Common.{arith}
-use Rattle.std.specs.Prelude.{Contains, IsSomeAnd, slice_get}
-use Rattle.std.proofs.lemmas.Option.{none-some, same_Some, slice_get-get_or}
-use Rattle.events.specs.declared.event.Event.{Event}
-use Rattle.events.specs.declared.event.Event.TheVariants.{Invoke, Answer}
-use Rattle.events.specs.declared.event.Reply.{Reply}
-use Rattle.events.specs.declared.operation.Operation.{Operation}
-use Rattle.list_laws.proofs.Lists.{Contains-at}
-use Rattle.list_laws.proofs.NumberLemmas.{greatest_more, some_at}
+use Rattle.small_histories.proofs.Common.{◌≡◌, ℕ, ◌+◌, ◌<◌, ◌≤◌, max, List, [], ◌∷◌, ◌++◌, length, get_or, take, drop, Option, Some, None, sym, ap}
+use Rattle.small_histories.proofs.Common.{◌∙◌, subst, arith, Contains, IsSomeAnd, slice_get, none-some, same_Some, slice_get-get_or, Event, Invoke}
+use Rattle.small_histories.proofs.Common.{Answer, Reply, Operation, Contains-at, greatest_more, some_at, place_in, reply_at, begun_of, NoneEndsBefore}
+use Rattle.small_histories.proofs.Common.{MayFollow, IsFirstAmong, AreSeatedAs, NoEventsHave, Seat}
 use Rattle.list_laws.proofs.Places.{parts_at}
-use Rattle.small_histories.specs.Seats.{place_in, reply_at, begun_of, NoneEndsBefore, MayFollow, IsFirstAmong, AreSeatedAs, NoEventsHave}
-use Rattle.small_histories.specs.declared.seats.Seat.{Seat}
 use Rattle.small_histories.proofs.BeginLemmas.{begun_seated}
 use Rattle.small_histories.proofs.EndLemmas.{ended_seated}
 use Rattle.small_histories.proofs.OtherLemmas.{may_follow, no_process}
@@ -85,7 +77,7 @@ first_ends seats at res limit h =
     let (s, s_at, is) = some_at (slice_get seats at) (λ (s : Seat). s.res ≡ Some res) h.0 in
     rw s_at (rw is (omega arith))
 
--- ---- whether the call at a place may follow those before it, which are the first so many
+-- ---- whether the call at a place may follow the calls before it
 
 pub follows_at : (calls : List Operation) (number place : ℕ) (a : Operation) → number < length calls → a ≡ get_or calls number a
     → MayFollow calls number place a → IsSomeAnd (slice_get calls number) (λ a. MayFollow calls number place a)

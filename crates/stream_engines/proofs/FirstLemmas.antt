@@ -1,13 +1,6 @@
 -- What is known of the version of a stream.
-use Rattle.history_text.specs.declared.version.TextVersion.TheVariants.{One, Two, Three}
-use Rattle.std.proofs.Common.{◌≡◌, ℕ, List, [], ◌∷◌, refl, arith, length, ap}
-use Rattle.std.proofs.lemmas.Bool.{false≢true}
-use Rattle.events.specs.HistoryView.{HistoryView}
-use Rattle.history_text.specs.declared.version.TextVersion.{TextVersion}
-use Rattle.stream_text.specs.Lines.{SpellsStart}
-use Rattle.stream_engines.specs.declared.followed.Followed.{Followed}
-use Rattle.stream_engines.specs.Followed.{IsFollowed}
-use Rattle.stream_engines.specs.StreamTexts.{SpellFromStart, SpellStream}
+use Rattle.stream_engines.proofs.Common.{One, Two, Three, ◌≡◌, ℕ, List, [], ◌∷◌, refl, arith, length, ap, false≢true, HistoryView, TextVersion}
+use Rattle.stream_engines.proofs.Common.{SpellsStart, Followed, IsFollowed, SpellFromStart, SpellStream}
 
 -- no lines have a first one
 no_first : (version : TextVersion) (stream : HistoryView) → SpellFromStart version [] stream → ⊥

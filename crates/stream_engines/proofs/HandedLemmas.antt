@@ -1,21 +1,9 @@
 -- The outcomes of lines that are handed over.
-use Rattle.std.proofs.Common.{◌≡◌, ◌≢◌, ℕ, zero, suc, ◌+◌, ◌-◌, ◌<◌, ◌≤◌, ◌==◌, Bool, true, false, List, [], ◌∷◌, ◌++◌, length}
-use Rattle.std.proofs.Common.{take, drop, Option, Some, None, get_or, refl, sym, ap, ◌∙◌, subst, inr, append_assoc, append-nil, length-drop}
-use Rattle.std.proofs.Common.{arith, string_bytes}
-use Rattle.std.proofs.lemmas.Bool.Decides.{nat_tests}
-use Rattle.std.proofs.lemmas.List.{take_all}
-use Rattle.std.proofs.lemmas.List.Elements.{All-head, All-tail}
-use Rattle.stream_text.specs.Cuts.{line_feed, HasNoLineFeed, lines_of}
-use Rattle.outcomes.specs.declared.outcome.RunOutcome.{RunOutcome}
-use Rattle.outcomes.specs.declared.outcome.RunOutcome.TheVariants.{Answered, Noted, Refused, Memory, Words, Failed}
-use Rattle.stream_engines.specs.declared.followed.Followed.{Followed}
-use Rattle.stream_engines.specs.declared.handed.LineFollower.{LineFollower}
-use Rattle.stream_engines.specs.declared.handed.LineFollower.TheVariants.{Going, Ended}
-use Rattle.stream_engines.specs.Handed.{IsHanded}
-use Rattle.stream_engines.specs.Leaves.{IsManyRefusal}
-use Rattle.stream_engines.specs.Outcomes.{IsStreamOutcome}
-use Rattle.stream_engines.specs.Refusals.{too_many_name, most_lines}
-use Rattle.stream_engines.specs.StreamTexts.{BeginsWith}
+use Rattle.stream_engines.proofs.Common.{◌≡◌, ◌≢◌, ℕ, zero, suc, ◌+◌, ◌-◌, ◌<◌, ◌≤◌, ◌==◌, Bool, true, false, List, [], ◌∷◌, ◌++◌, length, take, drop}
+use Rattle.stream_engines.proofs.Common.{Option, Some, None, get_or, refl, sym, ap, ◌∙◌, subst, inr, append_assoc, append-nil, length-drop, arith}
+use Rattle.stream_engines.proofs.Common.{string_bytes, nat_tests, take_all, All-head, All-tail, line_feed, HasNoLineFeed, lines_of, RunOutcome}
+use Rattle.stream_engines.proofs.Common.{Answered, Noted, Refused, Memory, Words, Failed, Followed, LineFollower, Going, Ended, IsHanded}
+use Rattle.stream_engines.proofs.Common.{IsManyRefusal, IsStreamOutcome, too_many_name, most_lines, BeginsWith}
 use Rattle.stream_engines.proofs.ReadingLemmas.{with_byte}
 use Rattle.stream_engines.proofs.RefusalLemmas.{refusal_of, next_of, numbered}
 

@@ -1,27 +1,15 @@
 -- The outcomes of an answer that was judged, and of the end of the lines.
-use Rattle.std.proofs.Common.{◌≡◌, ℕ, List, [], ◌∷◌, ◌++◌, length, Option, Some, None, refl, sym, subst, string_bytes}
-use Rattle.events.specs.declared.event.Reply.{Reply}
-use Rattle.events.specs.declared.event.Event.TheVariants.{Answer}
+use Rattle.stream_engines.proofs.Common.{◌≡◌, ℕ, List, [], ◌∷◌, ◌++◌, length, Option, Some, None, refl, sym, subst, string_bytes, Reply, Answer}
+use Rattle.stream_engines.proofs.Common.{lines_of, SpellsEvent, Loss, IsLost, IsSpent, RunOutcome, Answered, Noted, Refused, Memory, Words, Failed}
+use Rattle.stream_engines.proofs.Common.{Followed, IsFollowed, SpellStream, BeginsWith, yes_line, AreLinesOf, IsAnsweredWith, IsYesOutcome}
+use Rattle.stream_engines.proofs.Common.{IsLostOutcome, IsSpentOutcome, IsWholeAnswer, Judgement, IsJudgedAnswer, IsLostText, IsSpentText}
+use Rattle.stream_engines.proofs.Common.{IsFollowAnswer, IsStreamOutcome}
 use Rattle.events.specs.Operations.{operations}
-use Rattle.stream_text.specs.Cuts.{lines_of}
-use Rattle.stream_text.specs.Lines.{SpellsEvent}
-use Rattle.losses.specs.declared.loss.Loss.{Loss}
-use Rattle.monitor.specs.Outcomes.{IsLost, IsSpent}
-use Rattle.outcomes.specs.declared.outcome.Answer as answers
 use Rattle.outcomes.specs.declared.outcome.Answer.TheVariants.{Yes, No, Undecided}
-use Rattle.outcomes.specs.declared.outcome.RunOutcome.{RunOutcome}
-use Rattle.outcomes.specs.declared.outcome.RunOutcome.TheVariants.{Answered, Noted, Refused, Memory, Words, Failed}
-use Rattle.stream_engines.specs.declared.followed.Followed.{Followed}
-use Rattle.stream_engines.specs.Followed.{IsFollowed}
-use Rattle.stream_engines.specs.StreamTexts.{SpellStream, BeginsWith}
 use Rattle.answer_hints.specs.Overlaps.{overlap_of}
-use Rattle.stream_engines.specs.Reports.{yes_line}
 use Rattle.answer_hints.specs.Hints.{yes_hint}
-use Rattle.stream_engines.specs.Reading.{AreLinesOf}
-use Rattle.stream_engines.specs.Leaves.{IsAnsweredWith, IsYesOutcome, IsLostOutcome, IsSpentOutcome}
-use Rattle.stream_engines.specs.Answers.{IsWholeAnswer, Judgement, IsJudgedAnswer, IsLostText, IsSpentText, IsFollowAnswer}
-use Rattle.stream_engines.specs.Outcomes.{IsStreamOutcome}
 use Rattle.stream_engines.proofs.RefusalLemmas.{next_of}
+use Rattle.outcomes.specs.declared.outcome.Answer as answers
 
 -- the answer of the next line, as it was judged
 judged_of : (text : List ℕ) (read rest : List (List ℕ)) (next : List ℕ) (f : Followed) (process : ℕ) (reply : Reply)

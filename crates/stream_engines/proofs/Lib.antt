@@ -1,9 +1,13 @@
+mod Common
 mod ReportLemmas
 mod OwnLemmas
 pub mod StreamLemmas
 mod FirstLemmas
+mod EventLineLemmas
 mod FollowedLemmas
 mod RefusalLemmas
 mod JudgedLemmas
 mod ReadingLemmas
 mod HandedLemmas
+mod LineLemmas
+mod StopLemmas

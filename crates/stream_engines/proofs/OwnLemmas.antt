@@ -1,20 +1,10 @@
 -- What goes wrong on its own has no order.
-use Rattle.std.proofs.Common.{◌≡◌, ℕ, List, [], ◌∷◌, length, map, All, ap, arith}
-use Rattle.std.proofs.lemmas.List.Elements.{All-nil, All-cons, All-head, All-tail}
-use Rattle.std.specs.Prelude.{IfSome}
-use Rattle.events.specs.declared.event.Event.{Event}
-use Rattle.events.specs.declared.event.Reply.{Reply}
-use Rattle.map_object.specs.MapObject.{Contents}
-use Rattle.orders.specs.Orders.{IsLinearizable}
+use Rattle.stream_engines.proofs.Common.{◌≡◌, ℕ, List, [], ◌∷◌, length, map, All, ap, arith, All-nil, All-cons, All-head, All-tail, IfSome, Event}
+use Rattle.stream_engines.proofs.Common.{Reply, Contents, IsLinearizable, IsDead, pasts_of, Loss, OwnPart, part_of, IsLost}
 use Rattle.part_cuts.specs.PartCuts.{kept_of}
 use Rattle.part_cuts.specs.declared.past.Past.{Past}
-use Rattle.part_pasts.specs.Pasts.{IsDead}
-use Rattle.parts.specs.Keeping.{pasts_of}
-use Rattle.losses.specs.declared.loss.Loss.{Loss}
 use Rattle.losses.specs.declared.puts.Put.{Put}
-use Rattle.losses.specs.OwnParts.{OwnPart, part_of}
 use Rattle.monitor.specs.Calls.{MayReply}
-use Rattle.monitor.specs.Outcomes.{IsLost}
 
 abbrev pub IsRefuted : OwnPart → Type 0
 IsRefuted part = IsLinearizable part.start part.calls → ⊥

@@ -1,24 +1,15 @@
 -- How far the lines of a source were read, with one line more.
-use Rattle.std.proofs.Common.{◌≡◌, ◌≢◌, ℕ, ◌+◌, ◌<◌, ◌≤◌, ◌==◌, Bool, true, false, List, [], ◌∷◌, ◌++◌, length, Option, Some, None, Result}
-use Rattle.std.proofs.Common.{Ok, Err, IfOk, IfErr, refl, sym, ap, ◌∙◌, subst, inl, inr, append_assoc, append-nil, arith, string_bytes}
-use Rattle.std.specs.Io.KnownBytes.{IsAtEnd, Consumes}
-use Rattle.std.proofs.lemmas.Bool.Decides.{nat_tests}
-use Rattle.std.proofs.lemmas.List.Elements.{All-head, All-tail}
-use Rattle.history_text.specs.declared.version.TextVersion.{TextVersion}
-use Rattle.stream_text.specs.declared.line_fault.LineFault.TheVariants as faults
+use Rattle.stream_engines.proofs.Common.{◌≡◌, ◌≢◌, ℕ, ◌+◌, ◌<◌, ◌≤◌, ◌==◌, Bool, true, false, List, [], ◌∷◌, ◌++◌, length, Option, Some, None, Result}
+use Rattle.stream_engines.proofs.Common.{Ok, Err, IfOk, refl, sym, ap, ◌∙◌, subst, inl, inr, append_assoc, append-nil, arith, string_bytes, IsAtEnd}
+use Rattle.stream_engines.proofs.Common.{Consumes, nat_tests, All-head, All-tail, TextVersion, line_limit, line_feed, HasNoLineFeed, lines_of}
+use Rattle.stream_engines.proofs.Common.{before_lines, Advances, TakesLine, FindsEnd, BeginsTooLong, RunOutcome, Answered, Noted, Refused, Memory}
+use Rattle.stream_engines.proofs.Common.{Words, Failed, Followed, IsFollowed, BeginsWith, HasRead, AreLinesOf, line_fault_name, line_fault_hint}
+use Rattle.stream_engines.proofs.Common.{too_many_name, IsLineFaultAfter, IsHintAfter, stream_fault_line, most_lines, IsLineRefusal, IsManyRefusal}
+use Rattle.stream_engines.proofs.Common.{IsStreamOutcome, IsFollowOutcome}
+use Rattle.std.proofs.Common.{IfErr}
 use Rattle.stream_text.specs.LineLaws.{TakesFirstLine}
-use Rattle.stream_text.specs.LineLimits.{line_limit}
-use Rattle.stream_text.specs.Cuts.{line_feed, HasNoLineFeed, lines_of, before_lines, Advances, TakesLine, FindsEnd, BeginsTooLong}
-use Rattle.outcomes.specs.declared.outcome.RunOutcome.{RunOutcome}
-use Rattle.outcomes.specs.declared.outcome.RunOutcome.TheVariants.{Answered, Noted, Refused, Memory, Words, Failed}
-use Rattle.stream_engines.specs.declared.followed.Followed.{Followed}
-use Rattle.stream_engines.specs.Followed.{IsFollowed}
-use Rattle.stream_engines.specs.StreamTexts.{BeginsWith}
-use Rattle.stream_engines.specs.Reading.{HasRead, AreLinesOf}
-use Rattle.stream_engines.specs.Refusals.{line_fault_name, line_fault_hint, too_many_name, IsLineFaultAfter, IsHintAfter, stream_fault_line, most_lines}
-use Rattle.stream_engines.specs.Leaves.{IsLineRefusal, IsManyRefusal}
-use Rattle.stream_engines.specs.Outcomes.{IsStreamOutcome, IsFollowOutcome}
 use Rattle.stream_engines.proofs.RefusalLemmas.{refusal_of}
+use Rattle.stream_text.specs.declared.line_fault.LineFault.TheVariants as faults
 
 -- what was read, and what is to come
 more_of : TakesFirstLine → (text : List ℕ) (lines : List (List ℕ)) (rest line : List ℕ) (new : Option (List ℕ))

@@ -1,25 +1,12 @@
 -- The outcome of a line that is refused.
 use Rattle.monitor.specs.declared.fault.FollowFault.TheVariants as turns
-use Rattle.std.proofs.Common.{◌≡◌, ◌≢◌, ℕ, ◌+◌, ◌<◌, List, [], ◌∷◌, ◌++◌, length, Option, Some, None, refl, sym, ap, ◌∙◌}
-use Rattle.std.proofs.Common.{inl, inr, append_assoc, arith, string_bytes}
-use Rattle.events.specs.declared.event.Event.{Event}
-use Rattle.history_text.specs.declared.version.TextVersion.{TextVersion}
+use Rattle.stream_engines.proofs.Common.{◌≡◌, ◌≢◌, ℕ, ◌+◌, ◌<◌, List, [], ◌∷◌, ◌++◌, length, Option, Some, None, refl, sym, ap, ◌∙◌, inl, inr}
+use Rattle.stream_engines.proofs.Common.{append_assoc, arith, string_bytes, Event, TextVersion, lines_of, SpellsEvent, FollowFault, shown, RunOutcome}
+use Rattle.stream_engines.proofs.Common.{Answered, Noted, Refused, Memory, Words, Failed, Followed, IsFollowed, BeginsWith, line_fault_name}
+use Rattle.stream_engines.proofs.Common.{turn_fault_name, turn_fault, stream_fault_line, IsLineFaultAfter, StopsFor, IsStreamRefusal, IsLineRefusal}
+use Rattle.stream_engines.proofs.Common.{IsRefusalAfter, IsTurnRefusal, IsStreamOutcome}
 use Rattle.stream_text.specs.declared.line_fault.LineFault.{LineFault}
-use Rattle.stream_text.specs.Cuts.{lines_of}
-use Rattle.stream_text.specs.Lines.{SpellsEvent}
 use Rattle.stream_text.specs.LineFaults.{IsEventLineFault}
-use Rattle.monitor.specs.declared.fault.FollowFault.{FollowFault}
-use Rattle.monitor.specs.Faults.{shown}
-use Rattle.outcomes.specs.declared.outcome.RunOutcome.{RunOutcome}
-use Rattle.outcomes.specs.declared.outcome.RunOutcome.TheVariants.{Answered, Noted, Refused, Memory, Words, Failed}
-use Rattle.stream_engines.specs.declared.followed.Followed.{Followed}
-use Rattle.stream_engines.specs.Followed.{IsFollowed}
-use Rattle.stream_engines.specs.StreamTexts.{BeginsWith}
-use Rattle.stream_engines.specs.Refusals.{line_fault_name, turn_fault_name}
-use Rattle.stream_engines.specs.Refusals.{turn_fault, stream_fault_line, IsLineFaultAfter, StopsFor}
-use Rattle.stream_engines.specs.Answers.{IsStreamRefusal}
-use Rattle.stream_engines.specs.Leaves.{IsLineRefusal, IsRefusalAfter, IsTurnRefusal}
-use Rattle.stream_engines.specs.Outcomes.{IsStreamOutcome}
 
 -- a text begins with lines that are followed, and stops after them
 pub refusal_of : (text : List ℕ) (read more : List (List ℕ)) (f : Followed) (name bytes hint : List ℕ) (followed : IsFollowed read f)

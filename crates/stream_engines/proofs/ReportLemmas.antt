@@ -1,12 +1,7 @@
 -- The reports have no float, so that their texts are the compact ones.
-use Rattle.std.proofs.Common.{◌≡◌, ℕ, List, [], ◌∷◌, map, false, Option, Some, None, refl}
-use Rattle.serde_json.specs.View.{items_of}
-use Rattle.serde_json.specs.Written.{has_float, items_have_float}
-use Rattle.history_text.specs.Texts.{number_data}
-use Rattle.small_histories.specs.Values.{value_data}
-use Rattle.losses.specs.declared.lost_keys.KeyLoss.{KeyLoss}
+use Rattle.stream_engines.proofs.Common.{◌≡◌, ℕ, List, [], ◌∷◌, map, false, Option, Some, None, refl, items_of, has_float, items_have_float}
+use Rattle.stream_engines.proofs.Common.{number_data, value_data, KeyLoss, key_data, lost_data, spent_data}
 use Rattle.losses.specs.declared.lost_keys.Origin.{Origin}
-use Rattle.stream_engines.specs.Reports.{key_data, lost_data, spent_data}
 
 items_have_float-numbers : (numbers : List ℕ) → items_have_float (items_of (map number_data numbers)) ≡ false
 items_have_float-numbers [] = refl

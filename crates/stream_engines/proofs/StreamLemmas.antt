@@ -1,11 +1,6 @@
 -- Lines of a stream, with one line more.
-use Rattle.history_text.specs.declared.version.TextVersion.TheVariants.{One, Two, Three}
-use Rattle.std.proofs.Common.{ℕ, List, [], ◌∷◌, ◌++◌, ap}
-use Rattle.events.specs.declared.event.Event.{Event}
-use Rattle.events.specs.HistoryView.{HistoryView, with_event}
-use Rattle.history_text.specs.declared.version.TextVersion.{TextVersion}
-use Rattle.stream_text.specs.Lines.{SpellsEvent}
-use Rattle.stream_engines.specs.StreamTexts.{SpellEvents, SpellFromStart, SpellStream}
+use Rattle.stream_engines.proofs.Common.{One, Two, Three, ℕ, List, [], ◌∷◌, ◌++◌, ap, Event, HistoryView, with_event, TextVersion, SpellsEvent}
+use Rattle.stream_engines.proofs.Common.{SpellEvents, SpellFromStart, SpellStream}
 
 SpellEvents-push : (h : TextVersion) (lines : List (List ℕ)) (events : List Event) (line : List ℕ) (e : Event) → SpellEvents h lines events
     → SpellsEvent h line e

@@ -1,10 +1,16 @@
--- The state of a run after some lines of a stream.
+-- The state of a run after some events, or after some lines, of a stream.
 use Rattle.std.specs.Prelude.{◌≡◌, ℕ, List}
 use Rattle.events.specs.HistoryView.{HistoryView}
 use Rattle.monitor.specs.Following.{IsFollowing}
 use Rattle.stream_engines.specs.declared.followed.Followed.{Followed}
 use Rattle.stream_engines.specs.StreamTexts.{SpellStream}
 use Rattle.answer_hints.specs.Overlaps.{pending_after, overlap_of}
+
+-- the monitor follows this stream
+pub record FollowsStream (stream : HistoryView) (f : Followed) : Type 0 where
+  pub follows : IsFollowing stream.start stream.events f.monitor
+  pub pending : f.pending ≡ pending_after 0 stream.events
+  pub overlap : f.overlap ≡ overlap_of stream.events
 
 -- these lines were read and spell a stream, which the monitor follows
 pub record IsFollowed (read : List (List ℕ)) (f : Followed) : Type 0 where

@@ -1,5 +1,7 @@
 -- The state of a follower to which lines were handed over.
-use Rattle.std.specs.Prelude.{◌≡◌, ℕ, ◌≤◌, List, length, Option}
+use Rattle.std.specs.Prelude.{◌≡◌, ℕ, ◌<◌, ◌≤◌, List, length, Option, ⊤}
+use Rattle.events.specs.declared.event.Event.{Event}
+use Rattle.stream_engines.specs.EventLines.{MayStand}
 use Rattle.stream_engines.specs.Followed.{IsFollowed}
 use Rattle.stream_engines.specs.Outcomes.{IsStreamOutcome}
 use Rattle.stream_engines.specs.Refusals.{most_lines}
@@ -13,3 +15,8 @@ abbrev pub IsHanded : ℕ → List (List ℕ) → LineFollower → Type 0
 IsHanded budget lines (Going followed count given) =
     (given ≡ budget) × (count ≡ length lines) × (count ≤ most_lines) × IsFollowed lines followed
 IsHanded budget lines (Ended outcome) = (known : Option (List ℕ)) → BeginsWith known lines → IsStreamOutcome budget known outcome
+
+-- if the stream goes on, the line of this event is not one too many, and spells it in the stream's version
+abbrev pub MayTake : LineFollower → Event → Type 0
+MayTake (Going followed count given) e = (count < most_lines) × MayStand followed.version e
+MayTake (Ended outcome) e = ⊤

@@ -1,4 +1,5 @@
 pub mod StreamTexts
+pub mod EventLines
 pub mod Wanted
 pub mod Refusals
 pub mod Reports
@@ -6,5 +7,6 @@ pub mod Followed
 pub mod Answers
 pub mod Leaves
 pub mod Outcomes
+pub mod Stops
 pub mod Reading
 pub mod Handed

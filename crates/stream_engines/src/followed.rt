@@ -1,18 +1,22 @@
 // A stream, as far as it was followed, and what each line makes of it.
 ghost use Rattle.std.specs.Prelude.{◌≡◌, ℕ, ◌+◌, ◌<◌, List, [], ◌∷◌, ◌++◌, length, Option, IfOk, IfErr};
 ghost use Rattle.events.specs.declared.event.Event.TheVariants as events;
+ghost use Rattle.events.specs.HistoryView.{HistoryView, with_event};
 ghost use Rattle.events.specs.Starts.{KeysRise};
 ghost use Rattle.stream_text.specs.Lines.{as_event, SpellsEvent, SpellsStart};
-ghost use Rattle.stream_engines.specs.Followed.{IsFollowed};
+ghost use Rattle.stream_engines.specs.EventLines.{event_line};
+ghost use Rattle.stream_engines.specs.Followed.{FollowsStream, IsFollowed};
 ghost use Rattle.stream_engines.specs.Outcomes.{IsStreamOutcome};
 ghost use Rattle.stream_engines.specs.Reading.{AreLinesOf};
+ghost use Rattle.stream_engines.specs.Stops.{IsStop};
 ghost use Rattle.stream_engines.specs.StreamTexts.{BeginsWith};
 
-use crate::refusals::{refused_event, refused_first, refused_line};
-use crate::reports::{lost_outcome, spent_outcome, yes_outcome};
+use crate::refusals::{refused_first, refused_line};
+use crate::reports::yes_outcome;
+use crate::stops::{Stop, copy_of, stop_outcome, values_outcome};
 use events::{Call, Memory, Pairs, Reply};
 use history_text::TextVersion;
-use monitor::{Answered, Monitor};
+use monitor::{Answered, FollowFault, Monitor};
 use outcomes::RunOutcome;
 use std::alloc::Global;
 use stream_text::{FirstLine, StreamEvent, read_event_line, read_first_line};
@@ -83,7 +87,7 @@ impl Followed {
             return self.take_first(alloc, line, budget);
         }
         match read_event_line(alloc, self.version, line) {
-            Ok(event) => self.take_event(alloc, before + 1, line, event, budget),
+            Ok(event) => self.take_spelled(alloc, before + 1, line, event, budget),
             Err(fault) => Err(refused_line(alloc, before + 1, line, fault)),
         }
     }
@@ -96,7 +100,7 @@ impl Followed {
             → IfErr result (IsStreamOutcome budget known) }
     {
         match read_first_line(alloc, line) {
-            Ok(FirstLine::Event(event)) => self.take_event(alloc, 1, line, event, budget),
+            Ok(FirstLine::Event(event)) => self.take_spelled(alloc, 1, line, event, budget),
             Ok(FirstLine::Start { version, pairs }) => {
                 Followed::from_start(alloc, version, &pairs)
             }
@@ -105,7 +109,7 @@ impl Followed {
     }
 
     /// Takes the event that the line of this number spells.
-    fn take_event(
+    fn take_spelled(
         self,
         alloc: Global,
         number: u64,
@@ -122,32 +126,62 @@ impl Followed {
             → BeginsWith known (read ++ line.now ∷ [])
             → IfErr result (IsStreamOutcome budget known) }
     {
+        match self.take_event(alloc, event, budget) {
+            Ok(next) => Ok(next),
+            Err(stop) => Err(stop_outcome(alloc, number, line, &stop)),
+        }
+    }
+
+    /// Takes an event that is given by its values, as its line (`event_line`) of this number. The line
+    /// is written only if the stream ends at it.
+    pub fn take_values(
+        self,
+        alloc: Global,
+        number: u64,
+        event: &StreamEvent,
+        budget: u32,
+    ) -> Result<Followed, RunOutcome>
+        ensures taken { (read : List (List ℕ)) → IsFollowed read self
+            → SpellsEvent self.version (event_line (as_event event.now)) (as_event event.now)
+            → IfOk result (IsFollowed (read ++ event_line (as_event event.now) ∷ [])) }
+        ensures stopped { (known : Option (List ℕ)) (read : List (List ℕ))
+            → length read + 1 ≡ number → IsFollowed read self
+            → SpellsEvent self.version (event_line (as_event event.now)) (as_event event.now)
+            → BeginsWith known (read ++ event_line (as_event event.now) ∷ [])
+            → IfErr result (IsStreamOutcome budget known) }
+    {
+        let Ok(own) = copy_of(alloc, event) else {
+            return Err(RunOutcome::Memory);
+        };
+        match self.take_event(alloc, own, budget) {
+            Ok(next) => Ok(next),
+            Err(stop) => Err(values_outcome(alloc, number, event, &stop)),
+        }
+    }
+
+    /// Takes an event.
+    fn take_event(self, alloc: Global, event: StreamEvent, budget: u32) -> Result<Followed, Stop>
+        ensures version { IfOk result (λ next. next.version ≡ self.version) }
+        ensures taken { (stream : HistoryView) → FollowsStream stream self
+            → IfOk result (FollowsStream (with_event stream (as_event event))) }
+        ensures stopped { (stream : HistoryView) → FollowsStream stream self
+            → IfErr result (IsStop stream budget (as_event event)) }
+    {
         match event {
-            StreamEvent::Invoke { process, call } => {
-                self.begin_call(alloc, number, line, process, call)
-            }
+            StreamEvent::Invoke { process, call } => self.begin_call(alloc, process, call),
             StreamEvent::Answer { process, reply } => {
-                self.take_answer(alloc, number, line, process, reply, budget)
+                self.take_answer(alloc, process, reply, budget)
             }
         }
     }
 
     /// Takes an invocation.
-    fn begin_call(
-        self,
-        alloc: Global,
-        number: u64,
-        line: &[u8],
-        process: u16,
-        call: Call,
-    ) -> Result<Followed, RunOutcome>
-        ensures taken { (read : List (List ℕ)) → IsFollowed read self
-            → SpellsEvent self.version line.now (events.Invoke process call)
-            → IfOk result (IsFollowed (read ++ line.now ∷ [])) }
-        ensures stopped { (known : Option (List ℕ)) (read : List (List ℕ)) (budget : ℕ)
-            → length read + 1 ≡ number
-            → IsFollowed read self → SpellsEvent self.version line.now (events.Invoke process call)
-            → BeginsWith known (read ++ line.now ∷ []) → IfErr result (IsStreamOutcome budget known) }
+    fn begin_call(self, alloc: Global, process: u16, call: Call) -> Result<Followed, Stop>
+        ensures version { IfOk result (λ next. next.version ≡ self.version) }
+        ensures taken { (stream : HistoryView) → FollowsStream stream self
+            → IfOk result (FollowsStream (with_event stream (events.Invoke process call))) }
+        ensures stopped { (stream : HistoryView) (budget : ℕ) → FollowsStream stream self
+            → IfErr result (IsStop stream budget (events.Invoke process call)) }
     {
         let version = self.version;
         let (pending, overlap) = (self.pending, self.overlap);
@@ -158,7 +192,7 @@ impl Followed {
                 pending: pending.saturating_add(1),
                 overlap: overlap.saturating_add(pending),
             }),
-            Err(fault) => Err(refused_event(alloc, number, line, &fault)),
+            Err(fault) => Err(Stop::Refused(fault)),
         }
     }
 
@@ -166,18 +200,15 @@ impl Followed {
     fn take_answer(
         self,
         alloc: Global,
-        number: u64,
-        line: &[u8],
         process: u16,
         reply: Reply,
         budget: u32,
-    ) -> Result<Followed, RunOutcome>
-        ensures taken { (read : List (List ℕ)) → IsFollowed read self
-            → SpellsEvent self.version line.now (events.Answer process reply)
-            → IfOk result (IsFollowed (read ++ line.now ∷ [])) }
-        ensures stopped { (known : Option (List ℕ)) (read : List (List ℕ)) → length read + 1 ≡ number
-            → IsFollowed read self → SpellsEvent self.version line.now (events.Answer process reply)
-            → BeginsWith known (read ++ line.now ∷ []) → IfErr result (IsStreamOutcome budget known) }
+    ) -> Result<Followed, Stop>
+        ensures version { IfOk result (λ next. next.version ≡ self.version) }
+        ensures taken { (stream : HistoryView) → FollowsStream stream self
+            → IfOk result (FollowsStream (with_event stream (events.Answer process reply))) }
+        ensures stopped { (stream : HistoryView) → FollowsStream stream self
+            → IfErr result (IsStop stream budget (events.Answer process reply)) }
     {
         let version = self.version;
         let (pending, overlap) = (self.pending, self.overlap);
@@ -188,10 +219,10 @@ impl Followed {
                 pending: pending.saturating_sub(1),
                 overlap,
             }),
-            Ok(Answered::Lost(loss)) => Err(lost_outcome(alloc, &loss)),
-            Ok(Answered::Spent(loss)) => Err(spent_outcome(alloc, &loss)),
-            Ok(Answered::Refused(_, fault)) => Err(refused_event(alloc, number, line, &fault)),
-            Err(_) => Err(RunOutcome::Memory),
+            Ok(Answered::Lost(loss)) => Err(Stop::Lost(loss)),
+            Ok(Answered::Spent(loss)) => Err(Stop::Spent(loss)),
+            Ok(Answered::Refused(_, fault)) => Err(Stop::Refused(fault)),
+            Err(_) => Err(Stop::Refused(FollowFault::Memory)),
         }
     }
 

@@ -1,17 +1,29 @@
-// A stream whose lines are handed over as they come: what each makes of it, and the outcome.
-ghost use Rattle.std.specs.Prelude.{◌≡◌, ℕ, List, [], ◌∷◌, ◌++◌, Option, Some, IfOk};
+// A stream whose lines, or events, are handed over as they come: what each makes of it, and the outcome.
+ghost use Rattle.std.specs.Prelude.{◌≡◌, ◌<◌, ℕ, List, [], ◌∷◌, ◌++◌, Option, Some, IfOk, IfSome, IsTrue, string_bytes};
+ghost use Rattle.events.specs.declared.event.Event.TheVariants.{Invoke, Answer};
 ghost use Rattle.stream_text.specs.Cuts.{lines_of};
-ghost use Rattle.stream_engines.specs.Handed.{IsHanded};
+ghost use Rattle.stream_text.specs.LineLimits.{number_limit};
+ghost use Rattle.stream_text.specs.Lines.{as_event};
+ghost use Rattle.stream_engines.specs.EventLines.{event_line, CallHasWords, ReplyHasWords, HasWords, MayStand};
+ghost use Rattle.stream_engines.specs.Handed.{IsHanded, MayTake};
 ghost use Rattle.stream_engines.specs.Outcomes.{IsStreamOutcome};
 ghost use Rattle.stream_engines.specs.Reading.{AreLinesOf};
 
+use crate::event_lines::{call_line, event_line, reply_line};
 use crate::followed::Followed;
 use crate::reading::MOST_LINES;
 use crate::refusals::refused_many;
-use events::Memory;
+use events::{Call, Memory, Reply};
+use history_text::TextVersion;
 use outcomes::RunOutcome;
-use std::alloc::Global;
-use stream_text::first_line_feed;
+use std::alloc::{AllocError, Global};
+use stream_text::{StreamEvent, first_line_feed};
+
+/// The most pairs of an answer whose line is surely short enough.
+const MOST_PAIRS: usize = 23_000;
+
+/// Processes are numbered from 0, each below this.
+const PROCESSES: u32 = 65_536;
 
 /// Follows a stream whose lines are handed over.
 #[derive(Drop)]
@@ -59,6 +71,105 @@ impl LineFollower {
         }
     }
 
+    /// Takes the invocation of a call by a process of this number, as its line (`event_line`).
+    pub fn take_call(self, alloc: Global, process: u32, call: Call) -> LineFollower
+        ensures { (budget : ℕ) (lines : List (List ℕ)) → CallHasWords call
+            → IsHanded budget lines self
+            → IsHanded budget (lines ++ event_line (Invoke process call) ∷ []) result }
+    {
+        match process_number(process) {
+            Some(process) => self.take_event(alloc, &StreamEvent::Invoke { process, call }),
+            None => self.take_written(alloc, call_line(alloc, process, &call)),
+        }
+    }
+
+    /// Takes the answer of the open call of a process of this number, as its line (`event_line`).
+    pub fn take_reply(self, alloc: Global, process: u32, reply: Reply) -> LineFollower
+        ensures { (budget : ℕ) (lines : List (List ℕ)) → ReplyHasWords reply
+            → IsHanded budget lines self
+            → IsHanded budget (lines ++ event_line (Answer process reply) ∷ []) result }
+    {
+        match process_number(process) {
+            Some(process) => self.take_event(alloc, &StreamEvent::Answer { process, reply }),
+            None => self.take_written(alloc, reply_line(alloc, process, &reply)),
+        }
+    }
+
+    /// Takes an event that is given by its values, as its line (`event_line`). That line is written only
+    /// if the stream ends at it, or if it may be too long.
+    pub fn take_event(self, alloc: Global, event: &StreamEvent) -> LineFollower
+        ensures { (budget : ℕ) (lines : List (List ℕ)) → HasWords (as_event event.now)
+            → IsHanded budget lines self
+            → IsHanded budget (lines ++ event_line (as_event event.now) ∷ []) result }
+    {
+        if self.may_take(event) {
+            self.take_values(alloc, event)
+        } else {
+            self.take_written(alloc, event_line(alloc, event))
+        }
+    }
+
+    /// Whether the line of an event surely spells it in the version of the stream, and may be read.
+    fn may_take(&self, event: &StreamEvent) -> bool
+        ensures { IsTrue result → MayTake self.now (as_event event.now) }
+    {
+        match self {
+            LineFollower::Going {
+                followed,
+                lines,
+                ..
+            } => *lines < MOST_LINES && may_stand(followed.version, event),
+            LineFollower::Ended(_) => true,
+        }
+    }
+
+    /// Takes an event whose line surely spells it, as that line.
+    fn take_values(self, alloc: Global, event: &StreamEvent) -> LineFollower
+        requires { MayTake self (as_event event.now) }
+        ensures { (budget : ℕ) (lines : List (List ℕ)) → HasWords (as_event event.now)
+            → IsHanded budget lines self
+            → IsHanded budget (lines ++ event_line (as_event event.now) ∷ []) result }
+    {
+        match self {
+            LineFollower::Going {
+                followed,
+                lines,
+                budget,
+            } => match followed.take_values(alloc, lines + 1, event, budget) {
+                Ok(followed) => LineFollower::Going {
+                    followed,
+                    lines: lines + 1,
+                    budget,
+                },
+                Err(outcome) => LineFollower::Ended(outcome),
+            },
+            LineFollower::Ended(outcome) => LineFollower::Ended(outcome),
+        }
+    }
+
+    /// Takes the next line, which was written; if memory ran out for it, that ends the stream.
+    fn take_written(self, alloc: Global, line: Result<String, AllocError>) -> LineFollower
+        ensures { (budget : ℕ) (lines : List (List ℕ)) (next : List ℕ)
+            → IfOk line (λ text. string_bytes text ≡ next) → IsHanded budget lines self
+            → IsHanded budget (lines ++ next ∷ []) result }
+    {
+        match line {
+            Ok(line) => self.take_line(alloc, line.as_bytes()),
+            Err(_) => self.out_of_memory(),
+        }
+    }
+
+    /// Memory ran out for the next line.
+    pub fn out_of_memory(self) -> LineFollower
+        ensures { (budget : ℕ) (lines : List (List ℕ)) (next : List ℕ)
+            → IsHanded budget lines self → IsHanded budget (lines ++ next ∷ []) result }
+    {
+        match self {
+            LineFollower::Going { .. } => LineFollower::Ended(RunOutcome::Memory),
+            LineFollower::Ended(outcome) => LineFollower::Ended(outcome),
+        }
+    }
+
     /// Takes the next line.
     fn take_line(self, alloc: Global, line: &[u8]) -> LineFollower
         ensures { (budget : ℕ) (lines : List (List ℕ)) → IsHanded budget lines self
@@ -83,6 +194,31 @@ impl LineFollower {
                 }
             }
             LineFollower::Ended(outcome) => LineFollower::Ended(outcome),
+        }
+    }
+}
+
+/// The number of a process, if it is one that a line may name.
+fn process_number(number: u32) -> Option<u16>
+    ensures { IfSome result (λ process. (process ≡ number) × (process < number_limit)) }
+{
+    if number < PROCESSES {
+        Some(number as u16)
+    } else {
+        None
+    }
+}
+
+/// Whether an event may stand in a stream of a version, and its line is surely short enough.
+fn may_stand(version: TextVersion, event: &StreamEvent) -> bool
+    ensures { IsTrue result → MayStand version (as_event event.now) }
+{
+    match event {
+        StreamEvent::Invoke { call, .. } => {
+            version.may_have_call(call) && call.low_key() <= call.high_key()
+        }
+        StreamEvent::Answer { reply, .. } => {
+            version.may_have_reply(reply) && reply.pair_count() <= MOST_PAIRS
         }
     }
 }

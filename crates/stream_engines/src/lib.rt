@@ -2,6 +2,7 @@
 //! answer as it comes, and ends at the first line that goes wrong.
 #![tactic(auto)]
 
+mod event_lines;
 mod followed;
 mod handed;
 mod progress;
@@ -9,6 +10,7 @@ mod reading;
 mod refusals;
 mod reports;
 mod small_lines;
+mod stops;
 
 pub use handed::{LineFollower, follow_text};
 pub use progress::ProgressDisplay;

@@ -1,40 +1,30 @@
 -- What a text in the compact form is read as.
 use Rattle.events.specs.declared.event.Event.TheVariants as events
 use Rattle.events.specs.declared.event.Reply.TheVariants as replies
-use Rattle.std.proofs.Common.{◌≡◌, ℕ, suc, ◌+◌, ◌-◌, ◌*◌, ◌/◌, ◌%◌, ◌^◌, ◌<◌, ◌≤◌, max, Bool, true, false, ◌&&◌, nat_lt, ltb-true, List, [], ◌∷◌, ◌++◌, length, map, codes, decimal}
-use Rattle.std.proofs.Common.{take, drop, get_or, Option, Some, None, length-append, option_map, option_and_then, inl, refl, sym, ap, ap₂, ◌∙◌, arith, subst, append_assoc, append-nil, take-append-drop}
-use Rattle.std.specs.Prelude.{IfSome}
-use Rattle.std.specs.Str.{IsAscii}
+use Rattle.stream_text.proofs.Common.{◌≡◌, ℕ, suc, ◌+◌, ◌-◌, ◌*◌, ◌/◌, ◌%◌, ◌^◌, ◌<◌, ◌≤◌, max, Bool, true, false, ◌&&◌, nat_lt, ltb-true, List, []}
+use Rattle.stream_text.proofs.Common.{◌∷◌, ◌++◌, length, map, codes, decimal, take, drop, get_or, Option, Some, None, length-append, option_map}
+use Rattle.stream_text.proofs.Common.{option_and_then, inl, refl, sym, ap, ap₂, ◌∙◌, arith, subst, append_assoc, append-nil, take-append-drop, IfSome}
+use Rattle.stream_text.proofs.Common.{IsAscii, map-append, take_more, take_rest, Data, null, boolean, number, string, array, object, Items, no_items}
+use Rattle.stream_text.proofs.Common.{item, Members, no_members, member, depth, items_depth, members_depth, read, max_depth, of_json, of_items}
+use Rattle.stream_text.proofs.Common.{items_of, Call, Reply, Event, TextVersion, number_data, list_data, pair_data, call_data, reply_data, event_data}
+use Rattle.stream_text.proofs.Common.{invocation_data, response_data, IsPlain, ArePlain, IsCompact, BeginsWith, line_limit, as_event, MayStandIn}
+use Rattle.stream_text.proofs.Common.{SpellsEvent, StreamEvent}
 use Rattle.std.proofs.lemmas.Bool.{and_parts}
 use Rattle.std.proofs.lemmas.Fmt.{IsAscii-decimal, decimal_digit, decimal_step}
 use Rattle.std.proofs.lemmas.Str.{IsAscii-append, IsUtf8-from_ascii}
 use Rattle.std.proofs.lemmas.Str.Ascii.{IsAscii-nil, IsAscii-cons}
-use Rattle.std.proofs.lemmas.List.{map-append, take_more, take_rest}
 use Rattle.json.specs.Lex.{tokens}
-use Rattle.json.specs.Json as json
-use Rattle.json.specs.Tree as tree
 use Rattle.json.specs.Print.{escape_byte, quoted}
 use Rattle.json.proofs.Printed.Decimals.{IsNumber-decimal}
 use Rattle.json.proofs.Printed.Tokens.{tokens-print}
 use Rattle.json.proofs.Printed.Trees.{value-json_tokens, ArePrintable-json_tokens}
-use Rattle.serde_json.specs.Data.{Data, null, boolean, number, string, array, object, Items, no_items, item, Members, no_members, member, depth, items_depth, members_depth}
-use Rattle.serde_json.specs.Read.{read, max_depth, of_json, of_items}
-use Rattle.serde_json.specs.View.{items_of}
 use Rattle.serde_json.specs.Written.{outline, items_outline, members_outline, comma_if, compact_text, items_text}
 use Rattle.serde_json.proofs.Numbers.{number_of-decimal}
 use Rattle.serde_json.proofs.Texts.{print-outline}
-use Rattle.events.specs.declared.event.Call.{Call}
 use Rattle.events.specs.declared.event.Call.TheVariants.{Get, Insert, Remove, Scan, Replace}
-use Rattle.events.specs.declared.event.Reply.{Reply}
-use Rattle.events.specs.declared.event.Event.{Event}
-use Rattle.history_text.specs.declared.version.TextVersion.{TextVersion}
-use Rattle.history_text.specs.Texts.{number_data, list_data, pair_data, call_data, reply_data, event_data}
-use Rattle.history_text.specs.ValueFaults.{invocation_data, response_data}
 use Rattle.history_text.proofs.WrittenLemmas.{depth-event}
-use Rattle.stream_text.specs.Compact.{IsPlain, ArePlain, IsCompact, BeginsWith}
-use Rattle.stream_text.specs.LineLimits.{line_limit}
-use Rattle.stream_text.specs.Lines.{as_event, MayStandIn, SpellsEvent}
-use Rattle.stream_text.specs.declared.event.StreamEvent.{StreamEvent}
+use Rattle.json.specs.Json as json
+use Rattle.json.specs.Tree as tree
 
 -- ---- plain values
 
@@ -148,7 +138,7 @@ read_compact d text h shallow =
     ∙ value-json_tokens j max_depth [] (omega (arith, outline_depth d)))
     ∙ h.plain.same
 
--- so a line that is the compact text of an event spells it
+-- a line that is the compact text of an event spells it
 pub spells_compact : (version : TextVersion) (line : List ℕ) (e : Event) → length line ≤ line_limit → IsCompact (event_data e) line
     → MayStandIn version e → SpellsEvent version line e
 spells_compact version line e short h stands = record {
@@ -174,7 +164,7 @@ decimal_more n d some digit fits =
     let last : (n * 10 + d) % 10 ≡ d = omega arith in
     decimal_step (n * 10 + d) (omega arith) fits ∙ rw (front, last) refl
 
--- the number 0 stands alone
+-- the number 0 is one digit
 pub zero_front : (text : List ℕ) → 0 < length text → get_or text 0 0 ≡ 48 → text ≡ decimal 0 ++ take (length text - 1) (drop 1 text)
 zero_front [] some zero_is = absurd (omega arith)
 zero_front (b ∷ text) some zero_is =
@@ -195,7 +185,7 @@ pub digits_end : (text : List ℕ) (i n : ℕ) → take i text ≡ decimal n →
 digits_end text i n so_far =
     sym (take-append-drop i text) ∙ ap₂ (λ (xs ys : List ℕ). xs ++ ys) so_far (sym (take_rest text i))
 
--- numbers, each with the byte behind it
+-- numbers, each with the byte after it
 one : (xs rest : List ℕ) → xs ++ 93 ∷ rest ≡ (xs ++ 93 ∷ []) ++ rest
 one xs rest = sym (append_assoc xs (93 ∷ []) rest)
 
@@ -290,7 +280,7 @@ pair_begins key value text t u rest e f g k l = record {
   plain = plain_list (number_data key ∷ number_data value ∷ []) (plain_number key k, (plain_number value l, tt));
 }
 
--- the texts of pairs, each with the comma behind it
+-- the texts of pairs, each with the comma after it
 abbrev pub pairs_before : List (ℕ × ℕ) → List ℕ
 pairs_before [] = []
 pairs_before (pair ∷ pairs) = compact_text (pair_data pair) ++ 44 ∷ pairs_before pairs

@@ -1,19 +1,11 @@
 -- How bytes are cut at their line feeds.
-use Rattle.std.proofs.Common.{◌≡◌, ◌≢◌, ℕ, ◌+◌, ◌-◌, ◌<◌, ◌≤◌, ◌==◌, Bool, true, false, nat_lt, ltb-true, List, [], ◌∷◌, ◌++◌, length, take}
-use Rattle.std.proofs.Common.{drop, get_or, Option, Some, None}
-use Rattle.std.proofs.Common.{inl, inr, subst, refl, sym, ap, ◌∙◌, append-nil, append_assoc, take-append-drop, length-take, length-drop}
-use Rattle.std.proofs.Common.{arith}
-use Rattle.std.specs.Prelude.{◌⊎◌}
-use Rattle.std.specs.Io.KnownBytes.{Consumes, IsAtEnd, Keeps, prepend_known}
+use Rattle.stream_text.proofs.Common.{◌≡◌, ◌≢◌, ℕ, ◌+◌, ◌-◌, ◌<◌, ◌≤◌, ◌==◌, Bool, true, false, nat_lt, ltb-true, List, [], ◌∷◌, ◌++◌, length, take}
+use Rattle.stream_text.proofs.Common.{drop, get_or, Option, Some, None, inl, inr, subst, refl, sym, ap, ◌∙◌, append-nil, append_assoc}
+use Rattle.stream_text.proofs.Common.{take-append-drop, length-take, length-drop, arith, ◌⊎◌, Consumes, IsAtEnd, Keeps, prepend_known, take_rest}
+use Rattle.stream_text.proofs.Common.{get_or-drop, get_or_default, nil_from_length, All-head, All-tail, All-append, take-add, line_feed}
+use Rattle.stream_text.proofs.Common.{HasNoLineFeed, lines_of, TakesLine, Advances, BeginsTooLong, line_limit, TakesFirstLine, GrowsBy}
 use Rattle.std.proofs.lemmas.Bool.Decides.{nat_tests}
-use Rattle.std.proofs.lemmas.List.{take_rest, get_or-drop, get_or_default, nil_from_length}
-use Rattle.std.proofs.lemmas.List.Elements.{All-head, All-tail, All-append}
-use Rattle.std.proofs.Math.Seq.{take-add}
 use Rattle.list_laws.proofs.Places.{parts_at}
-use Rattle.stream_text.specs.Cuts.{line_feed, HasNoLineFeed, lines_of, TakesLine, Advances, BeginsTooLong}
-use Rattle.stream_text.specs.LineLimits.{line_limit}
-use Rattle.stream_text.specs.LineLaws.{TakesFirstLine}
-use Rattle.stream_text.specs.LineBuffers.{GrowsBy}
 
 -- ---- lines of bytes
 
@@ -76,7 +68,7 @@ IsAtEnd-prepend : (known : Option (List ℕ)) (bytes : List ℕ) → bytes ≡ [
 IsAtEnd-prepend None bytes none end = tt
 IsAtEnd-prepend (Some x) bytes none end = ap (λ xs. xs ++ x) none ∙ end
 
--- bytes that a source gave stand behind those at hand
+-- bytes that a source gave come after those at hand
 pub Keeps-grown : (old new : Option (List ℕ)) (before after : List ℕ) (count : ℕ) → GrowsBy old new before after count
     → Keeps (prepend_known before old) (prepend_known after new)
 Keeps-grown None new before after count h = tt
@@ -86,7 +78,7 @@ Keeps-grown (Some x) (Some y) before after count h =
 
 -- ---- a line feed that was found
 
--- no line feed stands before the first of what was not yet looked at
+-- no line feed comes before the first of what was not yet looked at
 pub whole_before : (bytes : List ℕ) (seen more : ℕ) → HasNoLineFeed (take seen bytes) → HasNoLineFeed (take more (drop seen bytes))
     → HasNoLineFeed (take (seen + more) bytes)
 whole_before bytes seen more first next =
@@ -97,7 +89,7 @@ whole_before bytes seen more first next =
 abbrev rest_of : List ℕ → ℕ → List ℕ
 rest_of bytes seen = take (length bytes - seen) (drop seen bytes)
 
--- nor in all of the bytes, where the rest has none
+-- no line feed is in all of the bytes, if the rest has none
 pub whole_all : (bytes : List ℕ) (seen : ℕ) → HasNoLineFeed (take seen bytes) → HasNoLineFeed (rest_of bytes seen) → HasNoLineFeed bytes
 whole_all bytes seen first next =
     subst HasNoLineFeed (take-append-drop seen bytes)
@@ -131,7 +123,7 @@ fed_parts bytes seen more h =
     parts_at bytes (seen + more) line_feed within here
     ∙ sym (append_assoc (take (seen + more) bytes) (line_feed ∷ []) (drop (seen + more + 1) bytes))
 
--- so that line is taken
+-- the line up to the line feed is taken
 pub takes_fed : (old known : Option (List ℕ)) (bytes : List ℕ) (seen more : ℕ) → Keeps old (prepend_known bytes known)
     → IsFedAt bytes seen more
     → seen + more ≤ line_limit → TakesLine old (take (seen + more) bytes) (prepend_known (drop (seen + more + 1) bytes) known)

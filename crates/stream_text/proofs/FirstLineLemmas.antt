@@ -2,32 +2,21 @@
 use Rattle.stream_text.specs.declared.line_fault.LineFault.TheVariants as faults
 use Rattle.stream_text.specs.declared.event.FirstLine.TheVariants as first
 use Rattle.events.specs.declared.event.Event.TheVariants as events
-use Rattle.std.proofs.Common.{◌≡◌, ◌≢◌, ℕ, ◌<◌, true, false, true≢false, List, [], ◌∷◌, ◌++◌, length, map, codes, get_or, inl, inr, subst}
-use Rattle.std.proofs.Common.{refl, sym, ap, ◌∙◌, arith, Result, Ok, Err, IfOk, IfErr}
-use Rattle.std.specs.Prelude.{◌⊎◌, All, IsTrue}
-use Rattle.std.proofs.lemmas.List.Elements.{All-head, All-weaker}
+use Rattle.stream_text.proofs.Common.{◌≡◌, ◌≢◌, ℕ, ◌<◌, true, false, true≢false, List, [], ◌∷◌, ◌++◌, length, map, codes, get_or, inl, inr, subst}
+use Rattle.stream_text.proofs.Common.{refl, sym, ap, ◌∙◌, arith, Result, Ok, Err, IfOk, IfErr, ◌⊎◌, All, IsTrue, All-head, All-weaker, Data, Event}
+use Rattle.stream_text.proofs.Common.{KeysRise, is_above, TextVersion, number_data, list_data, pair_data, call_data, reply_data, event_data}
+use Rattle.stream_text.proofs.Common.{IsEventData, AreSpelled, list_data_injective, first_names, pairs_injective, same_version, IsPairData, one_pair}
+use Rattle.stream_text.proofs.Common.{pairs_spelled, as_event, start_object, NamesVersion, start_line_data, IsLine, IsFirstOf, SpellsFirst}
+use Rattle.stream_text.proofs.Common.{ShowsPairFault, IsStartFault, IsFirstFault, IsFirstLineFault, SpellsOneFirst, HasOneFirstFault}
+use Rattle.stream_text.proofs.Common.{FaultySpellsNoFirst, StreamEvent, LineFault}
 use Rattle.std.proofs.lemmas.List.Quantifiers.{all_pairs_push}
 use Rattle.list_laws.proofs.Lists.{AllPairs-across}
-use Rattle.serde_json.specs.Data.{Data}
-use Rattle.events.specs.declared.event.Event.{Event}
-use Rattle.events.specs.Starts.{KeysRise}
-use Rattle.events.specs.HistoryFaults.{is_above}
 use Rattle.events.proofs.StartLemmas.{is_above-true, is_above-All}
-use Rattle.history_text.specs.declared.version.TextVersion.{TextVersion}
 use Rattle.history_text.specs.declared.version.TextVersion.TheVariants.{One}
 use Rattle.history_text.specs.Versions.{version_number, has_start}
-use Rattle.history_text.specs.Texts.{number_data, list_data, pair_data, call_data, reply_data, event_data, IsEventData, AreSpelled}
-use Rattle.history_text.proofs.DataLemmas.{list_data_injective, first_names}
-use Rattle.history_text.proofs.TextLemmas.{pairs_injective}
-use Rattle.history_text.proofs.DocumentLemmas.{same_version, IsPairData, one_pair, pairs_spelled}
 use Rattle.history_text.proofs.SplitLemmas.{GoesOnWith, SplitsAlike, item_at, two_splits}
-use Rattle.stream_text.specs.Lines.{as_event, start_object, NamesVersion, start_line_data, IsLine, IsFirstOf, SpellsFirst}
-use Rattle.stream_text.specs.LineFaults.{ShowsPairFault, IsStartFault, IsFirstFault, IsFirstLineFault}
-use Rattle.stream_text.specs.LineLaws.{SpellsOneFirst, HasOneFirstFault, FaultySpellsNoFirst}
 use Rattle.stream_text.specs.declared.event.FirstLine.{FirstLine}
-use Rattle.stream_text.specs.declared.event.StreamEvent.{StreamEvent}
 use Rattle.stream_text.specs.declared.event.StreamEvent.TheVariants.{Invoke, Answer}
-use Rattle.stream_text.specs.declared.line_fault.LineFault.{LineFault}
 use Rattle.stream_text.proofs.LineLemmas.{one_line_value, one_event, one_fault_of_lines, value_fault, one_event_fault, no_event_fault, memory_alone}
 
 -- ---- pairs by rising key
@@ -38,7 +27,7 @@ pub KeysRise-push : (before : List (ℕ × ℕ)) (pair : ℕ × ℕ) → KeysRis
 KeysRise-push before pair rising above =
     all_pairs_push (λ (a : ℕ × ℕ) (b : ℕ × ℕ). a.0 < b.0) before pair rising (is_above-All before pair.0 above)
 
--- of pairs by rising key, each key is above those before it
+-- among pairs by rising key, each key is above those before it
 KeysRise-here : (before rest : List (ℕ × ℕ)) (pair : ℕ × ℕ) → KeysRise (before ++ pair ∷ rest) → is_above before pair.0 ≡ true
 KeysRise-here before rest pair h =
     let across = AllPairs-across (λ (a : ℕ × ℕ) (b : ℕ × ℕ). a.0 < b.0) before (pair ∷ rest) h in
@@ -72,7 +61,7 @@ event_is_no_start (events.Answer p reply) s v h =
     answer_is_no_start (first_names (codes "answer") (codes "process") (codes "start") (codes "version") (reply_data reply) (number_data p)
     s v h)
 
--- and no value that spells one in a stream of version 1 is of starting pairs
+-- no value that spells an event in a stream of version 1 is of starting pairs
 no_start_of_event : (d : Data) (e : Event) (s v : Data) → IsEventData One d e → d ≡ start_object s v → ⊥
 no_start_of_event d e s v (inl h) is = event_is_no_start e s v (sym h ∙ is)
 no_start_of_event d e s v (inr h) is = cc

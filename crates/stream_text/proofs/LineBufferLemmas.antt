@@ -1,18 +1,15 @@
--- What stands between two places of a buffer.
-use Rattle.std.proofs.Common.{◌≡◌, ℕ, ◌+◌, ◌-◌, ◌≤◌, min, List, ◌++◌, length, take, drop, sym, ap, ◌∙◌, length-take, length-drop}
-use Rattle.std.proofs.Common.{arith}
-use Rattle.std.specs.List.{between}
-use Rattle.std.proofs.lemmas.List.{take-take, drop-drop, drop_min, drop-append-le, take_at, length-take-le}
+-- What is between two places of a buffer.
+use Rattle.stream_text.proofs.Common.{◌≡◌, ℕ, ◌+◌, ◌-◌, ◌≤◌, min, List, ◌++◌, length, take, drop, sym, ap, ◌∙◌, length-take, length-drop, arith}
+use Rattle.stream_text.proofs.Common.{between, take-take, drop-drop, drop_min, drop-append-le, take_at, length-take-le, take-add}
 use Rattle.std.proofs.lemmas.Slice.{between_is}
-use Rattle.std.proofs.Math.Seq.{take-add}
 
--- the first of what stands there
+-- the first of what is there
 pub between_front : (xs : List ℕ) (from to count : ℕ) → from + count ≤ to → between from (from + count) xs ≡ take count (between from to xs)
 between_front xs from to count within =
     let size : from + count - from ≡ count = omega arith in
     rw size (sym (take-take count (to - from) (drop from xs) (omega arith)))
 
--- what stands behind it and one more
+-- what comes after it and one more
 pub between_rest : (xs : List ℕ) (from to count : ℕ) → from ≤ to → to ≤ length xs
     → between (min to (from + count + 1)) to xs ≡ drop (count + 1) (between from to xs)
 between_rest xs from to count order within =
@@ -23,7 +20,7 @@ between_rest xs from to count order within =
     ∙ (drop_min (from + (count + 1)) (take to xs)
     ∙ (sym (drop-drop (count + 1) from (take to xs)) ∙ ap (drop (count + 1)) (sym (between_is xs from to)))))
 
--- what was put behind it
+-- what was put after it
 pub between_grown : (old new : List ℕ) (from to count : ℕ) → from ≤ to → to + count ≤ length new → take to new ≡ take to old
     → between from (to + count) new ≡ between from to old ++ between to (to + count) new
 between_grown old new from to count order within kept =
@@ -35,11 +32,11 @@ between_grown old new from to count order within kept =
     ∙ (ap (λ xs. drop from xs ++ take count (drop to new)) kept
     ∙ rw more (ap (λ xs. xs ++ take count (drop to new)) (sym (between_is old from to))))))
 
--- so much stands there
+-- how many bytes are between two places
 pub length_between : (xs : List ℕ) (from to : ℕ) → from ≤ to → to ≤ length xs → length (between from to xs) ≡ to - from
 length_between xs from to order within = omega (arith, length-take (to - from) (drop from xs), length-drop from xs)
 
--- what stands before a place stands between places before it
+-- what comes before a place is between places before it
 pub between_same : (xs ys : List ℕ) (i j : ℕ) → take j xs ≡ take j ys → between i j xs ≡ between i j ys
 between_same xs ys i j h = between_is xs i j ∙ (ap (drop i) h ∙ sym (between_is ys i j))
 
@@ -69,7 +66,7 @@ module _
   pub kept_before : between a b (written items room read len) ≡ bytes
   kept_before = ap (between a b) written_is ∙ (between_same read room a b (before ∙ ap (take b) old_is) ∙ moved)
 
-  -- and what was read stands behind it
+  -- what was read comes after the bytes
   pub grown_behind : (count : ℕ) → a ≤ b → b + count ≤ length read
       → between a (b + count) (written items room read len) ≡ bytes ++ between b (b + count) read
   grown_behind count order within =

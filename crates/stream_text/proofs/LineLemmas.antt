@@ -1,23 +1,12 @@
 -- A line has one meaning: it spells one event, or has one fault.
 use Rattle.stream_text.specs.declared.line_fault.LineFault.TheVariants as faults
-use Rattle.std.proofs.Common.{◌≡◌, ◌≢◌, ℕ, ◌<◌, ◌≤◌, List, length, Some, inl, inr, subst, refl, sym, ap, ◌∙◌, arith}
-use Rattle.std.specs.Prelude.{◌⊎◌, IsTrue}
-use Rattle.std.specs.Str.{IsUtf8}
-use Rattle.serde_json.specs.Data.{Data}
-use Rattle.serde_json.specs.Read.{read}
-use Rattle.events.specs.declared.event.Event.{Event}
+use Rattle.stream_text.proofs.Common.{◌≡◌, ◌≢◌, ℕ, ◌<◌, ◌≤◌, List, length, Some, inl, inr, subst, refl, sym, ap, ◌∙◌, arith, ◌⊎◌, IsTrue, IsUtf8}
+use Rattle.stream_text.proofs.Common.{Data, read, Event, is_shaped, TextVersion, IsEventData, may_stand, same_value, line_limit, number_limit, IsLine}
+use Rattle.stream_text.proofs.Common.{MayStandIn, IsByteFault, IsEventFault, IsLineFault, SpellsOneEvent, HasOneLineFault, FaultySpellsNoEvent}
+use Rattle.stream_text.proofs.Common.{LineFault}
 use Rattle.events.specs.Events.{process_of}
-use Rattle.events.specs.Histories.{is_shaped}
-use Rattle.history_text.specs.declared.version.TextVersion.{TextVersion}
-use Rattle.history_text.specs.Texts.{IsEventData, may_stand}
 use Rattle.history_text.specs.TextFaults.{SpellsNoEvent}
-use Rattle.history_text.proofs.DocumentLemmas.{same_value}
 use Rattle.history_text.proofs.TextLemmas.{one_event as same_event}
-use Rattle.stream_text.specs.LineLimits.{line_limit, number_limit}
-use Rattle.stream_text.specs.Lines.{IsLine, MayStandIn}
-use Rattle.stream_text.specs.LineFaults.{IsByteFault, IsEventFault, IsLineFault}
-use Rattle.stream_text.specs.LineLaws.{SpellsOneEvent, HasOneLineFault, FaultySpellsNoEvent}
-use Rattle.stream_text.specs.declared.line_fault.LineFault.{LineFault}
 
 -- a line has one value only
 pub one_line_value : (line : List ℕ) (d e : Data) → IsLine line d → IsLine line e → d ≡ e
@@ -116,7 +105,7 @@ pub one_event_fault : (version : TextVersion) (d : Data) (f g : LineFault) → I
 one_event_fault version d f g a b not_f not_g =
     one_event_kind version d f g (EventKind-from_fault version d f a not_f) (EventKind-from_fault version d g b not_g)
 
--- the value of an event that may stand there has none
+-- the value of an event that may be there has none
 no_event_kind : (version : TextVersion) (d : Data) (e : Event) (f : LineFault) → EventKind version d f → IsEventData version d e
     → MayStandIn version e → ⊥
 no_event_kind version d e f (inl a) is stands = a.1 e is stands.shaped stands.standing
@@ -138,7 +127,7 @@ no_event version line f e h other spelled =
     no_event_fault version spelled.value e f (value_fault (IsEventFault version) line spelled.value f h other spelled.is_line) other
     spelled.spelled spelled.stands
 
--- a fault that cannot be another than want of memory is that
+-- a fault that cannot be another than `Memory` is that
 pub memory_alone : (f : LineFault) → (f ≢ faults.Memory → ⊥) → f ≡ faults.Memory
 memory_alone faults.TooLong h = absurd (h (λ e. cc))
 memory_alone faults.NotJson h = absurd (h (λ e. cc))

@@ -1,25 +1,12 @@
 -- What the values of a line are, one by one.
 use Rattle.stream_text.specs.declared.line_fault.LineFault.TheVariants as faults
-use Rattle.std.proofs.Common.{◌≡◌, ℕ, ◌+◌, ◌<◌, ◌≤◌, false, List, [], ◌∷◌, ◌++◌, length, map, take, drop, get_or, subst}
-use Rattle.std.proofs.Common.{inl, refl, sym, ap, ap₂, ◌∙◌}
-use Rattle.std.specs.Prelude.{IsTrue}
-use Rattle.std.proofs.lemmas.List.{map-append, take_more}
-use Rattle.serde_json.specs.Data.{Data}
-use Rattle.serde_json.specs.View.{view}
+use Rattle.stream_text.proofs.Common.{◌≡◌, ℕ, ◌+◌, ◌<◌, ◌≤◌, false, List, [], ◌∷◌, ◌++◌, length, map, take, drop, get_or, subst, inl, refl, sym, ap}
+use Rattle.stream_text.proofs.Common.{ap₂, ◌∙◌, IsTrue, map-append, take_more, Data, view, Call, Reply, has_range, is_above, KeysRise, TextVersion}
+use Rattle.stream_text.proofs.Common.{number_data, pair_data, call_data, reply_data, may_stand, invocation_data, response_data, pair_data_injective}
+use Rattle.stream_text.proofs.Common.{number_limit, IsEventFault, ShowsPairFault}
 use Rattle.serde_json.specs.declared.value.Value.{Value}
-use Rattle.events.specs.declared.event.Call.{Call}
-use Rattle.events.specs.declared.event.Reply.{Reply}
 use Rattle.events.specs.declared.event.Event.TheVariants.{Invoke, Answer}
-use Rattle.events.specs.Histories.{has_range}
-use Rattle.events.specs.HistoryFaults.{is_above}
-use Rattle.events.specs.Starts.{KeysRise}
-use Rattle.history_text.specs.declared.version.TextVersion.{TextVersion}
-use Rattle.history_text.specs.Texts.{number_data, pair_data, call_data, reply_data, may_stand}
-use Rattle.history_text.specs.ValueFaults.{invocation_data, response_data}
-use Rattle.history_text.proofs.TextLemmas.{pair_data_injective}
 use Rattle.history_text.proofs.ValueFaultLemmas.{pairs_before, pairs_and_value}
-use Rattle.stream_text.specs.LineLimits.{number_limit}
-use Rattle.stream_text.specs.LineFaults.{IsEventFault, ShowsPairFault}
 
 -- an invocation by a process past the limit is too many
 pub too_many-invocation : (version : TextVersion) (p : ℕ) (call : Call) (c d : Data) → c ≡ call_data call → d ≡ number_data p
@@ -28,7 +15,7 @@ pub too_many-invocation : (version : TextVersion) (p : ℕ) (call : Call) (c d :
 too_many-invocation version p call c d spelled number range h standing =
     (Invoke p call, inl (rw (spelled, number) refl), range, standing, h)
 
--- and so is a response
+-- a response by a process past the limit is too many
 pub too_many-response : (version : TextVersion) (p : ℕ) (reply : Reply) (c d : Data) → c ≡ reply_data reply → d ≡ number_data p
     → number_limit ≤ p → IsTrue (may_stand version (Answer p reply))
     → IsEventFault version (response_data c d) faults.TooMany
@@ -44,7 +31,7 @@ pairs_more vs before i v pair within here spelled next =
     ∙ (ap₂ (λ (xs : List Data) (x : Data). xs ++ x ∷ []) spelled (ap view (sym here) ∙ next)
     ∙ sym (map-append pair_data before (pair ∷ []))))
 
--- a value that spells no pair which may stand there shows the fault
+-- a value that spells no pair which may be there shows the fault
 pub faulty_pair : (vs : List Value) (before : List (ℕ × ℕ)) (i : ℕ) (v : Value) → i < length vs → v ≡ get_or vs i v
     → map view (take i vs) ≡ map pair_data before
     → KeysRise before → ((pair : ℕ × ℕ) → view v ≡ pair_data pair → is_above before pair.0 ≡ false) → ShowsPairFault (map view vs) i

@@ -21,8 +21,8 @@ abbrev pub lines_of : List ℕ → List (List ℕ)
 lines_of [] = []
 lines_of (byte ∷ bytes) = if byte == line_feed then [] ∷ lines_of bytes else before_lines byte (lines_of bytes)
 
--- of the bytes to come, where they are known, a line was taken and what ends it: a line feed, or
--- the end
+-- if the bytes to come are known, a line was taken from them, and what ends it: a line feed, or the
+-- end
 pub record TakesLine (old : Option (List ℕ)) (line : List ℕ) (new : Option (List ℕ)) : Type 0 where
   pub whole : HasNoLineFeed line
   pub short : length line ≤ line_limit

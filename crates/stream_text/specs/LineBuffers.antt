@@ -1,13 +1,13 @@
--- What was read of a source and is still to be handed out.
+-- What was read of a source and is not yet returned as lines.
 use Rattle.std.specs.Prelude.{◌≡◌, ℕ, List, ◌++◌, length, Option}
 use Rattle.std.specs.Io.KnownBytes.{Consumes}
 
--- the line that was handed out last, and the bytes that were read after it
+-- the last line that was returned, and the bytes that were read after it
 pub record LineBufferView : Type 0 where
   pub line : List ℕ
   pub bytes : List ℕ
 
--- so many bytes that a source gave stand behind those that were there
+-- a source gave this many bytes, which come after those that were there
 pub record GrowsBy (old new : Option (List ℕ)) (before after : List ℕ) (count : ℕ) : Type 0 where
   pub bytes : List ℕ
   pub grown : after ≡ before ++ bytes

@@ -1,4 +1,4 @@
--- The first fault of a line that spells nothing that may stand there.
+-- The first fault of a line that spells nothing that it may.
 use Rattle.stream_text.specs.declared.line_fault.LineFault.TheVariants as faults
 use Rattle.std.specs.Prelude.{◌≡◌, ◌⊎◌, ℕ, ◌<◌, ◌≤◌, false, List, ◌∷◌, ◌++◌, length, map, Some, IsTrue, ⊤}
 use Rattle.std.specs.Str.{IsUtf8}

@@ -17,13 +17,13 @@ SpellsOneEvent = (version : TextVersion) (line : List ℕ) (a b : Event) → Spe
 abbrev pub SpellsOneFirst : Type 0
 SpellsOneFirst = (line : List ℕ) (a b : FirstLine) → SpellsFirst line a → SpellsFirst line b → a ≡ b
 
--- a line has one fault only, apart from want of memory
+-- a line has only one fault, apart from `Memory`
 abbrev pub HasOneLineFault : Type 0
 HasOneLineFault =
     (version : TextVersion) (line : List ℕ) (f g : LineFault) → IsEventLineFault version line f → IsEventLineFault version line g
     → f ≢ faults.Memory → g ≢ faults.Memory → f ≡ g
 
--- and so has a first line
+-- a first line has only one fault, apart from `Memory`
 abbrev pub HasOneFirstFault : Type 0
 HasOneFirstFault =
     (line : List ℕ) (f g : LineFault) → IsFirstLineFault line f → IsFirstLineFault line g → f ≢ faults.Memory → g ≢ faults.Memory → f ≡ g
@@ -34,7 +34,7 @@ FaultySpellsNoEvent =
     (version : TextVersion) (line : List ℕ) (f : LineFault) (e : Event) → IsEventLineFault version line f → f ≢ faults.Memory
     → SpellsEvent version line e → ⊥
 
--- and a first line with a fault spells nothing
+-- a first line with a fault spells nothing
 abbrev pub FaultySpellsNoFirst : Type 0
 FaultySpellsNoFirst = (line : List ℕ) (f : LineFault) (first : FirstLine) → IsFirstLineFault line f → f ≢ faults.Memory
     → SpellsFirst line first → ⊥

@@ -28,8 +28,8 @@ pub record IsLine (line : List ℕ) (d : Data) : Type 0 where
   pub short : length line ≤ line_limit
   pub json : IsJson line d
 
--- an event that may stand in a stream of a version: a scan has its ends in order, a replace needs
--- starting pairs, and an answer that tells less than the map answers needs version 3
+-- an event that a stream of a version may have: a scan has its ends in order, a replace needs
+-- starting pairs, and a partial answer needs version 3
 pub record MayStandIn (version : TextVersion) (e : Event) : Type 0 where
   pub shaped : IsTrue (is_shaped e)
   pub standing : IsTrue (may_stand version e)

@@ -14,8 +14,9 @@ use events::{Call, Pairs, Reply};
 use history_text::TextVersion;
 use std::alloc::Global;
 
-/// The event that a line in the compact form spells, in a stream of a version. Of any other line
-/// this says nothing, nor where an event may not stand in that version, nor if memory runs out.
+/// The event that a line in the compact form spells, in a stream of a version. `None` says nothing:
+/// the line may have another form, the event may not be allowed in that version, or memory may have
+/// run out.
 pub fn compact_event(alloc: Global, version: TextVersion, line: &[u8]) -> Option<StreamEvent>
     ensures { IfSome result (λ e. SpellsEvent version line.now (as_event e)) }
 {
@@ -240,7 +241,7 @@ fn pairs_reply(pairs: Vec<(u64, u64)>) -> Reply
 }
 
 /// Puts the pairs that a text begins with into a list, which has none: one or more, with a comma
-/// between two of them, before a closing bracket. Answers what is left after that.
+/// between two of them, before a closing bracket. Returns what is left after that.
 fn pairs_in<'a>(pairs: &mut Vec<(u64, u64)>, text: &'a [u8]) -> Option<&'a [u8]>
     requires { pairs.old.items ≡ [] }
     ensures text { IfSome result (λ rest. text.now
@@ -286,7 +287,7 @@ fn number_before<'a>(text: &'a [u8], end: &[u8]) -> Option<(u64, &'a [u8])>
     Some((number, rest))
 }
 
-/// The number in plain decimal that a text begins with, where its digits end before the text does.
+/// The number in plain decimal that a text begins with, if its digits end before the text does.
 /// After a 0 nothing more of it is read.
 fn number_at(text: &[u8]) -> Option<(u64, &[u8])>
     ensures text { IfSome result (λ found. text.now ≡ decimal found.0 ++ found.1.now) }

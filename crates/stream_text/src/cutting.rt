@@ -9,9 +9,9 @@ use crate::line_buffer::LineBuffer;
 use crate::no_line::NoLine;
 use streams::Source;
 
-/// Hands out the next line of a source, of which a beginning was read into the buffer, and answers
-/// whether there is one; else why none was handed out: then nothing that is to come is lost, and a
-/// later call begins at the same bytes. It takes no memory. The time is linear in the bytes read.
+/// Reads the next line of a source into the buffer, which may hold a beginning of it, and returns
+/// whether there is one. If it fails, no bytes are lost, and a later call begins at the same bytes.
+/// It takes no memory. The time is linear in the bytes read.
 pub fn next_line<S: Source>(buffer: &mut LineBuffer, source: &mut S) -> Result<bool, NoLine>
     requires { S.failures source.old < u64.MAX }
     ensures line { IfOk result (λ found. Advances found
@@ -23,7 +23,7 @@ pub fn next_line<S: Source>(buffer: &mut LineBuffer, source: &mut S) -> Result<b
     ensures too_long { IsErrOf result NoLine.TooLong
         → BeginsTooLong (prepend_known buffer.old.bytes (S.remaining source.old)) }
 
-    // The count of failures rises exactly where the answer is that a call failed.
+    // The count of failures rises exactly if the result is that a call failed.
     ensures counted { OnOk result (S.failures source.new ≡ S.failures source.old) }
     ensures unread { IsErrOf result NoLine.TooLong → S.failures source.new ≡ S.failures source.old }
     ensures raised { IsErrOf result NoLine.Failed

@@ -2,15 +2,15 @@
 ghost use Rattle.stream_text.specs.LineLaws.{SpellsOneEvent, SpellsOneFirst, TakesFirstLine};
 ghost use Rattle.stream_text.specs.LineLaws.{HasOneLineFault, HasOneFirstFault, FaultySpellsNoEvent, FaultySpellsNoFirst};
 
-/// A line spells one event only, and a first line one thing only: so what is read of a line is all
+/// A line spells only one event, and a first line only one thing. So what is read of a line is all
 /// that there is to read.
 pub fn one_event_line()
     ensures event { SpellsOneEvent }
     ensures first { SpellsOneFirst }
 {}
 
-/// A line has one fault only, apart from `Memory`, and a line with a fault spells nothing: so a
-/// line can be answered in one way only, unless memory runs out.
+/// A line has only one fault, apart from `Memory`, and a line with a fault spells nothing. So a
+/// line can be answered in only one way, unless memory runs out.
 pub fn one_line_fault()
     ensures event { HasOneLineFault }
     ensures first { HasOneFirstFault }
@@ -18,7 +18,7 @@ pub fn one_line_fault()
     ensures no_first { FaultySpellsNoFirst }
 {}
 
-/// The lines that `next_line` hands out one after another are those of the source's bytes, in their
+/// The lines that `next_line` reads one after another are those of the source's bytes, in their
 /// order.
 pub fn lines_one_by_one()
     ensures { TakesFirstLine }

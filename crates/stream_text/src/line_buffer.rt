@@ -1,4 +1,4 @@
-// Bytes that were read and are still to be handed out, in memory that is taken once.
+// Bytes that were read and are not yet returned as lines, in memory that is allocated once.
 ghost use Rattle.std.specs.Prelude.{◌≡◌, ◌+◌, ◌<◌, ◌≤◌, [], Ok, length, take, drop, IfOk, OnOk, OnErr};
 ghost use Rattle.std.specs.Io.KnownBytes.{IsAtEnd, Keeps};
 ghost use Rattle.stream_text.specs.LineLimits.{line_limit};
@@ -10,11 +10,11 @@ use std::alloc::{AllocError, Global};
 use std::marker::Model;
 use streams::{Failed, Source};
 
-/// Twice the longest line: so what is moved to the front is never more than was read since the last
+/// Twice the longest line. So never more bytes are moved to the front than were read since the last
 /// move.
 const ROOM: usize = 2 * MAX_LINE;
 
-/// The line that was handed out last, and the bytes after it. Contracts see the two lists.
+/// The last line that was returned, and the bytes after it. Contracts see the two lists.
 #[derive(Drop)]
 pub struct LineBuffer {
     buffer: Vec<u8>,
@@ -52,7 +52,7 @@ impl LineBuffer {
         })
     }
 
-    /// The line that was handed out last.
+    /// The last line that was returned.
     pub fn line(&self) -> &[u8]
         ensures { result.now ≡ self.now.line }
     {
@@ -73,8 +73,7 @@ impl LineBuffer {
         self.line_end = self.line;
     }
 
-    /// Hands out the first bytes as the line, and passes over the byte behind them, where there is
-    /// one.
+    /// Makes the first bytes the line, and drops them and the byte after them, if there is one.
     pub fn hand_out(&mut self, count: usize)
         requires { count ≤ length self.old.bytes }
         ensures { self.new ≡ record { line = take count self.old.bytes; bytes = drop (count + 1) self.old.bytes } }
@@ -84,7 +83,7 @@ impl LineBuffer {
         self.from = self.to.min(self.line_end + 1);
     }
 
-    /// Reads once, behind the bytes. No line is handed out any more.
+    /// Reads once, to the end of the bytes. Then there is no line any more.
     pub fn fill<S: Source>(&mut self, source: &mut S) -> Result<usize, Failed>
         requires room { length self.old.bytes ≤ line_limit }
         requires few { S.failures source.old < u64.MAX }

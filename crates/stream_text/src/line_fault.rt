@@ -3,8 +3,8 @@ use events::Memory;
 use std::alloc::{AllocError, AllocFailed};
 use thiserror::Error;
 
-/// Why a line of a stream spells nothing that may stand there: its first fault, numbered as those
-/// of a history's text.
+/// Why a line of a stream spells nothing that it may: its first fault, numbered as those of a
+/// history's text.
 #[derive(Clone, Copy, Debug, PartialEq, Eq, Error)]
 pub enum LineFault {
     /// The line has more than `MAX_LINE` bytes.
@@ -13,8 +13,8 @@ pub enum LineFault {
     /// The line is no JSON in UTF-8.
     #[error("2 NotJson")]
     NotJson,
-    /// The first line has the members `start` and `version` alone, and these are no array and the
-    /// number 2 or 3.
+    /// The first line has only the members `start` and `version`, and these are not an array and
+    /// the number 2 or 3.
     #[error("3 Version")]
     Version,
     /// The line has no form that an event has.
@@ -23,7 +23,7 @@ pub enum LineFault {
     /// There is a process number of 65,536 or more.
     #[error("5 TooMany")]
     TooMany,
-    /// Memory was wanting.
+    /// Memory ran out.
     #[error("7 Memory")]
     Memory,
     /// The starting pair at this place is no pair of numbers, or its key is not above the one

@@ -6,7 +6,7 @@ use streams::Failed;
 /// Why no line was read. Nothing that is to come was lost.
 #[derive(Clone, Copy, Debug, PartialEq, Eq)]
 pub enum NoLine {
-    /// More than `MAX_LINE` bytes stand before the next line feed.
+    /// There are more than `MAX_LINE` bytes before the next line feed.
     TooLong,
     /// A call of the source failed.
     Failed,

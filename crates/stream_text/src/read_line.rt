@@ -24,9 +24,9 @@ use history_text::{
 use serde_json::Value;
 use std::alloc::Global;
 
-/// The event that a line spells, in a stream of a version. Otherwise the line's first fault, or
-/// `Memory`: its length is tested first, then that it is JSON, then its shape, what may not stand
-/// in that version among it, then its process number. A line without bytes is no JSON.
+/// Reads the event that a line spells, in a stream of a version. Otherwise returns the line's first
+/// fault, or `Memory`. It tests first the length of the line, then that it is JSON, then its shape
+/// and whether that version may have it, then its process number. A line without bytes is no JSON.
 pub fn read_event_line(
     alloc: Global,
     version: TextVersion,
@@ -43,8 +43,8 @@ pub fn read_event_line(
     event_by_value(alloc, version, line)
 }
 
-/// The same of a line in any form, by its tree of values. It is a call of its own, so that a line
-/// in the compact form does not pay for what the tree needs.
+/// Reads a line in any form, by its tree of values. It is a call of its own, so that a line in the
+/// compact form does not pay for what the tree needs.
 #[inline(never)]
 fn event_by_value(
     alloc: Global,
@@ -60,9 +60,9 @@ fn event_by_value(
     event_of(alloc, version, &value)
 }
 
-/// What the first line of a stream spells: starting pairs where it has the members `start` and
-/// `version` alone, else an event of a stream without. Otherwise its first fault: of starting pairs
-/// `Version`, then that of the first faulty pair, `Start`.
+/// Reads what the first line of a stream spells. It is starting pairs if it has only the members
+/// `start` and `version`, and else an event of a stream without them. Otherwise returns its first
+/// fault. Of starting pairs that is `Version`, and then that of the first faulty pair, `Start`.
 pub fn read_first_line(alloc: Global, line: &[u8]) -> Result<FirstLine, LineFault>
     ensures spelled { IfOk result (SpellsFirst line.now) }
     ensures refused { IfErr result (IsFirstLineFault line.now) }

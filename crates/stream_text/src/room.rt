@@ -1,4 +1,4 @@
-// Bytes in a buffer, and the room behind them.
+// Bytes in a buffer, and the room after them.
 ghost use Rattle.std.specs.Prelude.{◌≡◌, ◌+◌, ◌-◌, ◌<◌, ◌≤◌, Ok, length, take, vec_len, IfOk, OnOk, OnErr};
 ghost use Rattle.std.specs.List.{between};
 ghost use Rattle.std.specs.Io.KnownBytes.{Consumes, IsAtEnd, Keeps};
@@ -6,15 +6,15 @@ ghost use Rattle.std.specs.Io.KnownBytes.{Consumes, IsAtEnd, Keeps};
 use std::alloc::{AllocError, Global};
 use streams::{Failed, Source};
 
-/// A buffer of so many bytes.
+/// A buffer of this many bytes.
 pub fn buffer_of(alloc: Global, size: usize) -> Result<Vec<u8>, AllocError>
     ensures { IfOk result (λ buffer. vec_len buffer ≡ size) }
 {
     vec![in alloc; 0u8; size]
 }
 
-/// Has room behind the bytes from one place up to another: where there is none they are moved to
-/// the front. Answers where they stand then.
+/// Makes room after the bytes from one place up to another. If there is none, it moves them to the
+/// front. Returns where they are then.
 pub fn make_room(buffer: &mut [u8], from: usize, to: usize) -> (usize, usize)
     requires order { from ≤ to }
     requires within { to ≤ length buffer.old }
@@ -30,7 +30,7 @@ pub fn make_room(buffer: &mut [u8], from: usize, to: usize) -> (usize, usize)
     (0, to - from)
 }
 
-/// Reads once, into the room from a place on, and leaves what stands before it.
+/// Reads once, into the room from a place on, and leaves the bytes before it as they are.
 pub fn read_behind<S: Source>(source: &mut S, buffer: &mut [u8], to: usize) -> Result<usize, Failed>
     requires room { to < length buffer.old }
     requires few { S.failures source.old < u64.MAX }

@@ -129,7 +129,7 @@ module _ (fresh : ℕ) (keys : List ℕ) (owner : ℕ → ℕ) where
   abbrev Times : Operation → Operation → Type 0
   Times a t = HasTimes fresh keys owner a t
 
-  -- what is recorded of calls, but for precedence
+  -- what is recorded of calls, except for precedence
   record IsListOf (calls recorded : List Operation) : Type 0 where
     number : ℕ → ℕ
     source : ℕ → ℕ

@@ -41,7 +41,7 @@ value_at-filter p ((k, v) ∷ m) key = by_test (k == key) refl (value_at-filter 
         there true = rw e rest
         there false = rest
 
--- of two lists of pairs the first that has a value of a key tells it
+-- the first of two lists of pairs that has a value of a key gives it
 value_at-first : (xs ys : Contents) (key v : ℕ) → value_at xs key ≡ Some v → value_at (xs ++ ys) key ≡ Some v
 value_at-first [] ys key v h = absurd (none-some v h)
 value_at-first ((k, w) ∷ xs) ys key v h = by_test (k == key) h (value_at-first xs ys key v)
@@ -133,7 +133,7 @@ value_at-other m (Replace key expected value) other differ = either (is_just (va
 
 -- ---- the same of calls that were answered
 
--- a relation of what a call leaves holds of what it leaves with a reply
+-- what is related to all that a call leaves is related to what it leaves with a reply
 after_either : (P : Contents → Option ℕ → Type 0) (m : Contents) (call : Call) (reply : Reply) (x : Option ℕ) → P m x → P (after m call) (next call x)
     → P (after_reply m call reply) (next_reply call reply x)
 after_either P m call replies.None x h k = k
@@ -159,7 +159,7 @@ pub value_at-scan_reply : (m : Contents) (low high : ℕ) (reply : Reply) (key :
 value_at-scan_reply m low high reply key =
     after_either (λ n x. value_at n key ≡ value_at m key) m (Scan low high) reply None refl refl
 
--- pairs by rising key stay so
+-- pairs stay sorted by key
 after_rises : (m : Contents) (call : Call) → IsRising m → IsRising (after m call)
 after_rises m (Get key) h = h
 after_rises m (Insert key value) h = IsRising-insert m h key value
@@ -187,7 +187,7 @@ left_most stays m key = rw (value_at-filter stays m key) (either (stays key))
     either true = inr refl
     either false = inl refl
 
--- and any values can be
+-- any values can be left
 pub left_as : (target : ℕ → Option ℕ) (m : Contents) → ((key : ℕ) → AtMost (target key) (value_at m key)) → (key : ℕ)
     → value_at (left (λ k. is_some (target k)) m) key ≡ target key
 left_as target m h key = value_at-filter (λ k. is_some (target k)) m key ∙ either (target key) (h key)

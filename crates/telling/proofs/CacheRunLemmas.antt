@@ -17,7 +17,7 @@ use Rattle.telling.proofs.CacheValueLemmas.{AtMost, shown, shown_below}
 use Rattle.telling.proofs.CacheMapLemmas.{left_rises, left_most, reply_rises, value_at-within, value_at-own, value_at-other}
 use Rattle.telling.proofs.CacheCallLemmas.{IsWithin, AtMost-trans, by_key, go, Shows, come, keeps_fresh}
 
--- ---- the reply of a response; a pending call tells as little as one that is answered `done`
+-- ---- the reply of a response; a pending call reports as little as one that is answered `done`
 
 abbrev reply_of : Option Response → Reply
 reply_of None = replies.Done
@@ -329,7 +329,7 @@ module _ (bound : ℕ) (keys : List ℕ) (calls recorded : List Operation) (is :
   abbrev pub HasOther : ℕ → Type 0
   HasOther key = (b : Operation) × Contains calls b × IsAnswered b replies.Other × (low_key b.call ≡ key)
 
-  -- fresh values stand only at such keys
+  -- only such keys have fresh values
   abbrev pub FreshAtOthers : Contents → Type 0
   FreshAtOthers n = (key v : ℕ) → value_at n key ≡ Some v → bound ≤ v → HasOther key
 

@@ -192,7 +192,7 @@ hides bound call replies.Done v low told high found other legal = (inr tt, next_
 hides bound call replies.Found v low told high found other legal = absurd (found refl)
 hides bound call replies.Other v low told high found other legal = absurd (other refl)
 
--- so a call that is recorded as it is may have its answer at the lossy map
+-- A call that is recorded as it is may have its answer at the lossy map.
 record ComesSame (bound : ℕ) (call : Call) (reply : Reply) (y : Option ℕ) : Type 0 where
   x : Option ℕ
   most : AtMost x (shown bound y)

@@ -1,4 +1,4 @@
--- What answers that tell less tell, by the value at the key.
+-- What partial answers report, by the value at the key.
 use Rattle.telling.proofs.Common.{◌≡◌, ℕ, not, Option, Some, None, IsTrue, is_some, inr, refl, ⊎_elim, Call, Get, Insert, Remove, Scan, Replace}
 use Rattle.telling.proofs.Common.{Contents, value_at, is_just, value_reply, reply_to, is_none_or_other, after_reply-answer}
 use Rattle.std.proofs.Common.{◌↔◌}

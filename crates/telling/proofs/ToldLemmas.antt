@@ -1,4 +1,4 @@
--- Whole answers in the place of answers that tell of them: the orders are the same.
+-- Complete answers in the place of partial ones of them: the orders are the same.
 use Rattle.telling.proofs.Common.{◌≡◌, ℕ, suc, zero, ◌+◌, ◌<◌, ◌==◌, true, false, Bool, cond, List, [], ◌∷◌, length, Option, Some, None, inl}
 use Rattle.telling.proofs.Common.{inr, refl, sym, ap, ◌∙◌, subst, ⊎_elim, arith, IsTrue, is_some, ◌≢◌, slice_get, All, AllPairs, Contains}
 use Rattle.telling.proofs.Common.{ne_eqb, eqb-true, eqb-false, All-head, All-tail, All-contains, none-some, same_Some, Call, Reply, Operation}
@@ -145,7 +145,7 @@ whole_reply-answer m call replies.Other answered = refl
 whole_reply-refused : (m : Contents) (call : Call) (reply : Reply) → reply ≡ replies.Refused → whole_reply m call reply ≡ replies.Refused
 whole_reply-refused m call reply refused = rw refused refl
 
--- where a response is legal, the whole answer tells it, is legal and leaves the same
+-- if a response is legal, some complete answer has it as a part, is legal and leaves the same
 record IsWhole (m : Contents) (call : Call) (r t : Option Response) : Type 0 where
   told : IsToldAs call r t
   legal : IsLegalCall m call t
@@ -179,7 +179,7 @@ abbrev tell_in : Contents → List Operation → List ℕ → ℕ → Operation 
 tell_in m calls [] n a = a
 tell_in m calls (k ∷ order) n a = cond (k == n) (tell m a) (tell_in (after_one m (slice_get calls k)) calls order n a)
 
--- each call made anew, by its number from i on
+-- each call made again, by its number from i on
 abbrev made_from : ℕ → (ℕ → Operation → Operation) → List Operation → List Operation
 made_from i f [] = []
 made_from i f (a ∷ calls) = f i a ∷ made_from (suc i) f calls
@@ -206,7 +206,7 @@ pending_told a pending = record { call = refl; inv = refl; response = by_respons
     by_response None pending = tt
     by_response (Some r) pending = absurd (pending refl)
 
--- along a legal order each call is told
+-- along a legal order each call gets a complete answer
 told_call : (m : Contents) (calls : List Operation) (order : List ℕ) (n : ℕ) (a : Operation) → All (λ n. n < length calls) order
     → IsLegal m (calls_at calls order) → slice_get calls n ≡ Some a → (is_completed a ≡ true → Contains order n)
     → IsToldCall a (tell_in m calls order n a)
@@ -232,7 +232,7 @@ told_call m calls (k ∷ order) n a known legal here complete =
         rw k_here (rest
         (λ completed. ⊎_elim (λ same. absurd (eqb-false k n e same)) (λ later. later) (Contains-cases k order n (complete completed))))
 
--- and the told calls are legal along it
+-- the calls with complete answers are legal along it
 legal_told : (m : Contents) (calls told : List Operation) (order : List ℕ) → All (λ n. n < length calls) order
     → AllPairs (λ m n. m ≢ n) order
     → ((n : ℕ) (a : Operation) → Contains order n → slice_get calls n ≡ Some a → slice_get told n ≡ Some (tell_in m calls order n a))

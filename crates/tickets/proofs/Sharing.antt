@@ -14,11 +14,11 @@ use Rattle.tickets.specs.Holdings.{drawn_count, left_count, times_drawn, IsShare
 use Rattle.tickets.specs.Holdings.{no_part}
 use Rattle.tickets.proofs.Sums.{All-read, sum_by-replaced, read-le-sum_by, sum_by-plus, sum_by-sole}
 
--- how often a number stands in a list with one number more
+-- how often a number is in a list with one number more
 pub times_in-push : (numbers : List ℕ) (n x : ℕ) → times_in (numbers ++ n ∷ []) x ≡ times_in numbers x + cond (n == x) 1 0
 times_in-push numbers n x = sum_by_push (λ y. cond (y == x) 1 0) numbers n
 
--- how often a number stands in two lists
+-- how often a number is in two lists
 pub times_in-append : (a b : List ℕ) (x : ℕ) → times_in (a ++ b) x ≡ times_in a x + times_in b x
 times_in-append a b x = sum_by-append (λ y. cond (y == x) 1 0) a b
 

@@ -7,7 +7,7 @@ use mathlib.Core.Option.{some, some-injective, some-ne-none}
 use lib.ListN.{get_elem?}
 
 module _ {X : Type 0} where
-  -- an item that is read stands within the list
+  -- an item that is read is within the list
   pub read-within : (xs : List X) (i : ℕ) (x : X) → get_elem? xs i ≡ some x → (i < length xs) × (get_or xs i x ≡ x)
   read-within [] i x at = absurd (some-ne-none x (sym at))
   read-within (y ∷ ys) zero x at = (omega arith, some-injective y x at)
@@ -40,7 +40,7 @@ module _ {X : Type 0} where
       omega arith
 
   module _ (f g : X → ℕ) (nothing : (x : X) → f x ≡ 0 → g x ≡ 0) where
-    -- where f sums to nothing, so does a g that is nothing where f is
+    -- if f sums to nothing, so does a g that is nothing where f is
     pub sum_by-nothing : (xs : List X) → sum_by f xs ≡ 0 → sum_by g xs ≡ 0
     sum_by-nothing [] none = refl
     sum_by-nothing (x ∷ xs) none =
@@ -52,7 +52,7 @@ module _ {X : Type 0} where
         let c = sum_by-cons g x xs in
         omega arith
 
-    -- where one item has all of f, it has all of a g that is nothing where f is
+    -- if one item has all of f, it has all of a g that is nothing where f is
     pub sum_by-sole : (xs : List X) (i : ℕ) (x : X) → get_elem? xs i ≡ some x → sum_by f xs ≡ f x → sum_by g xs ≡ g x
     sum_by-sole [] i x at all = absurd (some-ne-none x (sym at))
     sum_by-sole (y ∷ ys) zero x at all =

@@ -36,7 +36,7 @@ abbrev pub next_call : Mix → Lcg → Call × Lcg
 next_call mix g =
     call_by mix ((next_word g).0 % 100) (key_by mix (next_word (next_word g).1).0) (next_word (next_word g).1).1
 
--- so many calls, one after another
+-- this many calls, one after another
 unfoldable pub calls_drawn : Mix → ℕ → Lcg → List Call
 calls_drawn mix zero g = []
 calls_drawn mix (suc n) g = (next_call mix g).0 ∷ calls_drawn mix n (next_call mix g).1

@@ -11,7 +11,7 @@ IsWholeMix mix = mix.get + mix.insert + mix.remove + mix.scan ≡ 100
 abbrev pub HasKeys : Mix → Type 0
 HasKeys mix = mix.lo ≤ mix.hi
 
--- a plan may have so many processes, with so many calls each
+-- a plan may have this many processes, with this many calls each
 pub record AreWithin (processes calls : ℕ) : Type 0 where
   pub some_process : 1 ≤ processes
   pub few_processes : processes ≤ process_limit

@@ -12,7 +12,7 @@ use rand_core::utils::NextWord;
 use rand_pcg::Lcg64Xsh32;
 use std::alloc::Global;
 
-/// The script of a process: so many calls from the words of its stream.
+/// The script of a process: this many calls from the words of its stream.
 pub fn script(
     alloc: Global,
     seed: u64,

@@ -10,8 +10,9 @@ use events::{MAX_CALLS, Memory, PROCESSES};
 use plans::{Plan, PlanFault};
 use std::alloc::Global;
 
-/// The plan of so many processes, with so many calls each, as they are drawn from a seed. Otherwise the first fault:
-/// `BadMix`, `BadRange`, `TooMany`, or `Memory`. It takes time in proportion to the calls.
+/// The plan of this many processes, with this many calls each, as they are drawn from a seed.
+/// Otherwise the first fault: `BadMix`, `BadRange`, `TooMany`, or `Memory`. It takes time in
+/// proportion to the calls.
 pub fn plan(
     alloc: Global,
     seed: u64,
@@ -58,7 +59,7 @@ fn is_whole(mix: &Mix) -> bool
     get + insert + remove + u64::from(mix.scan) == 100
 }
 
-/// Whether a plan may have so many processes, with so many calls each.
+/// Whether a plan may have this many processes, with this many calls each.
 fn are_within(processes: u32, calls: u32) -> bool
     ensures { IsTrue result ↔ AreWithin processes calls }
 {
@@ -67,7 +68,7 @@ fn are_within(processes: u32, calls: u32) -> bool
         && u64::from(processes) * u64::from(calls) <= MAX_CALLS as u64
 }
 
-/// The scripts of so many processes.
+/// The scripts of this many processes.
 fn scripts(
     alloc: Global,
     seed: u64,

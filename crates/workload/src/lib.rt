@@ -1,5 +1,6 @@
-//! Workloads: plans whose calls are drawn from the words of a PCG generator (O'Neill, "PCG: a family of simple fast
-//! space-efficient statistically good algorithms for random number generation", 2014), a stream of it for each process.
+//! Workloads: plans whose calls are drawn from the words of a PCG generator, with a stream of it
+//! for each process. The generator is by O'Neill, "PCG: a family of simple fast space-efficient
+//! statistically good algorithms for random number generation", 2014.
 #![tactic(auto)]
 
 mod drawn;

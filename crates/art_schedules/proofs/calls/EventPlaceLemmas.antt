@@ -5,7 +5,7 @@ use Rattle.art_schedules.proofs.Common.{Operation, Response, operations}
 use Rattle.std.proofs.Common.{◌==◌, Option, Some, None}
 use Rattle.events.specs.Operations.{response_from, operation_of, operations_from}
 
--- at place k of events that begin at place i stands this one
+-- this event is at place k of events that begin at place i
 abbrev HasAt : ℕ → List Event → ℕ → Event → Type 0
 HasAt i events k e = (j : ℕ) × (k ≡ i + j) × (slice_get events j ≡ Some e)
 
@@ -28,7 +28,7 @@ IsFirstAnswer p i events None = (k : ℕ) (reply : Reply) → HasAt i events k (
 IsFirstAnswer p i events (Some r) = HasAt i events r.res (Answer p r.reply)
     × ((k : ℕ) (reply : Reply) → k < r.res → HasAt i events k (Answer p reply) → ⊥)
 
--- and the first one behind a place
+-- the first response of a process after a place
 abbrev pub IsNextAnswer : ℕ → ℕ → List Event → ℕ → Option Response → Type 0
 IsNextAnswer p i events place None = (k : ℕ) (reply : Reply) → place < k → HasAt i events k (Answer p reply) → ⊥
 IsNextAnswer p i events place (Some r) =
@@ -73,7 +73,7 @@ first_answer p i (Answer q answer ∷ events) = by_test (q == p) refl (response_
           reply other is) is),
     )
 
--- what stands behind a place of the rest stands behind it in the whole
+-- what comes after a place of the rest comes after it in the whole
 next_later : (p i : ℕ) (x : Event) (events : List Event) (place : ℕ) (o : Option Response) → i < place
     → IsNextAnswer p (suc i) events place o
     → IsNextAnswer p i (x ∷ events) place o
@@ -84,7 +84,7 @@ next_later p i x events place (Some r) up h = (
   λ k reply less until is. h.2 k reply less until (earlier i x events k (Answer p reply) (omega arith) is),
 )
 
--- the first response of the rest is the first one behind the first place
+-- the first response of the rest is the first one after the first place
 next_first : (p i : ℕ) (x : Event) (events : List Event) (o : Option Response) → IsFirstAnswer p (suc i) events o
     → IsNextAnswer p i (x ∷ events) i o
 next_first p i x events None h = λ k reply less is. h k reply (earlier i x events k (Answer p reply) less is)

@@ -135,7 +135,7 @@ module _ (plan : Plan) (start : Contents) (first : State) (schedule : List ℕ) 
     pub pairs-below : (t : ℕ) → t ≤ length schedule → length (pairs t) ≤ length start + length calls
     pairs-below t most = let k = counted t most in omega (arith, k.few, length-distinct_below k.numbers (length calls) k.distinct k.known)
 
-  -- where each call has its effect, pairs grow so
+  -- if each call has its effect, pairs grow so
   module _ (e : HaveEffects plan start first schedule) where
     changes-once : (p number : ℕ) (c : TheCall p number) (t : ℕ) → ChangesIn plan first schedule e.changes t p number
         → ChangesOnce schedule e.pairs e.changes c.operation (h.call_of c.n)

@@ -134,7 +134,7 @@ went plan s next r p q e own =
     (λ t. record { process = q; own = t.1; goes = Stays refl refl })
     (changed-at s.processes r (after_move r m.move n m.process) p q (subst (λ t. slice_get t.processes p ≡ Some q) m.is own))
 
--- where a process stands: in its last call, or behind it
+-- where a process is: in its last call, or after it
 abbrev stage_of : Option Call → ℕ → ℕ
 stage_of call calls = 2 * calls + cond (is_some call) 0 1
 
@@ -265,7 +265,7 @@ in-call plan next p w call m = record {
   is_open = refl;
 }
 
--- after a response it is behind its last call
+-- after a response its last call is over
 pub stage-after : (plan : Plan) (next : State) (p : ℕ) (w : Process) (reply : Reply) (m : Moved plan next p w (Responds reply))
     → stage (after_move p (Responds reply) m.word w) ≡ 2 * length (begun w) + 1
 stage-after plan next p w reply m =

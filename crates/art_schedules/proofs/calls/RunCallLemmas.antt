@@ -156,7 +156,7 @@ module _ (plan : Plan) (words schedule : List ℕ) (s : State) (trace : Traced p
           known = ap₂ (λ (q : Process) (c : Call). known_reply plan q.got (Some c)) same (sym same_call) ∙ known;
         }
 
-    -- a process that is in the call is not behind its response
+    -- a process that is in the call is not after its response
     not-after : (t : ℕ) (now : State) (call : Call) (r : Response) (e : ℕ) → At plan first schedule t now → IsIn now p calls call
         → a.response ≡ Some r
         → ends ≡ Some e → IsDated r.res e (Answer p r.reply) → a.inv < r.res → e < t → ⊥

@@ -100,12 +100,12 @@ module _ (shape : Shape) (calm later : List ℕ) where
   pub after-low : (word : ℕ) → word < 5 → slice_index (calm_after shape calm later) word ≡ slice_index later word
   after-low word low = at-false word (of-low shape later word low)
 
-  -- and so are those of a row that is not busy;
+  -- the words of a row that is not busy are the later ones;
   pub after-free : (base : ℕ) (kind : Kind) → kind_at shape base ≡ Some kind → is_busy (slice_index later base) ≡ false
       → SameWords later (calm_after shape calm later) base kind
   after-free base kind row free word low high = at-false word (of-free shape later word base kind row low high free)
 
-  -- those of a busy row are calm's;
+  -- the words of a busy row are calm's;
   pub after-busy : table_words shape ≤ length later → (base : ℕ) (kind : Kind) → kind_at shape base ≡ Some kind
       → is_busy (slice_index later base) ≡ true
       → SameWords calm (calm_after shape calm later) base kind
@@ -124,7 +124,7 @@ module _ (shape : Shape) (calm later : List ℕ) where
     | inr more ↦ inr (after-past word more)
   ]
 
--- Each word of the table behind the claims is one of a row.
+-- Each word of the table after the claims is one of a row.
 
 pub record IsOfRow (shape : Shape) (word : ℕ) : Type 0 where
   pub base : ℕ

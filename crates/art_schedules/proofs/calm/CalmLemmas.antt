@@ -1,19 +1,23 @@
--- Calm beside the first state, and what a step makes of it.
+-- Calm and the first state, and what a step makes of it.
 use Rattle.art_schedules.proofs.Common.{◌≡◌, ◌≢◌, ℕ, ◌+◌, ◌%◌, ◌^◌, ◌<◌, ◌≤◌, true, false, List, [], ◌∷◌, length, refl, ap, sym, subst, ◌∙◌, inl}
 use Rattle.art_schedules.proofs.Common.{inr, arith, ne_eqb, slice_index, All, Some, cases_eq, cases_lt, cases_Bool, get_or_past, Call, Shape}
 use Rattle.art_schedules.proofs.Common.{Kind, row_words, table_words, claims_of, base_of, kind_at, is_locked, is_obsolete, released_word}
 use Rattle.art_schedules.proofs.Common.{some-words, claims-few, kind_at-base_of, row_begins, rows_apart, small_at, taken-locked}
 use Rattle.art_schedules.proofs.Common.{obsolete_obsolete, obsolete_released, IsOutside, IsClaimed, AreZeroPastClaims, Variant, Optimistic}
 use Rattle.art_schedules.proofs.Common.{Store, locks, Held, setting, Process, State, OfRows, IsKept, IsGoodAt, IsAmong, IsWith, IsOpen, stage_of}
-use Rattle.art_schedules.proofs.Common.{held_by, filled_by, IsSettled, IsSound, IsSteady, SameWords, held-is-kept, settled-row, true-false}
-use Rattle.art_schedules.proofs.Common.{version-free, AllIdle, is_busy, calm_after, IsCalm, AsksFor, HoldsThen, RowChange, RowsStay, RowWritten}
+use Rattle.art_schedules.proofs.Common.{IsSettled, IsSound, IsSteady, SameWords, filled_by, held_by}
+use Rattle.art_schedules.proofs.versions.KnownLemmas.{held-is-kept}
+use Rattle.art_schedules.proofs.versions.MoveLemmas.{settled-row, true-false}
+use Rattle.art_schedules.proofs.Common.{AsksFor, HoldsThen, IsCalm, RowChange, RowWritten, RowsStay, calm_after, is_busy}
+use Rattle.art_schedules.proofs.versions.RunLemmas.{AllIdle}
+use Rattle.art_schedules.proofs.versions.WordFacts.{version-free}
 use Rattle.art_schedules.proofs.Common.{RowFilled, RowTaken, RowReleased, CalmChange, CalmStays, CalmFilled, CalmReleased, CalmStep}
 use Rattle.std.specs.Prelude.{◌⊎◌}
 use Rattle.std.proofs.lemmas.List.Elements.{All-from_get_or}
 use Rattle.art_serial.proofs.words.VersionLemmas.{even-free}
 use Rattle.art_core.specs.Meaning.{AllUnlocked}
-use Rattle.art_versions.specs.versions.Holding.{IsVersion}
-use Rattle.art_versions.proofs.versions.ChangeLemmas.{good-more}
+use Rattle.art_schedules.specs.versions.Holding.{IsVersion}
+use Rattle.art_schedules.proofs.versions.ChangeLemmas.{good-more}
 use Rattle.art_schedules.proofs.calm.AfterLemmas.{after-long, after-past, after-low, after-free, after-busy, after-either, IsOfRow, row-of-word}
 use Rattle.art_schedules.proofs.calm.ReachedLemmas.{reached-good}
 use Rattle.art_schedules.proofs.calm.VersionLemmas.{locked-busy, obsolete-busy, free-parts, free-busy, not-behind, held-locked, held-version}
@@ -215,7 +219,7 @@ module _ (variant : Variant) (shape : Shape) (n m : ℕ) (s later : State) (h : 
               | inr more ↦ omega (arith, e, more, r.high, words)
             ]
 
-  -- one word behind a version is another
+  -- one word after a version is another
   module _ (b : ℕ) (kb : Kind) (its : kind_at shape b ≡ Some kb) (word : ℕ) (behind : (b < word) × (word < b + row_words kb))
       (others : (other : ℕ) → other ≢ word → slice_index later.words other ≡ slice_index s.words other) where
     same-version : (base : ℕ) (kind : Kind) → kind_at shape base ≡ Some kind → slice_index later.words base ≡ slice_index s.words base

@@ -6,13 +6,18 @@ use Rattle.art_schedules.proofs.Common.{Store, Add, Point, Turn, Asks, Answers, 
 use Rattle.art_schedules.proofs.Common.{CallAt, call_turn, call_after, call_begun, setting, Process, told, Plan, State, Move, Invokes, Responds}
 use Rattle.art_schedules.proofs.Common.{after_move, moved, move_of, invocation, next_call, move_from, word_of_move, new_word, step, is-moved}
 use Rattle.art_schedules.proofs.Common.{stored-at, set-here, OfRows, Named, IsKept, holds, Reads, Writes, Ends, Releases, Takes, Claims}
-use Rattle.art_schedules.proofs.Common.{Answered, IsAmong, AccessDoes, stage_of, IsSettled, IsSound, IsFull, version-free, held-is-kept}
-use Rattle.art_schedules.proofs.Common.{index-other, settled-row, after-more, does, next-turn, AsksFor, HoldsThen, RowChange, RowsStay}
+use Rattle.art_schedules.proofs.Common.{AccessDoes, Answered, IsAmong, IsFull, IsSettled, IsSound, stage_of}
+use Rattle.art_schedules.proofs.versions.KnownLemmas.{held-is-kept}
+use Rattle.art_schedules.proofs.versions.WordFacts.{version-free}
+use Rattle.art_schedules.proofs.Common.{AsksFor, HoldsThen, RowChange, RowsStay}
+use Rattle.art_schedules.proofs.versions.ChangeLemmas.{index-other}
+use Rattle.art_schedules.proofs.versions.MoveLemmas.{settled-row}
+use Rattle.art_schedules.proofs.versions.StepLemmas.{after-more, does, next-turn}
 use Rattle.art_schedules.proofs.Common.{RowWritten, RowFilled, RowTaken, RowReleased}
 use Rattle.art_steps.specs.declared.access.Access.TheVariants.{Exchange}
 use Rattle.art_steps.proofs.AccessLemmas.{act-stays}
 use Rattle.art_core.specs.Core.{Makes}
-use Rattle.art_versions.specs.versions.Effects.{Has, Fills}
+use Rattle.art_schedules.specs.versions.Effects.{Has, Fills}
 
 -- a word that is written as it was
 same-words : (words : List ℕ) (word x : ℕ) → word < length words
@@ -76,7 +81,7 @@ module _ (variant : Variant) (shape : Shape) (root : 1 ≤ shape.rows256) (n : �
       holds = e;
     }
 
-    -- a row whose version it kept is none that it holds
+    -- the call does not hold a row whose version is still the one that it kept
     apart : (x y : Held) → IsKept (locks variant) P x → slice_index s.words x.base ≡ x.kept → IsAmong y (holds c place) → y.base ≢ x.base
     apart x y k is a same =
         let locked = h.locked p call q (record { own = here; is_open = is-open }) y a in

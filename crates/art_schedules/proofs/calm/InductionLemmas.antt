@@ -1,10 +1,12 @@
--- What holds before the first step and is kept by each step of a run holds behind it.
+-- What holds before the first step and is kept by each step of a run holds after it.
 use Rattle.art_schedules.proofs.Common.{◌≡◌, ℕ, ◌+◌, ◌^◌, ◌<◌, List, [], ◌∷◌, ◌++◌, length, refl, ap, sym, subst, ◌∙◌, arith, Option, Some, None}
 use Rattle.art_schedules.proofs.Common.{append-nil, same_Some, Contents, Variant, Plan, State, opened_on, step, Gives, run_on, IsRun}
-use Rattle.art_schedules.proofs.Common.{run-on-append, nowhere, steps-rise, run-steps, IsSound, IsSteady, IsFull, start-sound, one-step}
+use Rattle.art_schedules.proofs.Common.{IsFull, IsSound, IsSteady, nowhere, run-on-append, run-steps, steps-rise}
+use Rattle.art_schedules.proofs.versions.RunLemmas.{start-sound}
+use Rattle.art_schedules.proofs.versions.StepLemmas.{one-step}
 use Rattle.art_schedules.proofs.Common.{RowChange}
 use Rattle.std.proofs.lemmas.List.{append_assoc}
-use Rattle.art_versions.proofs.versions.RunLemmas.{run-sound, later-part}
+use Rattle.art_schedules.proofs.versions.RunLemmas.{run-sound, later-part}
 use Rattle.art_schedules.proofs.calm.ChangeLemmas.{row-change}
 
 -- a part of a run from its beginning is a run

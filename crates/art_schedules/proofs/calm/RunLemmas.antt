@@ -1,6 +1,8 @@
 -- Calm along a run.
 use Rattle.art_schedules.proofs.Common.{◌≡◌, ℕ, ◌+◌, List, [], ◌∷◌, ◌++◌, refl, ap, sym, subst, ◌∙◌, same_Some, Option, Some, None, Contents}
-use Rattle.art_schedules.proofs.Common.{Plan, State, opened_on, step, Gives, run_on, IsRun, nowhere, IsFull, fresh-at, idle-idle, start-sound}
+use Rattle.art_schedules.proofs.Common.{Gives, IsFull, IsRun, Plan, State, nowhere, opened_on, run_on, step}
+use Rattle.art_schedules.proofs.versions.FreshLemmas.{fresh-at}
+use Rattle.art_schedules.proofs.versions.RunLemmas.{idle-idle, start-sound}
 use Rattle.art_schedules.proofs.Common.{calm_after, calm_of, IsCalm, CalmStep}
 use Rattle.art_schedules.specs.calm.Calm.{calm_behind, calm_on}
 use Rattle.art_schedules.specs.calm.Laws.{CalmGoes}
@@ -34,7 +36,7 @@ on-append plan (q ∷ schedule) p s t calm e = go (step plan s q) refl (λ u. on
         ∙ (rest u (calm_after plan.shape calm u.words) (ap (λ o. run_on plan o schedule) (sym f) ∙ e)
         ∙ ap (λ o. calm_behind plan.shape (calm_on plan o (calm_behind plan.shape calm o) schedule) (step plan t p)) (sym f))
 
--- behind one step more
+-- after one step more
 pub calm-next : (plan : Plan) (words schedule : List ℕ) (p : ℕ) (s t : State) → Gives plan (opened_on plan words) schedule s
     → step plan s p ≡ Some t
     → calm_of plan words (schedule ++ p ∷ []) ≡ calm_after plan.shape (calm_of plan words schedule) t.words
@@ -99,7 +101,8 @@ step-at plan start words schedule p s t run full e =
     (settled-at plan.variant full plan start words (schedule ++ p ∷ []) t run refl) words (calm_of plan words schedule)
     (calm-at plan start words schedule s before full) (settled-at plan.variant full plan start words schedule s before refl))
 
--- What holds before the first step, and is kept by each step with calm beside it, holds behind each run.
+-- What holds before the first step, and is preserved by each step together with calm, holds after
+-- each run.
 pub along-calm : (plan : Plan) (start : Contents) (words : List ℕ) → IsFull plan.variant → (Holds : List ℕ → State → List ℕ → Type 0)
     → Holds [] (opened_on plan words) words
     → ((schedule : List ℕ) (p : ℕ) (s t : State) (calm after : List ℕ) → IsRun plan start words schedule s

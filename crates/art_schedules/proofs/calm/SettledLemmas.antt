@@ -2,12 +2,17 @@
 use Rattle.art_schedules.proofs.Common.{◌≡◌, ◌≢◌, ℕ, ◌+◌, ◌^◌, ◌<◌, ◌≤◌, List, [], ◌∷◌, length, refl, ap, sym, subst, ◌∙◌, arith, slice_index}
 use Rattle.art_schedules.proofs.Common.{slice_set, Option, Some, None, same_Some, Contents, Shape, Full, opening, claims_of, root_base}
 use Rattle.art_schedules.proofs.Common.{some-words, row_begins, rows_apart, Variant, Plan, State, opened, opened_on, step, run_on, start_plan}
-use Rattle.art_schedules.proofs.Common.{IsRun, nowhere, run-steps, IsSound, IsFull, index-other, true-false, one-step, AllIdle, start-sound}
-use Rattle.art_schedules.proofs.Common.{idle-idle, is_busy}
+use Rattle.art_schedules.proofs.Common.{IsFull, IsRun, IsSound, nowhere, run-steps}
+use Rattle.art_schedules.proofs.versions.ChangeLemmas.{index-other}
+use Rattle.art_schedules.proofs.versions.MoveLemmas.{true-false}
+use Rattle.art_schedules.proofs.versions.RunLemmas.{AllIdle, start-sound}
+use Rattle.art_schedules.proofs.versions.StepLemmas.{one-step}
+use Rattle.art_schedules.proofs.Common.{is_busy}
+use Rattle.art_schedules.proofs.versions.RunLemmas.{idle-idle}
 use Rattle.art_rows.proofs.KindLemmas.{claims-some}
 use Rattle.art_core.specs.Starts.{StartsOn}
-use Rattle.art_versions.proofs.versions.MoveLemmas.{differ-from}
-use Rattle.art_versions.proofs.versions.RunLemmas.{opening-sound, root-row, zeros}
+use Rattle.art_schedules.proofs.versions.MoveLemmas.{differ-from}
+use Rattle.art_schedules.proofs.versions.RunLemmas.{opening-sound, root-row, zeros}
 use Rattle.art_schedules.proofs.calm.ChangeLemmas.{row-change}
 use Rattle.art_schedules.proofs.calm.VersionLemmas.{BusySettled, busy-settled-step}
 

@@ -7,7 +7,9 @@ use Rattle.art_schedules.proofs.Common.{leaf_word, row_word, Access, Load, Store
 use Rattle.art_schedules.proofs.Common.{new_leaf, act, word_of, call_turn, call_begun, setting, Process, told, changed, Plan, State, Move}
 use Rattle.art_schedules.proofs.Common.{Invokes, Responds, next_call, invocation, after_move, word_of_move, new_word, moved, move_of, move_from}
 use Rattle.art_schedules.proofs.Common.{opened, opened_on, step, run_on, start_plan, inserts, IsRun, nowhere, is-moved, changed-at, small_at}
-use Rattle.art_schedules.proofs.Common.{IsOpen, stage_of, after-more, next-turn, idle-idle}
+use Rattle.art_schedules.proofs.Common.{IsOpen, stage_of}
+use Rattle.art_schedules.proofs.versions.RunLemmas.{idle-idle}
+use Rattle.art_schedules.proofs.versions.StepLemmas.{after-more, next-turn}
 use Rattle.std.specs.Prelude.{replicate}
 use Rattle.std.proofs.lemmas.List.Elements.{All-replicate}
 use Rattle.art_rows.specs.Table.{IsWithinLimits}
@@ -61,7 +63,7 @@ module _ (plan : Plan) (limits : IsWithinLimits plan.shape) (calls : AreTreeCall
     abbrev Small : Move → Type 0
     Small m = IsSmall plan (moved s p q m)
 
-    -- it writes such a word, and its call stays so
+    -- the process writes a word of 64 bits, and what its call carries stays below 2^64
     goes-on : (m : Move) → new_word m (slice_index s.words (word_of_move m)) < 2 ^ 64
         → ((call : Call) → (after_move p m (slice_index s.words (word_of_move m)) q).call ≡ Some call
         → (is_tree_call call ≡ true) × SmallAt (stage_of plan.variant plan.shape call

@@ -19,7 +19,8 @@ use Rattle.art_schedules.proofs.Common.{grow_unlocked, insert_unlocked, found_at
 use Rattle.art_schedules.proofs.Common.{arrived_at, leaf_work, entered_at, below_at, pair_after, put_keys_after, copies_at, spreads_at}
 use Rattle.art_schedules.proofs.Common.{entries_at, fill_at, leaf_after, keys_at_after, after_with, turn_at, between_turn, find_turn, pair_turn}
 use Rattle.art_schedules.proofs.Common.{put_keys_turn, grow_keys_turn, grow_leaf_turn, grow_count_turn, store_of, Walk, at, scan_turn, keys_turn}
-use Rattle.art_schedules.proofs.Common.{CallAt, OnKey, OnScan, call_turn, call_after, begun_as, count-most}
+use Rattle.art_schedules.proofs.Common.{CallAt, OnKey, OnScan, begun_as, call_after, call_turn}
+use Rattle.art_schedules.proofs.versions.WordFacts.{count-most}
 use Rattle.art_serial.proofs.words.WordLemmas.{again_below}
 use Rattle.art_steps.specs.Rows.{releases_early, leaves_out_check, takes_unchecked}
 use Rattle.art_steps.specs.Updates.{lesser, greater, Under}

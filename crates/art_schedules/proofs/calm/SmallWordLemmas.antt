@@ -15,7 +15,7 @@ use Rattle.art_rows.proofs.WriterLemmas.{length-low_bytes}
 use Rattle.art_serial.proofs.words.ByteLemmas.{AreBytes, packed-most, keys16_below, bytes-small, low_bytes-small, key_bytes-small}
 use Rattle.art_serial.proofs.words.KeyLemmas.{All-with_key, length-with_key}
 use Rattle.art_serial.proofs.writes.GrowSixteenLemmas.{length-numbers, entry-absent, entry-some}
-use Rattle.art_versions.proofs.versions.WordFacts.{among-most}
+use Rattle.art_schedules.proofs.versions.WordFacts.{among-most}
 
 -- Infos.
 
@@ -60,7 +60,7 @@ taken-long (suc (suc (suc zero))) key = omega arith
 taken-long (suc (suc (suc (suc zero)))) key = omega arith
 taken-long (suc (suc (suc (suc (suc level))))) key = omega arith
 
--- and that of a pair
+-- the info of a row of two leaves
 pub pair-info : (level key : ℕ) → level ≤ 3 → info_word Four level (take level (key_bytes key)) < 2 ^ 64
 pair-info level key few =
     info-small Four level (take level (key_bytes key)) few (taken-long level key)

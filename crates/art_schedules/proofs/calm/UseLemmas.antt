@@ -2,7 +2,9 @@
 use Rattle.art_schedules.proofs.Common.{◌≡◌, ◌≢◌, ℕ, ◌≤◌, List, [], ◌∷◌, ap, sym, subst, ◌∙◌, arith, slice_index, Option, Some, same_Some, Call}
 use Rattle.art_schedules.proofs.Common.{Shape, Kind, kind_at, released_word, rows_apart, IsOutside, Variant, Access, Store, Point, Turn, Asks}
 use Rattle.art_schedules.proofs.Common.{locks, asks-same, Held, call_turn, setting, Process, State, IsKept, IsAmong, IsBehindVersion, IsOpen}
-use Rattle.art_schedules.proofs.Common.{stage_of, held_by, filled_by, IsSettled, IsSound, held-is-kept, settled-row, AsksFor, CalmChange}
+use Rattle.art_schedules.proofs.Common.{AsksFor, CalmChange, IsSettled, IsSound, filled_by, held_by, stage_of}
+use Rattle.art_schedules.proofs.versions.KnownLemmas.{held-is-kept}
+use Rattle.art_schedules.proofs.versions.MoveLemmas.{settled-row}
 use Rattle.art_schedules.proofs.Common.{CalmStays, CalmFilled, CalmReleased, CalmStep}
 use Rattle.art_schedules.proofs.calm.VersionLemmas.{not-behind}
 use Rattle.art_schedules.proofs.calm.CalmLemmas.{claimed-row}
@@ -53,7 +55,7 @@ module _ (variant : Variant) (shape : Shape) (n : ℕ) (s : State) (h : IsSound 
     its-word : (other v : ℕ) (asks : AsksFor variant shape s p (Store other v)) → word ≡ other
     its-word other v asks = same-word (asks-same (sym stores ∙ its-turn (Store other v) asks))
 
-    -- it stores behind the version of a row that it holds
+    -- the call stores after the version of a row that it holds
     pub with-written : (x : Held) → IsAmong x (held_by variant shape call q) → IsBehindVersion x.base x.kind word → Stays
     with-written x among behind = go step.change
       where
@@ -77,7 +79,7 @@ module _ (variant : Variant) (shape : Shape) (n : ℕ) (s : State) (h : IsSound 
             absurd (not-behind shape y.base x.base word y.kind x.kind (settled-row variant shape s y.base y.kind held.1) row behind
             (sym (its-word y.base (released_word y.kept) asks)))
 
-    -- it stores behind the version of the row that it fills
+    -- the call stores after the version of the row that it fills
     pub with-filled : (base : ℕ) (kind : Kind) → filled_by variant shape call q ≡ (base, kind) ∷ [] → IsBehindVersion base kind word
         → (other : ℕ) → 5 ≤ other → other ≢ word → slice_index after other ≡ slice_index calm other
     with-filled base kind filled behind other high differs = go step.change
@@ -92,7 +94,7 @@ module _ (variant : Variant) (shape : Shape) (n : ℕ) (s : State) (h : IsSound 
             absurd (not-behind shape y.base base word y.kind kind (settled-row variant shape s y.base y.kind held.1) row behind
             (sym (its-word y.base (released_word y.kept) asks)))
 
-    -- it stores the version of a row that it holds
+    -- the call stores the version of a row that it holds
     pub with-released : (x : Held) → IsAmong x (held_by variant shape call q) → word ≡ x.base
         → (other : ℕ) → 5 ≤ other → IsOutside x.base x.kind other → slice_index after other ≡ slice_index calm other
     with-released x among version other high outside = go step.change

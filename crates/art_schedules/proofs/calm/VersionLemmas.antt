@@ -3,7 +3,11 @@ use Rattle.art_schedules.proofs.Common.{◌≡◌, ◌≢◌, ℕ, ◌+◌, ◌/
 use Rattle.art_schedules.proofs.Common.{Some, cases_eq, or_from, or_left, or_right, same_Some, Shape, Kind, kind_at, is_locked, is_obsolete}
 use Rattle.art_schedules.proofs.Common.{released_word, obsolete_word, some-words, row_begins, rows_apart, taken-locked, obsolete_obsolete}
 use Rattle.art_schedules.proofs.Common.{obsolete_released, Variant, locks, Held, setting, State, IsKept, IsBehindVersion, IsHeld, stage_of}
-use Rattle.art_schedules.proofs.Common.{held_by, IsSettled, IsSound, IsSteady, held-is-kept, settled-row, version-free, with-here, is_busy}
+use Rattle.art_schedules.proofs.Common.{IsSettled, IsSound, IsSteady, held_by, is_busy}
+use Rattle.art_schedules.proofs.versions.KnownLemmas.{held-is-kept}
+use Rattle.art_schedules.proofs.versions.MoveLemmas.{settled-row}
+use Rattle.art_schedules.proofs.versions.WithLemmas.{with-here}
+use Rattle.art_schedules.proofs.versions.WordFacts.{version-free}
 use Rattle.art_schedules.proofs.Common.{RowChange, RowsStay, RowWritten, RowFilled, RowTaken, RowReleased}
 use Rattle.std.specs.Prelude.{◌⊎◌}
 use Rattle.std.proofs.lemmas.Bool.{or_parts}
@@ -20,7 +24,7 @@ free-parts v e = or_parts (is_locked v) (is_obsolete v) e
 pub free-busy : (v : ℕ) → is_locked v ≡ false → is_obsolete v ≡ false → is_busy v ≡ false
 free-busy v l o = or_from (is_locked v) (is_obsolete v) l o
 
--- the row that has a word behind another's version has another base
+-- the row that has a word after another's version has another base
 pub not-behind : (shape : Shape) (base b word : ℕ) (kind k : Kind) → kind_at shape base ≡ Some kind → kind_at shape b ≡ Some k
     → IsBehindVersion b k word
     → base ≢ word

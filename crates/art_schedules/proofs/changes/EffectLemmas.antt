@@ -206,7 +206,7 @@ module _ (trees : SameTreesAreOne) (puts : LeavesArePut) (removes : LeavesAreRem
   effects-follow s n claims calm later m (HangsGrown base kind x key value full full_kind y row larger) rest means one few is =
       grown-follows s n claims calm later m rest means few base kind one grown x key value full full_kind y row larger is
 
--- a row that goes by an effect was one of the tree
+-- a row that leaves by an effect was one of the tree
 pub gone-reached : (shape : Shape) (calm later : List ℕ) (e : Effect) → HasEffect shape calm later e → (b : ℕ) → IsGone e b → (k : Kind)
     × Reached shape calm b k
 gone-reached shape calm later (Keeps base kind) h b g = absurd g

@@ -1,4 +1,4 @@
--- Where the infos of rows stay, so do the ways that lead to them; and trees whose rows say the same.
+-- If the infos of rows stay, so do the ways that lead to them; and trees whose rows say the same.
 use Rattle.art_schedules.proofs.Common.{◌≡◌, ◌⊎◌, inl, inr, ℕ, ◌+◌, ◌≤◌, List, refl, sym, ap, ◌∙◌, arith, ◌↔◌, None, Contents, Shape, Kind}
 use Rattle.art_schedules.proofs.Common.{base_of, info_at, info_of, is_locked, is_obsolete, two-words, Reached, Means, IsAtRest, LeadsTo, HasRows}
 use Rattle.art_schedules.proofs.Common.{SameTreesAreOne, IsClaimed, Sits, sits-inside, kind_at-sits, sits, Follows, KeptTreesFollow, IsGoneBy}

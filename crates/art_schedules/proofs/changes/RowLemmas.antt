@@ -5,7 +5,7 @@ use Rattle.art_schedules.proofs.Common.{child_of, two-words, Reached, IsAtRest, 
 use Rattle.art_schedules.proofs.Common.{sits-part, sits-inside, sits-kind_at, kind_at-sits, sits, split, OneRow, HasNewChild}
 use Rattle.std.proofs.Common.{slice_index, Some}
 use Rattle.art_serial.specs.trees.Trees.{ChangesAt}
-use Rattle.art_versions.specs.versions.Steady as steady
+use Rattle.art_schedules.specs.versions.Steady as steady
 use Rattle.art_serial.proofs.inserts.HungLemmas.{word-changes}
 use Rattle.art_schedules.specs.changes.Laws.{RowsAreByWords, SlotsAreChildren, SlotsAreWritten}
 
@@ -13,7 +13,7 @@ use Rattle.art_schedules.specs.changes.Laws.{RowsAreByWords, SlotsAreChildren, S
 abbrev pub claimed-sits : (s : Shape) (words : List ℕ) (base : ℕ) (kind : Kind) → IsClaimed s words base kind → Sits s base kind
 claimed-sits s words base kind h = record { number = h.number; low = h.within; is = h.is }
 
--- where all words of a row are the same, so are those behind its version
+-- if all words of a row are the same, so are those after its version
 pub steady-row : (words later : List ℕ) (base : ℕ) (kind : Kind) → steady.SameWords words later base kind → SameRow words later base kind
 steady-row words later base kind same j low high = same (base + j) (omega arith) (omega (arith, high))
 
@@ -74,7 +74,7 @@ module _ (s : Shape) (n : ℕ) (calm later : List ℕ) (rest : IsAtRest s n calm
       ∙ (ap (λ w. slice_index calm w) (sym is)
       ∙ rest.fresh k number (omega (arith, above, one.claims k)) low word from to))) (cases_eq (base_of s k number) base)
 
-  -- the infos of all rows that were reached, where the row's stays
+  -- the infos of all reached rows stay, if that of the row stays
   pub infos : slice_index later (info_at base) ≡ slice_index calm (info_at base) → (b : ℕ) (k : Kind) → Reached s calm b k
       → slice_index later (info_at b) ≡ slice_index calm (info_at b)
   infos own b k r = ⊎_elim

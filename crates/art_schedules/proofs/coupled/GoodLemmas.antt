@@ -1,8 +1,10 @@
 -- Rows that are held stay in the calm tree, and were not obsolete when they were taken.
 use Rattle.art_schedules.proofs.Common.{◌≡◌, ℕ, List, [], ◌∷◌, ◌++◌, inl, inr, ap, sym, subst, ◌∙◌, true, false, slice_index, Option, Some}
 use Rattle.art_schedules.proofs.Common.{cases_eq, false≢true, same_Some, Call, Contents, Kind, kind_at, is_obsolete, Coupled, Held, setting}
-use Rattle.art_schedules.proofs.Common.{Process, Plan, State, Reached, IsAmong, IsHeld, IsOpen, IsSettled, stage_of, held_by, held-is-kept}
-use Rattle.art_schedules.proofs.Common.{settled-row, calm_of, Effect, IsGoneBy, ComesInBy, pairs_by, Follows, TakesLive, IsCoupledStep}
+use Rattle.art_schedules.proofs.Common.{IsAmong, IsHeld, IsOpen, IsSettled, Plan, Process, Reached, State, held_by, stage_of}
+use Rattle.art_schedules.proofs.versions.KnownLemmas.{held-is-kept}
+use Rattle.art_schedules.proofs.Common.{ComesInBy, Effect, Follows, IsCoupledStep, IsGoneBy, TakesLive, calm_of, pairs_by}
+use Rattle.art_schedules.proofs.versions.MoveLemmas.{settled-row}
 use Rattle.art_schedules.proofs.Common.{TakesReached, GoodRowsStay, OthersLeaveGood, IsInTree}
 use Rattle.art_schedules.specs.coupled.Good.{GoodOf}
 use Rattle.art_schedules.proofs.coupled.MadeLemmas.{Facts, facts, others-open}
@@ -21,7 +23,7 @@ module _ (plan : Plan) (start : Contents) (words schedule : List ℕ) (p : ℕ) 
   f : Facts plan.shape s t p words calm after
   f = facts plan start words schedule p s t claims m h
 
-  -- a row that is held behind the step stays in the calm tree
+  -- a row that is held after the step stays in the calm tree
   module _ (n : ℕ) (pairs : Contents) (effect : Option Effect)
       (follows : Follows plan.shape n calm after pairs (IsGoneBy effect) (ComesInBy effect))
       (dead : (b : ℕ) → IsGoneBy effect b → is_obsolete (slice_index t.words b) ≡ true) where

@@ -7,7 +7,10 @@ use Rattle.art_schedules.proofs.Common.{answers-asks, stores-same, Held, Hold, S
 use Rattle.art_schedules.proofs.Common.{setting, turn_at, hold_alone, no_value, release_at, at, scan_turn, CallAt, OnKey, OnScan, call_turn}
 use Rattle.art_schedules.proofs.Common.{call_after, Process, Plan, State, step, Reached, child_on, child-same, taken-locked, obsolete_released}
 use Rattle.art_schedules.proofs.Common.{Knows, holds, all_of, lock_of, locks_of, rows_of_hold, IsAmong, IsOpen, IsHeld, IsSettled, stage_of}
-use Rattle.art_schedules.proofs.Common.{held_by, IsAtStage, held-is-kept, settled-row, version-free, calm_of, AsksFor, RowChange, RowsStay}
+use Rattle.art_schedules.proofs.Common.{AsksFor, IsAtStage, RowChange, RowsStay, calm_of, held_by}
+use Rattle.art_schedules.proofs.versions.KnownLemmas.{held-is-kept}
+use Rattle.art_schedules.proofs.versions.MoveLemmas.{settled-row}
+use Rattle.art_schedules.proofs.versions.WordFacts.{version-free}
 use Rattle.art_schedules.proofs.Common.{RowWritten, RowFilled, RowTaken, RowReleased, Effect, IsGoneBy, ComesInBy, TreeGoesOn, TouchesOwn}
 use Rattle.art_schedules.proofs.Common.{LoadsHeld, StoresOwn, ClaimsRow, ReleasesHeld, Replies, is_lock, may_release, RowsOf, IsLeaving}
 use Rattle.art_schedules.proofs.Common.{ObsoleteLeave, HeldAreLive, TakesLive, MakesLeave, LeavesBy, IsCoupledStep, WaysTakeLive}
@@ -27,7 +30,7 @@ use Rattle.art_schedules.proofs.coupled.MadeLemmas.{Facts, facts, made, others-o
 use Rattle.art_schedules.proofs.coupled.RowLemmas.{kept-row, held-calm, held-live, its-turn}
 use Rattle.art_schedules.proofs.coupled.MoveLemmas.{reached-kind, live-taken}
 
--- where a row is locked, nothing is stored
+-- if a row is locked, nothing is stored
 lock-stores : (shape : Shape) (call : Call) (x : CallAt) (word value : ℕ) (mark : Option Point)
     → call_turn (setting shape Coupled call) x ≡ Asks (Store word value) mark
     → is_lock x ≡ false
@@ -66,7 +69,8 @@ releases-at shape call (OnScan low high x) base value mark e turn = go x.step e 
     go (scan.Release n) e turn = ByUnlock n (inl refl) (sym (stores-same turn).1)
     go step e turn = absurd (false≢true e)
 
--- Where a row comes from that is held behind a step of process p: it was held before, from the same version, or p takes it in the step.
+-- Where a row comes from that is held after a step of process p: it was held before, from the same
+-- version, or p takes it in the step.
 pub data HeldFrom (shape : Shape) (s : State) (p : ℕ) (x : Held) : Type 0 where
   HeldBefore : (h : IsHeld Coupled shape s x.base) → h.row.kept ≡ x.kept → HeldFrom shape s p x
   TakenNow : (y : Held) → AsksFor Coupled shape s p (Swap y.base y.kept (locked_word y.kept))
@@ -214,7 +218,7 @@ module _ (plan : Plan) (start : Contents) (words schedule : List ℕ) (p : ℕ) 
   module _ (leaving next : ℕ → Option ℕ) (pairs : Contents) (effect : Option Effect)
       (goes : TreeGoesOn plan.shape t.words calm after pairs effect) (live : HeldAreLive plan.shape s)
       (by : LeavesBy plan.shape s t p calm effect leaving next) (leave : ObsoleteLeave plan.shape s calm leaving) where
-    -- a row that is held is reached behind the step as before it, with the same children
+    -- a row that is held is reached after the step as before it, with the same children
     not-gone : (r : ℕ) (call : Call) (q : Process) → IsOpen t r call q → (x : Held) → IsAmong x (held_by Coupled plan.shape call q)
         → is_obsolete x.kept ≡ false → IsGoneBy effect x.base → ⊥
     not-gone r call q o x a alive gone =

@@ -1,14 +1,17 @@
--- What a step of a run of the coupled tree is: what is known before and behind it, and what becomes of the processes.
+-- What a step of a run of the coupled tree is: what is known before and after it, and what becomes
+-- of the processes.
 use Rattle.art_schedules.proofs.Common.{◌≡◌, ◌≢◌, ℕ, ◌+◌, ◌^◌, ◌<◌, List, [], ◌∷◌, ◌++◌, refl, ap, sym, subst, ◌∙◌, inl, slice_get, slice_index}
 use Rattle.art_schedules.proofs.Common.{slice_set, Option, Some, same_Some, Call, Contents, Shape, Coupled, Access, Point, Asks, act, word_of}
 use Rattle.art_schedules.proofs.Common.{setting, call_turn, call_after, call_begun, Process, changed, told, Plan, State, after_move, moved}
-use Rattle.art_schedules.proofs.Common.{move_of, move_from, next_move, step, is-moved, set-here, IsOpen, IsSound, stage_of, IsSteady, set-other}
-use Rattle.art_schedules.proofs.Common.{after-more, next-turn, calm_of, IsCalm, CalmStep, IsCoupledStep}
+use Rattle.art_schedules.proofs.Common.{IsOpen, IsSound, IsSteady, is-moved, move_from, move_of, next_move, set-here, stage_of, step}
+use Rattle.art_schedules.proofs.versions.ChangeLemmas.{set-other}
+use Rattle.art_schedules.proofs.Common.{CalmStep, IsCalm, IsCoupledStep, calm_of}
+use Rattle.art_schedules.proofs.versions.StepLemmas.{after-more, next-turn}
 use Rattle.art_core.specs.Core.{Makes}
 use Rattle.art_schedules.proofs.calm.InductionLemmas.{step-of-run}
 use Rattle.art_schedules.proofs.calm.RunLemmas.{calm-at, step-at}
 
--- what is known of the two states, and of calm beside them
+-- what is known of the two states and of calm
 pub record Facts (shape : Shape) (s t : State) (p : ℕ) (first calm after : List ℕ) : Type 0 where
   pub count : ℕ
   pub few : count < 2 ^ 62

@@ -12,8 +12,11 @@ use Rattle.art_schedules.proofs.Common.{between_turn, stage_after, work_at, put_
 use Rattle.art_schedules.proofs.Common.{changed, told, Plan, State, Reached, root, below, child_in, level_in, IsAtRest, SameRow}
 use Rattle.art_schedules.proofs.Common.{WaysLeadToValues, LeavesAreSmall, sits-kind_at, kind_at-sits, sits-inside, sits, leads-root, stored-at}
 use Rattle.art_schedules.proofs.Common.{Each, Knows, KnowsKey, holds, fills, row_filled, FitsStage, lock_of, rows_of_hold, held_at_stage}
-use Rattle.art_schedules.proofs.Common.{IsAmong, IsOpen, IsSettled, stage_of, held_by, filled_by, IsAtStage, held-is-kept, among-each}
-use Rattle.art_schedules.proofs.Common.{each-among, each-map, settled-row, no-items, calm_of, IsGoneBy, IsStill, ComesInBy, pairs_by, Effect}
+use Rattle.art_schedules.proofs.Common.{IsAmong, IsAtStage, IsOpen, IsSettled, filled_by, held_by, stage_of}
+use Rattle.art_schedules.proofs.versions.KnownLemmas.{among-each, held-is-kept}
+use Rattle.art_schedules.proofs.Common.{ComesInBy, Effect, IsGoneBy, IsStill, calm_of, pairs_by}
+use Rattle.art_schedules.proofs.versions.KnownLemmas.{each-among, each-map}
+use Rattle.art_schedules.proofs.versions.MoveLemmas.{no-items, settled-row}
 use Rattle.art_schedules.proofs.Common.{HasFewClaims, Follows, KeepsTree, KeptTreesFollow, KnowsTarget, KnowsReply, KnowsAt, IsHeldLive}
 use Rattle.art_schedules.proofs.Common.{CallsBegin, CallsGoOn, CallsStay, FoundIsAnswered, OthersLeaveWays, IsLeaving, ObsoleteLeave}
 use Rattle.art_schedules.proofs.Common.{IsCoupledStep, WaysTakeReached, SeekersAreNotAnswered, ChildRow}
@@ -103,7 +106,7 @@ knows-does : (o : Option Reply) (c : Setting) → locks c.variant ≡ true → (
 knows-does None c l i calm stage k = stage-does c l i calm stage k
 knows-does (Some r) c l i calm stage k = reply-does r c i calm stage k
 
--- it fills no row
+-- a call on its way fills no row
 fills-none : (o : Option Reply) (c : Setting) (i : Bool) (calm : List ℕ) (stage : Stage) → KnowsAt o i c calm stage → row_filled stage ≡ []
 fills-none None c i calm (Lock t first) k = refl
 fills-none None c i calm (Exchange t v) k = refl
@@ -127,7 +130,7 @@ reached-by : (c : Setting) (table : List ℕ) (d : Down) → IsBelow c table d �
 reached-by c table d k = below k.0.leads.reached (byte_in c d.above) (byte-in-small c d.above)
     (ap (child_in c.shape table) k.1.at ∙ k.1.has)
 
--- its target is a row of the calm tree
+-- the target of a call on its way is a row of the calm tree
 target-reached : (c : Setting) (calm : List ℕ) (t : Target) → KnowsTarget c calm t → (kind : Kind)
     × Reached c.shape calm (target_base c t) kind
 target-reached c calm Root k = (Full, root)
@@ -139,7 +142,7 @@ target-of : (o : Option Reply) (i : Bool) (c : Setting) (calm : List ℕ) (t : T
 target-of None i c calm t v k = k
 target-of (Some r) i c calm t v k = absurd k
 
--- so is each row whose version it exchanges
+-- each row whose version it exchanges is a row of the calm tree
 row-swapped : (o : Option Reply) (c : Setting) → locks c.variant ≡ true → (i : Bool) (calm : List ℕ) (stage : Stage)
     → KnowsAt o i c calm stage
     → (word v w : ℕ) (mark : Option Point) → turn_at c stage ≡ Asks (Swap word v w) mark → (kind : Kind) × Reached c.shape calm word kind
@@ -286,7 +289,7 @@ module _ (shape : Shape) (s t : State) (p : ℕ) (first calm after : List ℕ) (
     its-held stage at h a = subst (λ x. IsAmong (lock_of h) (holds c x)) (sym at)
         (among-lock h (held_at_stage true (is_insert call) stage) a)
 
-    -- the words of rows behind their versions stay
+    -- the words of rows after their versions stay
     words-stay : (found : Option Reply) (stage : Stage) → stage_of Coupled shape call q ≡ OnKey stage
         → KnowsAt found (is_insert call) c calm stage → (base : ℕ)
         (kind : Kind) → kind_at shape base ≡ Some kind → SameRow s.words t.words base kind
@@ -336,9 +339,9 @@ module _ (shape : Shape) (s t : State) (p : ℕ) (first calm after : List ℕ) (
             ∙ stored-at s.words h.base (released_word h.kept) inside))
             l (here ∙ x)
 
--- ---- behind the step
+-- ---- after the step
 
--- it asks for an access where it has not found its reply
+-- a call that has not found its reply asks for an access
 stage-asks : (c : Setting) → locks c.variant ≡ true → (i : Bool) (calm : List ℕ) (stage : Stage) → KnowsStage i c calm stage
     → (a : Access) × (mark : Option Point) × (turn_at c stage ≡ Asks a mark)
 stage-asks c l i calm (Lock t true) k = (_, _, refl)
@@ -354,7 +357,7 @@ stage-asks c l i calm (Slot p slot) k = (_, _, refl)
 stage-asks c l i calm (LetGo above p f) k = (_, _, refl)
 stage-asks c l i calm stage k = absurd k
 
--- of each kind few claims were made
+-- few claims of each kind were made
 few-claims : (shape : Shape) (s t : State) (p : ℕ) (first calm after : List ℕ) (f : Facts shape s t p first calm after)
     → HasFewClaims (f.count + 2) after
 few-claims shape s t p first calm after f kind =
@@ -372,7 +375,7 @@ module _ (plan : Plan) (start : Contents) (words schedule : List ℕ) (p : ℕ) 
   f : Facts plan.shape s t p words calm after
   f = facts plan start words schedule p s t claims m h
 
-  -- the rows that the call holds behind the step are still
+  -- the rows that the call holds after the step are still
   rows-still : (call : Call) (r : ℕ) (effect : Option Effect) (next : Stage) (x : IsAtStage Coupled plan.shape t r call (OnKey next))
       → ((h : Held) → IsAmong (lock_of h) (held_by Coupled plan.shape call x.process) → SameRow s.words t.words h.base h.kind
       × (IsGoneBy effect h.base → ⊥))

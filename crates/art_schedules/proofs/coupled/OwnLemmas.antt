@@ -12,7 +12,9 @@ use Rattle.art_schedules.proofs.Common.{insert_coupled, place_coupled, let_go_at
 use Rattle.art_schedules.proofs.Common.{no_value, pair_work, overwrite_at, keys_one, release_at, root, Means, HasForm, level_in, path_in}
 use Rattle.art_schedules.proofs.Common.{IsAtRest, LeadsTo, WaysLeadToValues, LeavesAreSmall, is_seek, leads-root, keys-differ, absent-after}
 use Rattle.art_schedules.proofs.Common.{seek-reply, first-differs, path_byte-small, Each, IsUnder, FitsPlace, FitsStage, all_of, held_at_place}
-use Rattle.art_schedules.proofs.Common.{rows_of_target, held_at_stage, IsBehindVersion, slot-behind, count-most, LacksByte, KnowsTarget}
+use Rattle.art_schedules.proofs.Common.{IsBehindVersion, KnowsTarget, LacksByte, held_at_stage, rows_of_target}
+use Rattle.art_schedules.proofs.versions.KeyLemmas.{slot-behind}
+use Rattle.art_schedules.proofs.versions.WordFacts.{count-most}
 use Rattle.art_schedules.proofs.Common.{KnowsInfo, KnowsAt, KnowsReply, IsHeldLive, slot_in, KnowsKeys, KnowsFinding, IsOnWay, HasChild}
 use Rattle.art_schedules.proofs.Common.{HangsOnWay}
 use Rattle.std.proofs.Common.{◌==◌, slice_index, Option, Some, None, if◌then◌else◌}
@@ -22,8 +24,8 @@ use Rattle.art_stages.specs.declared.stage.Work.TheVariants as work
 use Rattle.art_stages.specs.Automaton.{words_at}
 use Rattle.art_serial.proofs.alone.WayLemmas.{leads-below}
 use Rattle.art_serial.proofs.trees.Bytes.{never_differs}
-use Rattle.art_versions.specs.versions.Holding.{HasRoom}
-use Rattle.art_versions.proofs.versions.WordFacts.{full-not-less}
+use Rattle.art_schedules.specs.versions.Holding.{HasRoom}
+use Rattle.art_schedules.proofs.versions.WordFacts.{full-not-less}
 use Rattle.art_schedules.specs.coupled.Knows.{IsBelow, HangsBelow, KnowsPlace, KnowsStage, KnowsWay}
 use Rattle.art_schedules.specs.coupled.Goes.{Gets, Goes, GoesOn, Works, Finds}
 use Rattle.art_schedules.specs.coupled.Laws.{WaysGoOn, FindingsStay}
@@ -33,7 +35,7 @@ use Rattle.art_schedules.proofs.effects.ValueLemmas.{byte-in-small, overwritten}
 
 -- ---- words, bytes and calls
 
--- a word of a row that the call holds, behind its version, is the calm one
+-- a word of a row that the call holds, after its version, is the calm one
 pub own-word : (calm words : List ℕ) (n : Held) → IsHeldLive calm words n → (word : ℕ) → IsBehindVersion n.base n.kind word
     → slice_index words word ≡ slice_index calm word
 own-word calm words n own word behind =
@@ -68,7 +70,7 @@ module _ (shape : Shape) (call : Call) (tree : is_tree_call call ≡ true) (key-
   leads-on h slot base kind (on, at) none = leads-below shape n calm rest on.leads (byte-in-small c h)
       (hangs-on c h slot (ChildRow base kind) at) none
 
-  -- ---- a get, a remove or a replace behind FIND
+  -- ---- a get, a remove or a replace after FIND
 
   module _ (e : is_insert call ≡ false) where
     seeks-key : is_seek call ≡ true
@@ -102,7 +104,7 @@ module _ (shape : Shape) (call : Call) (tree : is_tree_call call ≡ true) (key-
         go false apart = unlocks h on own (other-leaf c rest means ways h slot k v on at (eqb-false k (key_of call) apart))
     seeks h (Has slot (ChildRow base kind)) on own at = GoesOn (knows false e None _ (on, at) (own, tt))
 
-  -- ---- an insert behind FIND
+  -- ---- an insert after FIND
 
   module _ (e : is_insert call ≡ true) where
     alone : (h : Held) (f : Finding) → IsOnWay c calm h → Own h → KnowsFinding true c calm h f → HasRoom h f → To (insert_coupled c h f)
@@ -426,7 +428,7 @@ module _ (shape : Shape) (call : Call) (tree : is_tree_call call ≡ true) (key-
       go false e = GoesOn (knows false e None _ k (own-row 0, own))
   entered i e (Taken t) v w k own got is = absurd k
 
-  -- the row above is let go
+  -- the row above is released
   passes : is_insert call ≡ false → (d : Down) (kept : ℕ) → IsBelow c calm d → Own (held d.base d.kind 0 kept) → To (Info d kept)
   passes e d kept k own = go (first_difference (path_in calm d.base d.kind) (key_bytes (key_of call))) refl
     where

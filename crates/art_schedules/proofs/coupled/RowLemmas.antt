@@ -4,7 +4,10 @@ use Rattle.art_schedules.proofs.Common.{false, arith, slice_index, Option, Some,
 use Rattle.art_schedules.proofs.Common.{row_words, claims_of, is_obsolete, released_word, some-words, claims-few, rows_apart, row_begins}
 use Rattle.art_schedules.proofs.Common.{Coupled, Access, Store, Point, Turn, Asks, Held, call_turn, setting, Process, State, Reached, IsAtRest}
 use Rattle.art_schedules.proofs.Common.{SameRow, sits-kind_at, sits, obsolete_released, IsOutside, IsAmong, IsBehindVersion, IsOpen, IsSettled}
-use Rattle.art_schedules.proofs.Common.{stage_of, held_by, filled_by, held-is-kept, settled-row, version-free, is_busy, AsksFor, RowChange}
+use Rattle.art_schedules.proofs.Common.{AsksFor, RowChange, filled_by, held_by, is_busy, stage_of}
+use Rattle.art_schedules.proofs.versions.KnownLemmas.{held-is-kept}
+use Rattle.art_schedules.proofs.versions.MoveLemmas.{settled-row}
+use Rattle.art_schedules.proofs.versions.WordFacts.{version-free}
 use Rattle.art_schedules.proofs.Common.{RowsStay, RowWritten, RowFilled, RowTaken, RowReleased, KeepsTree, IsHeldLive}
 use Rattle.std.proofs.Common.{All}
 use Rattle.art_schedules.proofs.calm.VersionLemmas.{not-behind, free-busy, released-free, locked-same}
@@ -24,7 +27,7 @@ module _ (shape : Shape) (s t : State) (p : ℕ) (first calm after : List ℕ) (
       (held-is-kept (IsSettled Coupled shape s) (setting shape Coupled call) (stage_of Coupled shape call q)
       (f.sound.knows r call q o) x a).1
 
-  -- Behind its version a row keeps its words, where the step writes to no such word of it.
+  -- After its version a row keeps its words, where the step writes to no such word of it.
   pub rows-same : (base : ℕ) (kind : Kind) → kind_at shape base ≡ Some kind
       → ((word value : ℕ) (asks : AsksFor Coupled shape s p (Store word value)) (x : Held)
       → IsAmong x (held_by Coupled shape asks.call asks.process)
@@ -64,7 +67,7 @@ module _ (shape : Shape) (s t : State) (p : ℕ) (first calm after : List ℕ) (
       apart (sym (f.sound.apart p r asks.call call asks.process q asks.is_open o y x among a same)))
       (λ word value asks b k fills same. (kept-row r call q o x a).unfilled p asks.call asks.process asks.is_open b k fills (sym same))
 
-  -- calm has the words of a row that is held behind the step as before it
+  -- calm has the words of a row that is held after the step as before it
   pub held-calm : (r : ℕ) (call : Call) (q : Process) → IsOpen t r call q → (x : Held) → IsAmong x (held_by Coupled shape call q)
       → SameRow calm after x.base x.kind
   held-calm r call q o x a =
@@ -133,7 +136,7 @@ module _ (shape : Shape) (s t : State) (p : ℕ) (first calm after : List ℕ) (
     keeps-without n rest small none = low-words-keep shape n calm after rest (f.then.long ∙ sym f.before.long) small claims-rise
         (without-store Coupled shape f.count s f.sound p t calm after f.goes call q o none)
 
-    -- and where it releases a row that it holds and has not written to
+    -- calm's tree stays if the call releases a row that it holds and has not written to
     pub keeps-released : (n : ℕ) → IsAtRest shape n calm → All (λ w. w < 2 ^ 64) after → (x : Held)
         → IsAmong x (held_by Coupled shape call q)
         → IsHeldLive calm s.words x → SameRow s.words t.words x.base x.kind → slice_index t.words x.base ≡ released_word x.kept

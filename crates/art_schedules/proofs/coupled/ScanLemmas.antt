@@ -14,7 +14,7 @@ use Rattle.std.proofs.Common.{◌==◌, if◌then◌else◌}
 use Rattle.art_stages.specs.declared.stage.Entry.TheVariants.{Root, Below}
 use Rattle.art_stages.specs.declared.stage.ScanStep.TheVariants.{Lock, Exchange, Wait, Info, Keys, Over}
 use Rattle.art_stages.specs.Scans.{close_at, row_begins}
-use Rattle.art_versions.proofs.versions.ByteLemmas.{index-small}
+use Rattle.art_schedules.proofs.versions.ByteLemmas.{index-small}
 use Rattle.art_schedules.specs.coupled.Scanning.{HangsOnHeld, ScansKnowTrees}
 
 module _ (shape : Shape) (low high n : ℕ) (calm : List ℕ) (rest : IsAtRest shape n calm) where

@@ -1,6 +1,7 @@
--- Scans by themselves.
+-- Scans on their own.
 use Rattle.art_schedules.proofs.Common.{◌≡◌, ◌≢◌, ◌⊎◌, inl, inr, ℕ, zero, suc, ◌<◌, ◌≤◌, List, [], ◌∷◌, length, refl, sym, ap, ◌∙◌, subst, arith}
-use Rattle.art_schedules.proofs.Common.{Option, Some, cases_eq, cases_lt, length-set, index-other, Scan, Reply, reply_to, Shape, Coupled, Access}
+use Rattle.art_schedules.proofs.Common.{Access, Coupled, Option, Reply, Scan, Shape, Some, cases_eq, cases_lt, length-set, reply_to}
+use Rattle.art_schedules.proofs.versions.ChangeLemmas.{index-other}
 use Rattle.art_schedules.proofs.Common.{Store, released_word, Point, Asks, Answers, word_of, Setting, Held, Frame, ScanStep, setting, Walk, at}
 use Rattle.art_schedules.proofs.Common.{CallAt, OnScan, rest_at, call_after, call_begun, call_next, changed, told, got_by, words_after}
 use Rattle.art_schedules.proofs.Common.{RunsAlone, ends, goes, same-runs, ScansAreTheMaps, stored-at, Suits, Alone, SameOn, WalksAreTheMaps}
@@ -95,7 +96,7 @@ module _ (shape : Shape) (low high : ℕ) where
   over-answers w now last r (ends h) = same-reply (sym (call_next c (OnScan low high (at scan.Over w))) ∙ h)
   over-answers w now last r (goes a p h k) = absurd (asks-not (sym h ∙ call_next c (OnScan low high (at scan.Over w))))
 
-  -- and so does one that releases its rows
+  -- a scan that releases its rows answers its pairs
   release-answers : (rows : List Held) (n : Held) (pairs : List (ℕ × ℕ)) (way : List Frame) (now last : List ℕ) (r : Reply)
       → RunsAlone (rest_at c (OnScan low high (at (scan.Release n) (record { rows = rows; pairs = pairs; way = way })))) now last r
       → r ≡ reply.Pairs pairs

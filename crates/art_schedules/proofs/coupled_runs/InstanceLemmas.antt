@@ -3,7 +3,8 @@ use Rattle.art_schedules.proofs.Common.{◌≡◌, ℕ, ◌+◌, true, false, Li
 use Rattle.art_schedules.proofs.Common.{None, same_Some, none-some, Call, Get, Insert, Remove, Scan, Replace, Reply, Contents, Shape, Coupled}
 use Rattle.art_schedules.proofs.Common.{Access, Answers, is_scan, Hold, Outcome, Stage, Lock, Unlock, Obsolete, Over, Root, setting, reply_for}
 use Rattle.art_schedules.proofs.Common.{turn_at, OnKey, call_turn, call_begun, call_behind, Process, Plan, State, opened_on}
-use Rattle.art_schedules.proofs.Common.{CoupledIsLinearizable, IsRun, holds, IsAmong, stage_of, IsAtStage, same-call, calm_of, Status, Before}
+use Rattle.art_schedules.proofs.Common.{Before, CoupledIsLinearizable, IsAmong, IsAtStage, IsRun, Status, calm_of, holds, stage_of}
+use Rattle.art_schedules.proofs.versions.KnownLemmas.{same-call}
 use Rattle.art_schedules.proofs.Common.{HasReply, Tale, IsToldStep, AllFit, IsLedOn, OwnStep, Stays, BeginsCall, MakesAccess, AnswersCall}
 use Rattle.art_schedules.proofs.Common.{HasItsReply, set_at, the_plan, LeavesBy, HoldsGood, AtEnd, Answering, Leaving, Makes, ghosts_with}
 use Rattle.art_schedules.proofs.Common.{HasNone, OfScans, CoupledFits, ScansAreKept, HaveScans, LedAreLinearizable, TreeGoesOn}

@@ -3,7 +3,8 @@ use Rattle.art_schedules.proofs.Common.{◌≡◌, ◌≢◌, ℕ, ◌+◌, true
 use Rattle.art_schedules.proofs.Common.{slice_index, Option, Some, None, same_Some, none-some, Call, Contents, Shape, Kind, claims_of}
 use Rattle.art_schedules.proofs.Common.{is_obsolete, locked_word, claims-few, Coupled, Swap, Point, Asks, Held, Hold, Outcome, Stage, Unlock}
 use Rattle.art_schedules.proofs.Common.{Obsolete, setting, OnKey, call_turn, Process, Plan, State, IsClaimed, Named, IsOpen, stage_of, IsAtStage}
-use Rattle.art_schedules.proofs.Common.{same-call, calm_of, AsksFor, Effect, IsGoneBy, ComesInBy, TreeGoesOn, HasFewClaims, KeepsTree, Status}
+use Rattle.art_schedules.proofs.Common.{AsksFor, ComesInBy, Effect, HasFewClaims, IsGoneBy, KeepsTree, Status, TreeGoesOn, calm_of}
+use Rattle.art_schedules.proofs.versions.KnownLemmas.{same-call}
 use Rattle.art_schedules.proofs.Common.{Tale, IsToldStep, AllFit, IsLedOn, set_at, the_plan, ObsoleteLeave, TakesLive, MakesLeave, LeavesBy}
 use Rattle.art_schedules.proofs.Common.{HeldAreLive, IsCoupledStep, TakesReached, Makes, HoldsReached, IsOther, ghosts_with, IsWorking, HasNone}
 use Rattle.art_schedules.proofs.Common.{OfScans, CoupledFits, ScansAreKept}
@@ -15,7 +16,7 @@ use Rattle.art_schedules.proofs.changes.EffectLemmas.{gone-reached}
 use Rattle.art_schedules.proofs.work.CallLemmas.{key-same}
 use Rattle.art_schedules.proofs.stories.OpenLemmas.{set-cases, set-here, set-other, same-stage}
 
--- the fresh row behind a step: as before, or none, or one that was claimed in it
+-- the fresh row after a step: as before, or none, or one that was claimed in it
 pub data FreshBehind (shape : Shape) (s t : State) (before fresh : Option Named) : Type 0 where
   SameFresh : fresh ≡ before → FreshBehind shape s t before fresh
   NoFresh : fresh ≡ None → FreshBehind shape s t before fresh
@@ -90,7 +91,7 @@ module _ (laws : LawsOfParts) (shape : Shape) (scripts : List (List Call)) (star
     claims-rise : (b : ℕ) (k : Kind) → IsClaimed shape s.words b k → IsClaimed shape t.words b k
     claims-rise b k x = record { number = x.number; claimed = omega (arith, x.claimed, fact.steady.claims k); within = x.within; is = x.is }
 
-    -- ---- the rows that are held behind the step
+    -- ---- the rows that are held after the step
 
     pub takes-none-live : (call : Call) (q : Process) → IsOpen s p call q
         → ((word v w : ℕ) (mark : Option Point)
@@ -224,7 +225,7 @@ module _ (laws : LawsOfParts) (shape : Shape) (scripts : List (List Call)) (star
         is-stage : (other : Call) (b : Stage) → IsAtStage Coupled shape s p other (OnKey b) → stage ≡ b
         is-stage other b x = key-same (sym at ∙ (same-stage Coupled shape s p call other q x.process o x.is_open ∙ x.at))
 
-    -- and of a scan, or where no call is open
+    -- what the step does to obsolete rows, if it is one of a scan or no call is open
     pub leaves-off : ((call : Call) (stage : Stage) → IsAtStage Coupled shape s p call (OnKey stage) → ⊥)
         → Makes Coupled shape s p calm after m None
         → LeavesBy shape s t p calm None g.leaving (set_at g.leaving p None)

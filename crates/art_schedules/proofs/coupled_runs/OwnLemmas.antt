@@ -3,7 +3,8 @@ use Rattle.art_schedules.proofs.Common.{◌≡◌, ◌⊎◌, ℕ, true, false, 
 use Rattle.art_schedules.proofs.Common.{Option, Some, None, none-some, Call, Reply, Contents, Shape, Coupled, Access, Swap, Point, Asks}
 use Rattle.art_schedules.proofs.Common.{is_tree_call, is_insert, is_scan, Held, Hold, Stage, Unlock, Obsolete, Over, Work, setting, ScanAt}
 use Rattle.art_schedules.proofs.Common.{turn_at, work_at, OnKey, OnScan, call_turn, Process, Plan, State, begun, opened_on, Each, Knows, holds}
-use Rattle.art_schedules.proofs.Common.{all_of, lock_of, locks_of, rows_of_hold, IsAmong, IsOpen, stage_of, held_by, IsAtStage, each-map}
+use Rattle.art_schedules.proofs.Common.{IsAmong, IsAtStage, IsOpen, all_of, held_by, lock_of, locks_of, rows_of_hold, stage_of}
+use Rattle.art_schedules.proofs.versions.KnownLemmas.{each-map}
 use Rattle.art_schedules.proofs.Common.{calm_of, RowsOf, Effect, Status, Before, Found, Changed, HasNotChanged, Tale, IsToldStep, AllFit}
 use Rattle.art_schedules.proofs.Common.{IsLedOn, OwnStep, Changes, Next, Stays, FindsNow, MakesAccess, set_at, the_plan, IsHeldLive, TakesLive}
 use Rattle.art_schedules.proofs.Common.{MakesLeave, LeavesBy, IsCoupledStep, HoldsGood, TakesReached, AtWork, AtEnd, Answering, Leaving, Makes}
@@ -41,7 +42,7 @@ end-swaps shape real calm call reply stage (Leaving o h e at rows same) word v w
     go : turn_at (setting shape Coupled call) (Unlock h (Some o)) ≡ Asks (Swap word v w) mark → ⊥
     go k = cc
 
--- it makes no row obsolete
+-- an end makes no row obsolete
 end-keeps : (shape : Shape) (real calm : List ℕ) (call : Call) (reply : Reply) (h : Hold)
     → AtEnd (setting shape Coupled call) real calm reply (Obsolete h) → ⊥
 end-keeps shape real calm call reply h (Answering o e at) = cc
@@ -73,7 +74,7 @@ module _ (laws : LawsOfParts) (shape : Shape) (scripts : List (List Call)) (star
   is-step : IsCoupledStep plan start words schedule p s t told.claims m
   is-step = led.is-step laws shape scripts start words Scans scans schedule tale p s t g told world all
 
-  -- a call with its stage, and the process that it is behind the step
+  -- a call with its stage, and the process that it is after the step
   module _ (call : Call) (q later : Process) (a : Access) (status : Status) (made : MakesAccess plan s p t call q later a)
       (tree : is_tree_call call ≡ true) where
     abbrev Fit : Ghosts → Status → Type 0
@@ -102,7 +103,7 @@ module _ (laws : LawsOfParts) (shape : Shape) (scripts : List (List Call)) (star
     none-now : HasNone (ghosts_with g p None None) p
     none-now = (set-here g.fresh p None, set-here g.leaving p None)
 
-    -- the call keeps the pairs, and has no fresh row behind the step
+    -- the call keeps the pairs, and has no fresh row after the step
     plain : (next : Status) → Makes Coupled shape s p calm after m None
         → Next plan (opened_on plan words) schedule tale p (length (begun q)) call status next
         → LeavesBy shape s t p calm None g.leaving (set_at g.leaving p None) → TakesLive shape s p × TakesReached shape s p calm
@@ -198,7 +199,7 @@ module _ (laws : LawsOfParts) (shape : Shape) (scripts : List (List Call)) (star
             (subst (IsWorking shape t.words after call from.next None) (sym (set-here g.leaving p None)) (works h w f begins each)))
             refl)
 
-    -- ---- behind the moment at which it found its reply
+    -- ---- after the moment at which it found its reply
 
     finds : (stage : Stage) (reply : Reply) → HasNone g p → stage_of Coupled shape call q ≡ OnKey stage
         → KnowsWay (setting shape Coupled call) calm s.words (Some reply) stage → status ≡ Found reply → Answer
@@ -227,7 +228,7 @@ module _ (laws : LawsOfParts) (shape : Shape) (scripts : List (List Call)) (star
         makes : Makes Coupled shape s p calm after m None
         makes = led.keeps-makes laws shape scripts start words Scans scans schedule tale p s t g told world all from.keeps
 
-    -- ---- behind its effect, or refused
+    -- ---- after its effect, or refused
 
     ends : (stage : Stage) (reply : Reply) → HasNone g p → stage_of Coupled shape call q ≡ OnKey stage
         → AtEnd (setting shape Coupled call) s.words calm reply stage → (status ≡ Changed reply)

@@ -38,7 +38,7 @@ module _ (laws : LawsOfParts) (shape : Shape) (scripts : List (List Call)) (star
     abbrev m : Contents
     m = tale.pairs (length schedule)
 
-    -- what is so of the calm words of the run is so of these
+    -- what holds of the calm words of the run holds of these
     at-calm : (P : List ℕ → List ℕ → Type 0) → P here there → (x y : List ℕ) → x ≡ here → y ≡ there → P x y
     at-calm P h x y e f = subst (λ b. P x b) (sym f) (subst (λ a. P a there) (sym e) h)
 

@@ -1,15 +1,21 @@
--- What is known around a step of a run: before and behind it, and of the rows of other processes.
+-- What is known around a step of a run: before and after it, and of the rows of other processes.
 use Rattle.art_schedules.proofs.Common.{◌≡◌, ◌≢◌, ℕ, ◌+◌, ◌^◌, ◌<◌, ◌≤◌, List, [], ◌∷◌, ◌++◌, refl, ap, sym, ◌∙◌, inl, inr, slice_get}
 use Rattle.art_schedules.proofs.Common.{slice_index, Option, Some, cases_eq, same_Some, Contents, Call, Shape, kind_at, Variant, Access, Point}
 use Rattle.art_schedules.proofs.Common.{Turn, Asks, locks, word_of, Held, setting, call_turn, call_after, call_begun, Process, told, got_by}
 use Rattle.art_schedules.proofs.Common.{words_after, Plan, State, Move, after_move, moved, move_of, move_from, is-moved, set-here}
 use Rattle.art_schedules.proofs.Common.{AreZeroPastClaims, IsKept, IsAmong, IsOpen, IsSettled, IsSound, stage_of, held_by, IsSteady, SameWords}
-use Rattle.art_schedules.proofs.Common.{WritesOwn, IsFull, set-other, fresh-at, held-is-kept, settled-row, written-at, after-more, next-turn}
+use Rattle.art_schedules.proofs.Common.{IsFull, WritesOwn}
+use Rattle.art_schedules.proofs.versions.ChangeLemmas.{set-other}
+use Rattle.art_schedules.proofs.versions.FreshLemmas.{fresh-at}
+use Rattle.art_schedules.proofs.versions.KnownLemmas.{held-is-kept}
+use Rattle.art_schedules.proofs.versions.MoveLemmas.{settled-row}
+use Rattle.art_schedules.proofs.versions.RunLemmas.{written-at}
+use Rattle.art_schedules.proofs.versions.StepLemmas.{after-more, next-turn}
 use Rattle.art_schedules.proofs.Common.{calm_of, IsCalm, CalmStep}
 use Rattle.std.specs.Prelude.{◌⊎◌}
 use Rattle.art_core.specs.Core.{Makes}
 use Rattle.art_core.proofs.HistoryLemmas.{IsMoved}
-use Rattle.art_versions.specs.versions.Writers.{IsHeldBy, IsTakenBy, IsFilledBy}
+use Rattle.art_schedules.specs.versions.Writers.{IsHeldBy, IsTakenBy, IsFilledBy}
 use Rattle.art_schedules.specs.calm.Changes.{IsRunStep}
 use Rattle.art_schedules.proofs.calm.InductionLemmas.{step-of-run}
 use Rattle.art_schedules.proofs.calm.RunLemmas.{calm-at, step-at}
@@ -133,7 +139,7 @@ module _ (plan : Plan) (p : ℕ) (s t : State) (calm after : List ℕ) (x : Arou
           ∙ taken.1)
       go (inr (inr f)) = kept.1.unfilled p f.call f.process f.is_open h.base f.kind f.fills refl
 
-  -- and so do calm's
+  -- calm's words of a row that another process holds stay
   pub others-calm : SameWords calm after h.base h.kind
   others-calm = x.changes.held h.base h.kind others-row
       (record { holder = r; call = call; process = w; is_open = then-open; row = h; among = among; is = refl })

@@ -1,4 +1,4 @@
--- What is so where work begins.
+-- What holds where work begins.
 use Rattle.art_schedules.proofs.Common.{◌≡◌, ℕ, List, true, false, refl, sym, inl, inr, none-some, Option, Some, Call, Get, Insert, Remove, Scan}
 use Rattle.art_schedules.proofs.Common.{Replace, Child, Empty, Row, Leaf, Setting, is_scan, is_insert, overwriting, Hold, Work, child_on}
 use Rattle.art_schedules.proofs.Common.{BeginsWork, IsOverwritten}

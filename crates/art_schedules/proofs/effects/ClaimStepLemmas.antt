@@ -5,7 +5,9 @@ use Rattle.art_schedules.proofs.Common.{claims_of, base_of, is_obsolete, some-wo
 use Rattle.art_schedules.proofs.Common.{Variant, Add, Asks, Setting, next_kind, store-add, Held, Hold, Refused, Work, Stage, StorePair, GrowInfo}
 use Rattle.art_schedules.proofs.Common.{Unlock, setting, turn_at, stage_after, work_at, OnKey, call_turn, call_after, Process, Plan, State}
 use Rattle.art_schedules.proofs.Common.{Means, IsAtRest, IsClaimed, IsUnused, ChildrenAreRead, stored-at, rows_of_hold, Each, Knows, IsOpen}
-use Rattle.art_schedules.proofs.Common.{stage_of, IsAtStage, index-other, settled-row, true-false, IsGoneBy, ComesInBy, EffectsFollow}
+use Rattle.art_schedules.proofs.Common.{ComesInBy, EffectsFollow, IsAtStage, IsGoneBy, stage_of}
+use Rattle.art_schedules.proofs.versions.ChangeLemmas.{index-other}
+use Rattle.art_schedules.proofs.versions.MoveLemmas.{settled-row, true-false}
 use Rattle.art_schedules.proofs.Common.{KeptTreesFollow, IsUnreached, Solo, here, further, claims, RowsOf, BeginsWork, IsClaiming, claims_row}
 use Rattle.art_schedules.proofs.Common.{hold_at, FillsAt, AtWork, Going, Leaving, Makes, IsRefused, obsolete_by, WorkerStep, IsInTree, IsSame}
 use Rattle.std.proofs.Common.{slice_index}

@@ -1,4 +1,4 @@
--- A call at work, behind its claim and before its first release, while it steps.
+-- A call at work, after its claim and before its first release, while it steps.
 use Rattle.art_schedules.proofs.Common.{◌≡◌, ◌≢◌, ◌⊎◌, inl, inr, ℕ, ◌+◌, ◌-◌, ◌<◌, ◌≤◌, List, [], ◌∷◌, length, Bool, false, refl, sym, ap, ◌∙◌}
 use Rattle.art_schedules.proofs.Common.{subst, arith, slice_set, Option, Some, None, same_Some, none-some, Call, Contents, Shape, Kind, Four}
 use Rattle.art_schedules.proofs.Common.{row_words, base_of, table_words, kind_at, is_obsolete, key_bytes, info_word, row_word, some-words}
@@ -8,7 +8,9 @@ use Rattle.art_schedules.proofs.Common.{StorePair, Hang, Unlock, Obsolete, setti
 use Rattle.art_schedules.proofs.Common.{work_at, pair_after, no_value, OnKey, call_turn, call_after, Process, Plan, State, Reached, Means}
 use Rattle.art_schedules.proofs.Common.{IsAtRest, SameRow, LeadsTo, ChildrenAreRead, load-same, stored-long, stored-at, way_byte, lock_of}
 use Rattle.art_schedules.proofs.Common.{locks_of, all_of, rows_of_hold, Named, Each, Knows, KnowsKey, holds, fills, IsAmong, IsBehindVersion}
-use Rattle.art_schedules.proofs.Common.{IsOpen, AreDistinct, stage_of, filled_by, IsAtStage, index-other, settled-row, true-false, is_busy}
+use Rattle.art_schedules.proofs.Common.{AreDistinct, IsAtStage, IsOpen, filled_by, is_busy, stage_of}
+use Rattle.art_schedules.proofs.versions.ChangeLemmas.{index-other}
+use Rattle.art_schedules.proofs.versions.MoveLemmas.{settled-row, true-false}
 use Rattle.art_schedules.proofs.Common.{IsGoneBy, ComesInBy, EffectsFollow, KeptTreesFollow, Solo, further, loads, stores, IsHeldWord}
 use Rattle.art_schedules.proofs.Common.{TouchesOwn, LoadsHeld, StoresOwn, ClaimsRow, ReleasesHeld, Replies, may_release, RowsOf, IsRelease}
 use Rattle.art_schedules.proofs.Common.{IsDoneBy, PairHangs, GrownHangs, IsWorkDone, WorkIsDone, upper_of, upper_row, BeginsWork, hold_at}
@@ -18,7 +20,7 @@ use Rattle.std.proofs.Common.{slice_index}
 use Rattle.std.specs.Prelude.{take}
 use Rattle.art_stages.specs.declared.stage.PairWord.TheVariants as pair_word
 use Rattle.art_stages.specs.declared.stage.Work.TheVariants as work
-use Rattle.art_versions.proofs.versions.LowLemmas.{first-item}
+use Rattle.art_schedules.proofs.versions.LowLemmas.{first-item}
 use Rattle.art_schedules.proofs.calm.CalmLemmas.{claimed-row}
 use Rattle.art_schedules.proofs.calm.UseLemmas.{without-store, with-written, with-filled}
 use Rattle.art_schedules.proofs.calm.VersionLemmas.{free-busy}
@@ -369,7 +371,7 @@ module _ (read : ChildrenAreRead) (trees : KeptTreesFollow) (effects : EffectsFo
         stored-filled row.0 row.1 new (own-word.filled ∙ ap (λ z. z ∷ []) same)
         (subst (λ (z : Named). IsBehindVersion z.0 z.1 word) same own-word.behind)
 
-  -- ---- behind it
+  -- ---- after it
 
   module _ (w : ℕ) (mv : Moved w) where
     abbrev next : Stage

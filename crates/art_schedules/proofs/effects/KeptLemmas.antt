@@ -14,7 +14,7 @@ use Rattle.art_schedules.proofs.changes.EffectLemmas.{parted-small}
 use Rattle.art_schedules.proofs.changes.WrittenLemmas.{children-are-of-rows}
 use Rattle.art_schedules.specs.effects.Begins.{FindsSlot}
 
--- what is so of each row is so of the upper one
+-- what holds of each row holds of the upper one
 pub upper-each : (P : Held → Type 0) (h : Hold) → Each P (rows_of_hold h) → P (upper_row h)
 upper-each P h e = go h.row h.above e
   where

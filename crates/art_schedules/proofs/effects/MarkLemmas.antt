@@ -5,7 +5,8 @@ use Rattle.art_schedules.proofs.Common.{base_of-once, Swap, Turn, Asks, Answers,
 use Rattle.art_schedules.proofs.Common.{Keys, Outcome, Value, Work, Stage, Lock, Exchange, Wait, Leave, Between, Info, Find, FindKeys, FindMore}
 use Rattle.art_schedules.proofs.Common.{FindCount, Slot, Check, CheckLast, LetGo, Take, StorePair, PutKeys, GrowLeaf, GrowKeys, GrowCount}
 use Rattle.art_schedules.proofs.Common.{Obsolete, Over, Unlock, setting, turn_at, work_at, store_of, pair_turn, put_keys_turn, grow_leaf_turn}
-use Rattle.art_schedules.proofs.Common.{grow_keys_turn, grow_count_turn, Reached, child_on, IsAtRest, way_byte, Named, true-false, calm_of}
+use Rattle.art_schedules.proofs.Common.{IsAtRest, Named, Reached, calm_of, child_on, grow_count_turn, grow_keys_turn, way_byte}
+use Rattle.art_schedules.proofs.versions.MoveLemmas.{true-false}
 use Rattle.art_schedules.proofs.Common.{Effect, Keeps, Fills, PutsLeaf, RemovesLeaf, HangsPair, HangsGrown, base_of_effect, kind_of_effect}
 use Rattle.art_schedules.proofs.Common.{IsGone, is_work, claims_row, hold_at, IsPending, IsReleasing, Last, Lower, Gone, AtWork, Claiming, Going}
 use Rattle.art_schedules.proofs.Common.{Hanging, EndStep, Leaves, AnswersNow, obsolete_by, IsMarkedBy, EnderStep, WorkersMayHaveNoMark}
@@ -31,7 +32,7 @@ unmarked c real calm fresh stage (Claiming none g) = refl
 unmarked c real calm fresh stage (Going g) = refl
 unmarked c real calm fresh stage (Hanging g) = releasing-unmarked g.at
 
--- a stage makes no row obsolete, but for one
+-- a stage makes no row obsolete, except one
 pub obsolete-or : (stage : Stage) → (obsolete_by stage ≡ None) ⊎ ((h : Hold) × (stage ≡ Obsolete h))
 obsolete-or (Obsolete h) = inr (h, refl)
 obsolete-or stage = inl refl

@@ -5,8 +5,10 @@ use Rattle.art_schedules.proofs.Common.{row_words, kind_at, child_of, row_word, 
 use Rattle.art_schedules.proofs.Common.{Setting, Held, Hold, Growing, Work, Outcome, Value, Stage, setting, work_at, hold_alone, OnKey, Process}
 use Rattle.art_schedules.proofs.Common.{Plan, State, Reached, below, slot_of, child_on, IsAtRest, SameRow, IsClaimed, ChildrenAreRead, way_byte}
 use Rattle.art_schedules.proofs.Common.{lock_of, locks_of, rows_of_hold, Named, Each, IsNamed, Knows, child_rows, holds, fills, IsAmong}
-use Rattle.art_schedules.proofs.Common.{IsBehindVersion, IsOpen, IsSettled, stage_of, held_by, filled_by, IsAtStage, settled-row, true-false}
-use Rattle.art_schedules.proofs.Common.{with-here, calm_of, CalmChange, CalmStays, CalmFilled, CalmReleased, RowChange, RowsStay, RowWritten}
+use Rattle.art_schedules.proofs.Common.{IsAtStage, IsBehindVersion, IsOpen, IsSettled, filled_by, held_by, stage_of}
+use Rattle.art_schedules.proofs.versions.MoveLemmas.{settled-row, true-false}
+use Rattle.art_schedules.proofs.Common.{CalmChange, CalmFilled, CalmReleased, CalmStays, RowChange, RowWritten, RowsStay, calm_of}
+use Rattle.art_schedules.proofs.versions.WithLemmas.{with-here}
 use Rattle.art_schedules.proofs.Common.{RowFilled, RowTaken, RowReleased, Effect, Keeps, Fills, PutsLeaf, RemovesLeaf, HangsPair, HangsGrown}
 use Rattle.art_schedules.proofs.Common.{base_of_effect, kind_of_effect, IsGone, IsGoneBy, ComesInBy, IsUnreached, IsClaiming, claims_row}
 use Rattle.art_schedules.proofs.Common.{FillsAt, HasNew, IsGoing, fresh_of, IsPending, IsReleasing, Last, Lower, Gone, IsHanging, AtWork}
@@ -14,7 +16,7 @@ use Rattle.art_schedules.proofs.Common.{Claiming, Going, Hanging, AtEnd, Answeri
 use Rattle.art_schedules.proofs.Common.{IsMarkedBy, IsMarked, OthersKeepWork, OthersKeepMarked, OthersKeepEnds, IsInTree, IsSame}
 use Rattle.std.proofs.Common.{slice_index}
 use Rattle.art_stages.specs.declared.stage.Work.TheVariants as work
-use Rattle.art_versions.specs.versions.Steady as steady
+use Rattle.art_schedules.specs.versions.Steady as steady
 use Rattle.art_schedules.proofs.calm.CalmLemmas.{claimed-row}
 use Rattle.art_schedules.proofs.calm.VersionLemmas.{locked-same, obsolete-busy}
 use Rattle.art_schedules.proofs.changes.RowLemmas.{steady-row}
@@ -25,7 +27,7 @@ use Rattle.art_schedules.proofs.effects.KeptLemmas.{begins-kept, inside-kept, un
 use Rattle.art_schedules.proofs.effects.StageLemmas.{place-work, grow-fills}
 use Rattle.art_schedules.proofs.calm.ReachedLemmas.{slot-of-row}
 
--- of each row that is held
+-- what holds of each row that is held, by another property
 pub each-with : (P Q : Held → Type 0) (rows : List Held) → ((row : Held) → IsAmong (lock_of row) (locks_of rows) → P row → Q row)
     → Each P rows → Each Q rows
 each-with P Q [] f e = tt
@@ -82,7 +84,7 @@ module _ (read : ChildrenAreRead) (plan : Plan) (p : ℕ) (s t : State) (calm af
   same-on : (row : Held) → HoldsRow row → IsSame calm s.words row → IsSame after t.words row
   same-on row among same j low high = real-row row among j low high ∙ (same j low high ∙ sym (calm-row row among j low high))
 
-  -- a row that goes by the step hangs in no row that this call holds
+  -- a row that leaves by the step hangs in no row that this call holds
   gone-once : (row : Held) → HoldsRow row → (base : ℕ) (kind : Kind) (y b : ℕ) (l : Kind) → base ≡ row.base
       → Reached shape calm base kind → y < 256
       → child_on shape calm base kind y ≡ Row b l → IsGoneBy effect b → ⊥
@@ -346,7 +348,7 @@ module _ (read : ChildrenAreRead) (plan : Plan) (p : ℕ) (s t : State) (calm af
         new-stays b larger ready
         (inr (settled-slot base kind y slot.0 b larger row (way_byte shape calm key base kind y above) slot.1.at slot.1.here its)) other
 
-    -- a row that goes by the effect hangs in the row that changes
+    -- a row that leaves by the effect hangs in the row that changes
     pending-gone : (row : Held) → HoldsRow row → (e : Effect) (old : Option ℕ) → base_of_effect e ≡ row.base
         → IsPending c s.words calm e old → (b : ℕ)
         → IsGone e b → (l : Kind) × (kind_at shape b ≡ Some l) × (IsGoneBy effect b → ⊥)
@@ -370,7 +372,7 @@ module _ (read : ChildrenAreRead) (plan : Plan) (p : ℕ) (s t : State) (calm af
     releasing-holds row e out (Gone lower is value here leaves gone) =
         holds-row (record { row = lower; above = Some row }) (ap (λ z. holds c (OnKey z)) is) row (inr (inl refl))
 
-    -- the same work, with the same mark
+    -- the call does the same work after the step, with the same mark
     abbrev KeepsMarked : (fresh : Option Named) → AtWork c s.words calm fresh stage → Type 0
     KeepsMarked fresh work = (later : AtWork c t.words after fresh stage) × ((left : Option ℕ) → IsMarked left work → IsMarked left later)
 

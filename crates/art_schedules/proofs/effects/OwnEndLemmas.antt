@@ -1,11 +1,12 @@
--- A call that has hung its change, or is at its end, while it steps.
+-- One step of a call that has hung its change, or is at its end.
 use Rattle.art_schedules.proofs.Common.{◌≡◌, ◌≢◌, ◌⊎◌, inl, inr, ℕ, ◌+◌, ◌<◌, ◌≤◌, List, true, false, refl, sym, ap, ◌∙◌, subst, arith, Option}
 use Rattle.art_schedules.proofs.Common.{Some, None, cases_lt, same_Some, none-some, Call, Reply, Contents, Shape, Kind, Four, row_words, kind_at}
 use Rattle.art_schedules.proofs.Common.{is_obsolete, released_word, obsolete_word, rows_apart, row_begins, some-words, Variant, Store, Point}
 use Rattle.art_schedules.proofs.Common.{Asks, Setting, locks, answers-asks, Held, Hold, Outcome, Value, Stage, Unlock, Over, setting, reply_for}
 use Rattle.art_schedules.proofs.Common.{turn_at, stage_after, release_at, hold_alone, OnKey, call_turn, call_after, Process, Plan, State}
 use Rattle.art_schedules.proofs.Common.{Reached, Means, IsAtRest, SameRow, ChildrenAreRead, lock_of, locks_of, rows_of_hold, Named, Each, holds}
-use Rattle.art_schedules.proofs.Common.{IsAmong, IsOpen, AreDistinct, stage_of, held_by, IsAtStage, settled-row, Effect, Keeps, Fills, PutsLeaf}
+use Rattle.art_schedules.proofs.Common.{AreDistinct, Effect, Fills, IsAmong, IsAtStage, IsOpen, Keeps, PutsLeaf, held_by, stage_of}
+use Rattle.art_schedules.proofs.versions.MoveLemmas.{settled-row}
 use Rattle.art_schedules.proofs.Common.{RemovesLeaf, HangsPair, HangsGrown, base_of_effect, kind_of_effect, IsGone, ComesIn, IsGoneBy, ComesInBy}
 use Rattle.art_schedules.proofs.Common.{EffectsFollow, KeptTreesFollow, WaysSayValues, IsUnreached, fresh_of, IsPending, IsReleasing, Last}
 use Rattle.art_schedules.proofs.Common.{Lower, Gone, IsHanging, Hanging, AtEnd, Answering, Leaving, HasFilledFresh, obsolete_by, IsMarkedBy}
@@ -98,7 +99,7 @@ module _ (read : ChildrenAreRead) (trees : KeptTreesFollow) (effects : EffectsFo
           (omega (arith, some-words lower.kind)) (omega (arith, e))
           (omega (arith, e, high))).0)
 
-  -- where the call is behind the release
+  -- where the call is after the release
   released-at : (row : Held) (among : HoldsRow row) (live : is_obsolete row.kept ≡ false) (value : ℕ) (mark : Option Point)
       → turn_at c stage ≡ Asks (Store row.base value) mark → (next : Stage) → stage_after c stage 0 ≡ next
       → IsAtStage variant shape t p call (OnKey next)

@@ -5,13 +5,17 @@ use Rattle.art_schedules.proofs.Common.{claims_of, kind_at, is_obsolete, release
 use Rattle.art_schedules.proofs.Common.{claims-few, first-some, row_ends, Variant, Store, Point, Asks, Setting, locks, Held, Stage, setting}
 use Rattle.art_schedules.proofs.Common.{turn_at, OnKey, call_turn, Process, Plan, State, Means, IsAtRest, SameRow, IsClaimed, ChildrenAreRead}
 use Rattle.art_schedules.proofs.Common.{slot-is, IsChildWord, stored-at, obsolete_obsolete, obsolete_released, way_byte, lock_of, IsKept}
-use Rattle.art_schedules.proofs.Common.{IsAmong, IsBehindVersion, IsOpen, IsSettled, stage_of, held_by, index-other, held-is-kept, settled-row}
-use Rattle.art_schedules.proofs.Common.{version-free, is_busy, OneRow, HasNewChild, Effect, Keeps, Fills, PutsLeaf, RemovesLeaf, HangsPair}
+use Rattle.art_schedules.proofs.Common.{IsAmong, IsBehindVersion, IsOpen, IsSettled, held_by, stage_of}
+use Rattle.art_schedules.proofs.versions.ChangeLemmas.{index-other}
+use Rattle.art_schedules.proofs.versions.KnownLemmas.{held-is-kept}
+use Rattle.art_schedules.proofs.versions.MoveLemmas.{settled-row}
+use Rattle.art_schedules.proofs.Common.{Effect, Fills, HangsPair, HasNewChild, Keeps, OneRow, PutsLeaf, RemovesLeaf, is_busy}
+use Rattle.art_schedules.proofs.versions.WordFacts.{version-free}
 use Rattle.art_schedules.proofs.Common.{HangsGrown, base_of_effect, kind_of_effect, IsGone, HasEffect, HasFewClaims, EffectsFollow}
 use Rattle.art_schedules.proofs.Common.{KeptTreesFollow, IsUnreached, HasWordAt, IsOld, IsPending, Makes, IsSame}
 use Rattle.std.proofs.Common.{slice_index}
 use Rattle.art_serial.specs.trees.Trees.{IsFree}
-use Rattle.art_versions.specs.versions.Steady as steady
+use Rattle.art_schedules.specs.versions.Steady as steady
 use Rattle.art_schedules.proofs.calm.UseLemmas.{with-released}
 use Rattle.art_schedules.proofs.calm.VersionLemmas.{free-busy, free-parts, released-free, obsolete-busy}
 use Rattle.art_schedules.specs.changes.Rows.{SameOutside}
@@ -99,7 +103,7 @@ module _ (read : ChildrenAreRead) (trees : KeptTreesFollow) (effects : EffectsFo
     x.steady.claims kind,
   )
 
-  -- a row that was claimed is claimed in calm behind the step
+  -- a row that was claimed is claimed in calm after the step
   pub claimed-then : (b : ℕ) (l : Kind) → IsClaimed shape s.words b l → IsClaimed shape after b l
   claimed-then b l claimed = record {
     number = claimed.number;
@@ -130,7 +134,7 @@ module _ (read : ChildrenAreRead) (trees : KeptTreesFollow) (effects : EffectsFo
       rows-are-by-words shape calm after base kind row as-long x.calm_behind.small claims-rise same
       (x.calm_behind.unlocked base kind row) live
 
-  -- a row that calm's tree does not reach has changed behind its version
+  -- a row that calm's tree does not reach has changed after its version
   pub kept-filled : (base : ℕ) (kind : Kind) → IsClaimed shape s.words base kind → kind_at shape base ≡ Some kind
       → IsUnreached shape calm base
       → is_obsolete (slice_index calm base) ≡ false → (word : ℕ) → IsBehindVersion base kind word
@@ -246,7 +250,7 @@ module _ (read : ChildrenAreRead) (trees : KeptTreesFollow) (effects : EffectsFo
             };
           }
 
-    -- as obsolete
+    -- the row is released as obsolete
     module _ (mark : Option Point) (turn : turn_at c stage ≡ Asks (Store row.base (obsolete_word row.kept)) mark) where
       pub is-obsolete : is_obsolete (slice_index t.words row.base) ≡ true
       is-obsolete = ap is_obsolete (at-base (obsolete_word row.kept) mark turn) ∙ obsolete_obsolete row.kept

@@ -8,12 +8,12 @@ use Rattle.art_schedules.proofs.Common.{Check, CheckLast, LetGo, Take, Write, Cl
 use Rattle.art_schedules.proofs.Common.{PutCount, ClaimGrow, GrowInfo, GrowLoad, GrowStore, SpreadIndex, SpreadLoad, SpreadStore, GrowLeaf}
 use Rattle.art_schedules.proofs.Common.{GrowKeys, GrowCount, Hang, Obsolete, Unlock, Over, OnKey, fills, hold_at, growing_at, writes_at}
 use Rattle.std.specs.Prelude.{◌⊎◌}
-use Rattle.art_versions.specs.versions.Holding.{row_grown}
+use Rattle.art_schedules.specs.versions.Holding.{row_grown}
 use Rattle.art_schedules.proofs.work.WorkLemmas.{AtWork, writes, pairs, put_loads, put_stores, put_leaf, put_keys, put_more, put_count}
 use Rattle.art_schedules.proofs.work.WorkLemmas.{grow_info, grow_loads, grow_stores, spread_index, spread_loads, spread_stores, grow_leaf}
 use Rattle.art_schedules.proofs.work.WorkLemmas.{grow_keys, grow_count, hangs}
 
--- a stage behind the claim and before the first release
+-- a stage after the claim and before the first release
 pub place-work : (stage : Stage) (hold : Hold) → hold_at stage ≡ Some hold → (b : Bool) × AtWork hold b stage
 place-work (Lock t first) hold e = absurd (none-some hold e)
 place-work (Exchange t v) hold e = absurd (none-some hold e)
@@ -58,7 +58,7 @@ place-work (Obsolete h) hold e = absurd (none-some hold e)
 place-work (Unlock h outcome) hold e = absurd (none-some hold e)
 place-work (Over outcome) hold e = absurd (none-some hold e)
 
--- and back
+-- a call at work is at a stage after the claim and before the first release
 pub work-place : {hold : Hold} {b : Bool} {stage : Stage} → AtWork hold b stage → hold_at stage ≡ Some hold
 work-place (writes slot word reply) = refl
 work-place (pairs p base word) = refl
@@ -79,7 +79,7 @@ work-place (grow_keys g j left e) = ap Some e
 work-place (grow_count g e) = ap Some e
 work-place (hangs g e) = ap Some e
 
--- where a row grows, the fresh row is being filled, or is to be hung
+-- if a row grows, the fresh row is being filled, or is to be hung
 pub grow-fills : (stage : Stage) (grown : Growing) → growing_at stage ≡ Some grown → (fills (OnKey stage) ≡ row_grown grown)
     ⊎ (stage ≡ Hang grown)
 grow-fills (Lock t first) grown e = absurd (none-some grown e)
@@ -292,7 +292,7 @@ entries-grow s i (suc n) = go (slice_index (entries_of s.word) i == 0) (entries-
     go true later = later
     go false later = refl
 
--- the same row grows at the stage after it, or it was hung
+-- at the next stage the same row grows, or it was hung
 pub grow-next : (c : Setting) (stage : Stage) (w : ℕ) (grown : Growing) → growing_at stage ≡ Some grown
     → (growing_at (stage_after c stage w) ≡ Some grown) ⊎ ((g : Growing) × (stage ≡ Hang g))
 grow-next c (Lock t first) w grown e = absurd (none-some grown e)

@@ -2,7 +2,8 @@
 -- tree.
 use Rattle.art_schedules.proofs.Common.{◌≡◌, ℕ, ◌+◌, ◌-◌, ◌<◌, ◌≤◌, List, Bool, true, false, sym, ap, ◌∙◌, subst, arith, Contents, Kind}
 use Rattle.art_schedules.proofs.Common.{FortyEight, Child, row_words, index_at, child_of, Setting, key_of, Held, Finding, Has, Lacks, Hold, Work}
-use Rattle.art_schedules.proofs.Common.{byte_in, SameRow, row-keys, slot-same, Each, rows_of_hold, each-map, Follows, IsOnWay, slot_in, HasChild}
+use Rattle.art_schedules.proofs.Common.{Each, Follows, HasChild, IsOnWay, SameRow, byte_in, row-keys, rows_of_hold, slot-same, slot_in}
+use Rattle.art_schedules.proofs.versions.KnownLemmas.{each-map}
 use Rattle.art_schedules.proofs.Common.{KnowsFinding, HangsOnWay, BeginsWork}
 use Rattle.std.proofs.Common.{slice_index}
 use Rattle.art_schedules.proofs.effects.ValueLemmas.{byte-in-small}

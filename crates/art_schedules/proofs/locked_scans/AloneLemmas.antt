@@ -1,5 +1,6 @@
--- A scan by itself, beside one that gets the same words.
-use Rattle.art_schedules.proofs.Common.{◌≡◌, ℕ, List, length, refl, sym, ap, ◌∙◌, subst, false, Option, length-set, set-get_or, index-other}
+-- A scan on its own, compared with one that gets the same words.
+use Rattle.art_schedules.proofs.Common.{List, Option, ap, false, length, length-set, refl, set-get_or, subst, sym, ℕ, ◌∙◌, ◌≡◌}
+use Rattle.art_schedules.proofs.versions.ChangeLemmas.{index-other}
 use Rattle.art_schedules.proofs.Common.{Access, Swap, Point, Asks, word_of, Setting, Held, CallAt, call_turn, call_after, changed, told, got_by}
 use Rattle.art_schedules.proofs.Common.{words_after, IsOfRows, Alone, SameOn}
 use Rattle.std.proofs.Common.{◌==◌, slice_index, slice_set, if◌then◌else◌}
@@ -11,7 +12,7 @@ pub failed-keeps : (word v to : ℕ) (real : List ℕ) → (slice_index real wor
 failed-keeps word v to real e = ap (λ b. slice_set real word (if b then to else slice_index real word)) e ∙ set-get_or real word 0
 
 module _ (c : Setting) (at0 : CallAt) (w0 : List ℕ) where
-  -- the same with more rows
+  -- a scan that goes alone on some rows does so on more rows
   pub alone-more : (rows more : List Held) → ((word : ℕ) → IsOfRows rows word → IsOfRows more word) → {x : CallAt} {now : List ℕ}
       → Alone c rows at0 w0 x now
       → Alone c more at0 w0 x now
@@ -27,7 +28,7 @@ module _ (c : Setting) (at0 : CallAt) (w0 : List ℕ) where
       index-other before (word_of a) (changed a (slice_index before (word_of a))) word (λ e. out (subst (IsOfRows rows) (sym e) of))
       ∙ alone-outside rows word out alone
 
-  -- By itself the call makes the access that it makes on words that are the same on the rows.
+  -- Alone the call makes the access that it makes on words that are the same on the rows.
   pub follows : (rows : List Held) (real : List ℕ) (a : Access) (mark : Option Point) {x : CallAt} {now : List ℕ}
       → Alone c rows at0 w0 x now
       → length real ≡ length now → SameOn rows now real → call_turn c x ≡ Asks a mark → IsOfRows rows (word_of a)

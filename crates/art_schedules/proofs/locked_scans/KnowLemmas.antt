@@ -1,16 +1,18 @@
--- What a scan knows of the calm tree, behind a step.
+-- What a scan knows of the calm tree, after a step.
 use Rattle.art_schedules.proofs.Common.{◌≡◌, ℕ, ◌+◌, ◌≤◌, List, [], ◌∷◌, ◌++◌, refl, sym, ap, ◌∙◌, subst, true, false, arith, Option, Some, None}
 use Rattle.art_schedules.proofs.Common.{false≢true, same_Some, Scan, Contents, Shape, Kind, Four, Sixteen, FortyEight, Full, kind_at, claims_of}
 use Rattle.art_schedules.proofs.Common.{claims-few, Coupled, Access, Load, Point, Asks, word_of, Setting, asks-answers, asks-same, Held}
 use Rattle.art_schedules.proofs.Common.{ScanStep, FirstKeys, SecondKeys, Index, LoadChild, Release, setting, held, Walk, ScanAt, at, scan_turn}
 use Rattle.art_schedules.proofs.Common.{scan_after, keys_turn, OnScan, told, Plan, State, IsAtRest, SameRow, holds, lock_of, locks_of}
-use Rattle.art_schedules.proofs.Common.{scan_locked, IsAmong, IsSettled, stage_of, IsAtStage, among-each, held-is-kept, settled-row, calm_of}
+use Rattle.art_schedules.proofs.Common.{IsAmong, IsAtStage, IsSettled, calm_of, scan_locked, stage_of}
+use Rattle.art_schedules.proofs.versions.KnownLemmas.{among-each, held-is-kept}
+use Rattle.art_schedules.proofs.versions.MoveLemmas.{settled-row}
 use Rattle.art_schedules.proofs.Common.{Effect, IsGoneBy, ComesInBy, Follows, KeptTreesFollow, ReadsHeld, is_lock, KnowsTree, StaysAt, SameOn}
 use Rattle.art_schedules.proofs.Common.{IsOver, HasWalked, ScanGoes, ScanComes, rows_of_scan, ScansComeOn, OthersLeaveTrees, WalkingScansAsk}
 use Rattle.art_schedules.proofs.Common.{IsCoupledStep, IsHeldLive}
 use Rattle.std.proofs.Common.{slice_index}
 use Rattle.art_stages.specs.declared.stage.ScanStep.TheVariants.{Lock, Exchange, Wait, Info, Keys, Over}
-use Rattle.art_versions.proofs.versions.KnownLemmas.{among-front}
+use Rattle.art_schedules.proofs.versions.KnownLemmas.{among-front}
 use Rattle.art_schedules.proofs.work.WalkLemmas.{reads-held}
 use Rattle.art_schedules.proofs.coupled.MadeLemmas.{Facts, facts, others-open}
 use Rattle.art_schedules.proofs.coupled.RowLemmas.{kept-row}
@@ -42,7 +44,7 @@ walk-among (SecondKeys n count first) w open-yet h a = among-lock h w.rows a
 walk-among (Index n j i) w open-yet h a = among-lock h w.rows a
 walk-among (LoadChild g slot) w open-yet h a = among-lock h w.rows a
 
--- and so is the row whose info is to be read
+-- the row whose info is to be read is held
 info-among : (step : ScanStep) (w : Walk) (base : ℕ) (kind : Kind) (kept : ℕ) → step ≡ Info base kind kept
     → IsAmong (lock_of (held base kind 0 kept)) (locks_of (scan_locked step w))
 info-among step w base kind kept e =

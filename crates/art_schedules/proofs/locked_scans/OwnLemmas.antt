@@ -8,8 +8,13 @@ use Rattle.art_schedules.proofs.Common.{exchanges-same, Held, Entry, ScanStep, F
 use Rattle.art_schedules.proofs.Common.{ScanAt, at, scan_turn, scan_after, step_after, entry_base, entry_at, keys_turn, release_rows, CallAt}
 use Rattle.art_schedules.proofs.Common.{OnScan, call_turn, call_after, call_begun, told, words_after, Plan, State, SameRow, load-same, stored-at}
 use Rattle.art_schedules.proofs.Common.{taken-locked, Each, Knows, holds, fills, IsKept, lock_of, locks_of, IsAmong, IsWith, Reads, Writes, Ends}
-use Rattle.art_schedules.proofs.Common.{Releases, Takes, Claims, Answered, AccessDoes, IsSettled, held_by, filled_by, IsAtStage, among-each}
-use Rattle.art_schedules.proofs.Common.{held-is-kept, each-among, settled-row, no-items, with-here, version-free, is_busy, calm_of, KeepsTree}
+use Rattle.art_schedules.proofs.Common.{AccessDoes, Answered, Claims, IsAtStage, IsSettled, Releases, Takes, filled_by, held_by}
+use Rattle.art_schedules.proofs.versions.KnownLemmas.{among-each}
+use Rattle.art_schedules.proofs.Common.{KeepsTree, calm_of, is_busy}
+use Rattle.art_schedules.proofs.versions.KnownLemmas.{each-among, held-is-kept}
+use Rattle.art_schedules.proofs.versions.MoveLemmas.{no-items, settled-row}
+use Rattle.art_schedules.proofs.versions.WithLemmas.{with-here}
+use Rattle.art_schedules.proofs.versions.WordFacts.{version-free}
 use Rattle.art_schedules.proofs.Common.{TouchesOwn, LoadsHeld, StoresOwn, ClaimsRow, ReleasesHeld, Replies, IsHeldWord, ReadsHeld, is_lock}
 use Rattle.art_schedules.proofs.Common.{RowsOf, TakesLive, IsCoupledStep, IsOfRows, Alone, SameOn, IsOver, unwaited, HasWalked, ScanGoes}
 use Rattle.art_schedules.proofs.Common.{ScanStays, rows_of_scan, FoundScansStay, IsHeldLive}
@@ -18,9 +23,9 @@ use Rattle.events.specs.declared.event.Reply.TheVariants as reply
 use Rattle.art_steps.specs.declared.access.Point.TheVariants as point
 use Rattle.art_steps.proofs.TurnLemmas.{exchange-add}
 use Rattle.art_stages.specs.declared.stage.ScanStep.TheVariants.{Lock, Exchange, Wait, Info, Keys, Over}
-use Rattle.art_versions.specs.versions.Effects.{Fills}
-use Rattle.art_versions.proofs.versions.ScanLemmas.{coupled-scan-does}
-use Rattle.art_versions.proofs.versions.WithLemmas.{with-more, with-split}
+use Rattle.art_schedules.specs.versions.Effects.{Fills}
+use Rattle.art_schedules.proofs.versions.ScanLemmas.{coupled-scan-does}
+use Rattle.art_schedules.proofs.versions.WithLemmas.{with-more, with-split}
 use Rattle.art_schedules.proofs.calm.VersionLemmas.{free-busy}
 use Rattle.art_schedules.proofs.changes.RowLemmas.{steady-row}
 use Rattle.art_schedules.proofs.work.OwnLemmas.{rows-known}
@@ -163,12 +168,12 @@ module _ (plan : Plan) (start : Contents) (words schedule : List ℕ) (p : ℕ) 
       pub behind-at : IsAtStage Coupled shape t p (Scan low high) (OnScan low high next)
       behind-at = record { process = access.process; is_open = access.is_open; at = access.at ∙ ap (λ z. call_after its z got) here.at }
 
-      -- calm has the same words of the rows that it holds behind the step
+      -- calm has the same words of the rows that it holds after the step
       pub next-on : SameOn (rows_of_scan shape low high next) calm after
       next-on = subst (λ z. SameOn (holds its z) calm after) behind-at.at
           (calm-on shape s t p words calm after f p call behind-at.process behind-at.is_open)
 
-      -- what it has walked on the calm of before it has walked on that of behind it
+      -- what it has walked on the calm of before it has walked on that of after it
       carried : HasWalked shape low high calm t.words next → HasWalked shape low high after t.words next
       carried k = carry shape low high calm after t.words t.words next (f.then.long ∙ sym f.before.long) refl next-on (λ word of. refl) k
 
@@ -207,7 +212,7 @@ module _ (plan : Plan) (start : Contents) (words schedule : List ℕ) (p : ℕ) 
             go (ReleasesHeld row v l e among may) = absurd (load-store (sym turns ∙ e))
             go (Replies r e) = absurd (asks-answers (sym turns ∙ e))
 
-        -- it holds the same rows behind the step
+        -- it holds the same rows after the step
         held-same : rows_of_scan shape low high next ≡ mine
         held-same = go does
           where
@@ -244,7 +249,7 @@ module _ (plan : Plan) (start : Contents) (words schedule : List ℕ) (p : ℕ) 
   -- ---- waiting at a lock
 
   module _ (entry : Entry) (w : Walk) where
-    -- the same where the lock is tried again
+    -- what has been walked stays when the lock is tried again
     waits : (words : List ℕ) (first later : Bool) → HasWalked shape low high calm words (at (Lock entry first) w)
         → HasWalked shape low high calm words (at (Lock entry later) w)
     waits words first later k = record { now = k.now; alone = k.alone; long = k.long; same = k.same; own = k.own }
@@ -303,7 +308,7 @@ module _ (plan : Plan) (start : Contents) (words schedule : List ℕ) (p : ℕ) 
         is : slice_index s.words base ≡ v
         is = eqb-true (slice_index s.words base) v got
 
-        -- the stage behind it
+        -- the stage after it
         abbrev last : ScanAt
         last = entry_at its low high entry w v
 

@@ -11,7 +11,7 @@ use Rattle.art_stages.specs.declared.stage.Entry.TheVariants.{Root, Below}
 use Rattle.art_stages.specs.declared.stage.ScanStep.TheVariants.{Lock, Exchange, Wait, Info, Keys, Over}
 use Rattle.art_stages.specs.Scans.{row_begins}
 
--- it has not waited, or begun to take a row
+-- the scan has not waited, or begun to take a row
 abbrev pub IsPlainStep : ScanStep → Type 0
 IsPlainStep (Lock entry true) = Unit {0}
 IsPlainStep (Lock entry false) = ⊥

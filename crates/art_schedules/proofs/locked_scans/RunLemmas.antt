@@ -1,7 +1,9 @@
 -- What a scan has walked stays so where the rows that it holds stay.
 use Rattle.art_schedules.proofs.Common.{◌≡◌, ◌≢◌, inl, inr, ℕ, ◌+◌, ◌-◌, List, [], ◌∷◌, ◌++◌, length, refl, sym, ap, ◌∙◌, subst, arith, cases_eq}
 use Rattle.art_schedules.proofs.Common.{Call, Scan, Shape, Coupled, Setting, Held, setting, ScanAt, OnScan, call_begun, Process, State, SameRow}
-use Rattle.art_schedules.proofs.Common.{Each, holds, IsAmong, IsOpen, IsSettled, stage_of, held_by, held-is-kept, settled-row, calm_of, SameOn}
+use Rattle.art_schedules.proofs.Common.{Each, IsAmong, IsOpen, IsSettled, SameOn, calm_of, held_by, holds, stage_of}
+use Rattle.art_schedules.proofs.versions.KnownLemmas.{held-is-kept}
+use Rattle.art_schedules.proofs.versions.MoveLemmas.{settled-row}
 use Rattle.art_schedules.proofs.Common.{unwaited, HasWalked, rows_of_scan, OthersLeaveScans, IsHeldLive}
 use Rattle.std.proofs.Common.{slice_index}
 use Rattle.art_schedules.proofs.coupled.MadeLemmas.{Facts, facts, others-open}
@@ -42,7 +44,7 @@ module _ (shape : Shape) (low high : ℕ) where
       }
 
 module _ (shape : Shape) (s t : State) (p : ℕ) (first calm after : List ℕ) (f : Facts shape s t p first calm after) where
-  -- calm has the same words of the rows that a call holds behind the step,
+  -- calm has the same words of the rows that a call holds after the step,
   pub calm-on : (r : ℕ) (call : Call) (q : Process) → IsOpen t r call q → SameOn (held_by Coupled shape call q) calm after
   calm-on r call q o word (h, a, from, to) =
       let settled = (held-is-kept (IsSettled Coupled shape t) (setting shape Coupled call) (stage_of Coupled shape call q)
@@ -50,7 +52,7 @@ module _ (shape : Shape) (s t : State) (p : ℕ) (first calm after : List ℕ) (
       f.goes.held h.base h.kind (settled-row Coupled shape t h.base h.kind settled)
       (record { holder = r; call = call; process = q; is_open = o; row = h; among = a; is = refl }) word from to
 
-  -- and so have the words, where another process makes the step
+  -- if another process makes the step, the words of the rows that a call holds stay
   pub others-on : (r : ℕ) (call : Call) (q : Process) → r ≢ p → IsOpen s r call q → IsOpen t r call q
       → SameOn (held_by Coupled shape call q) s.words t.words
   others-on r call q apart o then word (h, a, from, to) = elim (cases_eq word h.base) [

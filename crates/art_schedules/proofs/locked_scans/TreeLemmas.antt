@@ -26,7 +26,7 @@ module _ (shape : Shape) (s t : State) (p : ℕ) (first calm after : List ℕ) (
   its = setting shape Coupled (Scan low high)
 
   module _ (x : ScanAt) (here : IsAtStage Coupled shape s p (Scan low high) (OnScan low high x)) where
-    -- a scan does not release a row for good
+    -- a scan does not release a row forever
     not-there : (base : ℕ) (kind : Kind) → (l : IsLeaving shape s calm leaving base kind) → l.process ≡ p → ⊥
     not-there base kind l same =
         let process : l.at.process ≡ here.process =

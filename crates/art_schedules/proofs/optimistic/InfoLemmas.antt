@@ -10,14 +10,16 @@ use Rattle.art_schedules.proofs.Common.{ClaimGrow, GrowInfo, GrowLoad, GrowStore
 use Rattle.art_schedules.proofs.Common.{GrowCount, Hang, Obsolete, Unlock, Over, row_at, byte_in, keys_in, place_in, setting, turn_at, find_turn}
 use Rattle.art_schedules.proofs.Common.{pair_turn, put_keys_turn, grow_keys_turn, grow_leaf_turn, grow_count_turn, CallAt, OnKey, OnScan}
 use Rattle.art_schedules.proofs.Common.{call_turn, Process, State, Reached, OfRows, Named, Each, IsSlot, IsKept, HangsIn, KnowsKey, Knows, holds}
-use Rattle.art_schedules.proofs.Common.{fills, row_filled, all_of, IsAmong, IsOpen, IsSettled, IsSound, stage_of, slot-behind, settled-row}
+use Rattle.art_schedules.proofs.Common.{IsAmong, IsOpen, IsSettled, IsSound, all_of, fills, row_filled, stage_of}
+use Rattle.art_schedules.proofs.versions.KeyLemmas.{slot-behind}
+use Rattle.art_schedules.proofs.versions.MoveLemmas.{settled-row}
 use Rattle.art_schedules.proofs.Common.{is_busy, IsCalm, calm_of, RowChange, RowsStay, RowWritten, RowFilled, RowTaken, RowReleased, CalmStep}
 use Rattle.std.proofs.Common.{◌==◌, slice_index, if◌then◌else◌}
 use Rattle.art_rows.proofs.WriterLemmas.{new_place-most}
 use Rattle.art_rows.proofs.ByteLemmas.{keys4-few}
 use Rattle.art_stages.specs.declared.stage.PairWord.TheVariants as pair_word
 use Rattle.art_stages.specs.Stages.{leaf_place, new_child_at}
-use Rattle.art_versions.specs.versions.Holding.{IsCopied}
+use Rattle.art_schedules.specs.versions.Holding.{IsCopied}
 use Rattle.art_schedules.proofs.calm.VersionLemmas.{version-change, VersionChange, Stays, IsTaken, IsReleased}
 use Rattle.art_schedules.proofs.calm.InductionLemmas.{step-of-run}
 use Rattle.art_schedules.proofs.calm.RunLemmas.{along-calm, calm-at}
@@ -243,7 +245,7 @@ module _ (shape : Shape) (call : Call) (P : OfRows) (is-row : (b : ℕ) (k : Kin
   aims (Unlock h outcome) k word value mark e = inl (to h.row.base word (store-word e) (away-base h.row k.kept.0))
   aims (Over outcome) k word value mark e = absurd (answers-asks e)
 
-  -- of a call that holds a row
+  -- where a call that holds a row stores
   at-aims : (at : CallAt) → Knows P c at → (h : Held) → IsAmong h (holds c at) → (word value : ℕ) (mark : Option Point)
       → call_turn c at ≡ Asks (Store word value) mark → Aims (fills at) word
   at-aims (OnKey stage) k h among word value mark e = aims stage k word value mark e

@@ -2,10 +2,13 @@
 use Rattle.art_schedules.proofs.Common.{◌≡◌, ◌≢◌, inl, inr, ℕ, ◌+◌, ◌%◌, ◌≤◌, List, [], ◌∷◌, ◌++◌, true, false, refl, sym, ap, ◌∙◌, subst, arith}
 use Rattle.art_schedules.proofs.Common.{ne_eqb, Option, Some, cases_eq, false≢true, Call, Shape, is_obsolete, Optimistic, is_insert, Held, Stage}
 use Rattle.art_schedules.proofs.Common.{setting, OnKey, Process, State, SameRow, Each, IsKept, Knows, holds, lock_of, held_at_stage, IsAmong}
-use Rattle.art_schedules.proofs.Common.{IsOpen, IsHeld, IsSettled, IsSound, stage_of, held_by, WritesOwn, held-is-kept, settled-row, written-at}
+use Rattle.art_schedules.proofs.Common.{IsHeld, IsOpen, IsSettled, IsSound, WritesOwn, held_by, stage_of}
+use Rattle.art_schedules.proofs.versions.KnownLemmas.{held-is-kept}
+use Rattle.art_schedules.proofs.versions.MoveLemmas.{settled-row}
+use Rattle.art_schedules.proofs.versions.RunLemmas.{written-at}
 use Rattle.art_schedules.proofs.Common.{calm_of, CalmStep, IsGoneBy, IsStill, Effect, OtherStepsKeepWays}
 use Rattle.std.proofs.Common.{slice_index}
-use Rattle.art_versions.specs.versions.Writers.{MayWrite}
+use Rattle.art_schedules.specs.versions.Writers.{MayWrite}
 use Rattle.art_schedules.proofs.calm.InductionLemmas.{step-of-run}
 use Rattle.art_schedules.proofs.calm.RunLemmas.{step-at}
 use Rattle.art_schedules.proofs.changes.RowLemmas.{steady-row}

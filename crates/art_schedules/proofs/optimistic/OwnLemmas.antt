@@ -13,7 +13,9 @@ use Rattle.art_schedules.proofs.Common.{grow_unlocked, found_at, among_at, find_
 use Rattle.art_schedules.proofs.Common.{leaf_work, keys_one, release_at, taken_at, take_alone, Reached, Means, HasForm, level_in, path_in}
 use Rattle.art_schedules.proofs.Common.{IsAtRest, LeadsTo, WaysLeadToValues, LeavesAreSmall, is_seek, leads-root, keys-differ, absent-after}
 use Rattle.art_schedules.proofs.Common.{seek-reply, first-differs, path_byte-small, Each, IsKept, IsUnder, FitsPlace, rows_kept, FitsStage}
-use Rattle.art_schedules.proofs.Common.{all_of, held_at_stage, IsBehindVersion, slot-behind, count-most, is_busy, RowsOf, LacksByte, BeginsWork}
+use Rattle.art_schedules.proofs.Common.{BeginsWork, IsBehindVersion, LacksByte, RowsOf, all_of, held_at_stage, is_busy}
+use Rattle.art_schedules.proofs.versions.KeyLemmas.{slot-behind}
+use Rattle.art_schedules.proofs.versions.WordFacts.{count-most}
 use Rattle.art_schedules.proofs.Common.{Stands, IsBelow, HangsBelow, KnowsPlace, KnowsStage, IsReachedHere, AllStand, hold_taken, IsPast}
 use Rattle.art_schedules.proofs.Common.{KnowsWay, IsHeldReached, Agrees, Gets, Goes, GoesOn, WaysBegin, IsOnWay, slot_in, HasChild, KnowsKeys}
 use Rattle.art_schedules.proofs.Common.{KnowsFinding, HangsOnWay}
@@ -75,7 +77,7 @@ module _ (shape : Shape) (call : Call) (tree : is_tree_call call ≡ true) (key-
       go : (i : Bool) → KnowsAt None i c calm words (Wait Root)
       go i = tt
 
-  -- ---- a row that stands
+  -- ---- a row whose version is the kept one
 
   stand-word : (h : Held) → Kept h → Stands words h → (word : ℕ) → h.base ≤ word → word < h.base + row_words h.kind
       → slice_index words word ≡ slice_index calm word
@@ -99,7 +101,7 @@ module _ (shape : Shape) (call : Call) (tree : is_tree_call call ≡ true) (key-
   level-is : (base : ℕ) (kind : Kind) → Reached shape calm base kind → level_in calm base kind ≡ level_in words base kind
   level-is base kind reached = ap (λ v. (info_of kind v).level) (info-is base kind reached)
 
-  -- ---- a get, a remove or a replace behind its check
+  -- ---- a get, a remove or a replace after its check
 
   module _ (e : is_insert call ≡ false) where
     seeks-key : is_seek call ≡ true
@@ -135,7 +137,7 @@ module _ (shape : Shape) (call : Call) (tree : is_tree_call call ≡ true) (key-
         go false apart = ends (other-leaf c rest means ways h slot k v on at (eqb-false k (key_of call) apart))
     seeks h (Has slot (ChildRow base kind)) on past at = GoesOn (knows false e None _ (λ st. (on, at)) (past, tt) tt)
 
-  -- ---- an insert behind its check
+  -- ---- an insert after its check
 
   module _ (e : is_insert call ≡ true) where
     -- one row is taken
@@ -233,7 +235,7 @@ module _ (shape : Shape) (call : Call) (tree : is_tree_call call ≡ true) (key-
   form-of : (p : Position) → AtRow p → Stands words p.row → HasForm calm p.row.base p.row.kind
   form-of p k st = rest.tree.form p.row.base p.row.kind (k.knows_place.0 st).leads.reached
 
-  -- it has been found, if the row stands
+  -- the finding is right, if the row's version is the kept one
   sees : (i : Bool) → is_insert call ≡ i → (p : Position) (f : Finding) → AtRow p
       → (Stands words p.row → KnowsFinding i c calm p.row f) → To (Check p f)
   sees i e p f k at = GoesOn (knows i e None _ (k.knows_place, at) k.are_past tt)
@@ -253,7 +255,7 @@ module _ (shape : Shape) (call : Call) (tree : is_tree_call call ≡ true) (key-
   abbrev place : ℕ → Kind → ℕ → ℕ → Option Held → ℕ → Position
   place base kind info was above slot = record { row = held base kind info was; above = above; slot = slot }
 
-  -- what was read of a row that stands is calm's
+  -- what was read of a row whose version is the kept one is calm's
   calm-word : (h : Held) → Kept h → (word w : ℕ) → IsBehindVersion h.base h.kind word → w ≡ slice_index words word → Stands words h
       → w ≡ slice_index calm word
   calm-word h kept word w behind got st = got ∙ behind-word h kept st word behind
@@ -427,7 +429,7 @@ module _ (shape : Shape) (call : Call) (tree : is_tree_call call ≡ true) (key-
       go false true = again
       go false false = to
 
-  -- the row above is checked, and stands
+  -- the row above is checked, and its version is the kept one
   passes : (i : Bool) → is_insert call ≡ i → (d : Down) (kept : ℕ) → IsBelow c calm words d → Stands words d.above
       → Each Past (held d.base d.kind 0 kept ∷ d.above ∷ []) → To (Info d kept)
   passes true e d kept k st past = GoesOn

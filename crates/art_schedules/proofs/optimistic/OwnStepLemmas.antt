@@ -10,15 +10,20 @@ use Rattle.art_schedules.proofs.Common.{turn_at, find_turn, stage_after, taken_a
 use Rattle.art_schedules.proofs.Common.{words_after, told, Process, Plan, State, opened_on, step, moved, after_move, move_of, move_from, IsRun}
 use Rattle.art_schedules.proofs.Common.{Reached, Means, is-moved, IsAtRest, SameRow, WaysLeadToValues, LeavesAreSmall, stored-at, set-here}
 use Rattle.art_schedules.proofs.Common.{obsolete_released, IsOutside, IsAmong, Each, IsKept, Knows, KnowsKey, holds, rows_kept, FitsStage}
-use Rattle.art_schedules.proofs.Common.{lock_of, all_of, held_at_stage, IsOpen, IsSettled, stage_of, held_by, IsAtStage, index-other, knows-more}
-use Rattle.art_schedules.proofs.Common.{settled-row, after-more, next-turn, version-free, is_busy, calm_of, IsCalm, CalmStep, KeepsTree, RowsOf}
+use Rattle.art_schedules.proofs.Common.{IsAtStage, IsOpen, IsSettled, all_of, held_at_stage, held_by, lock_of, stage_of}
+use Rattle.art_schedules.proofs.versions.ChangeLemmas.{index-other}
+use Rattle.art_schedules.proofs.versions.KnownLemmas.{knows-more}
+use Rattle.art_schedules.proofs.Common.{CalmStep, IsCalm, KeepsTree, RowsOf, calm_of, is_busy}
+use Rattle.art_schedules.proofs.versions.MoveLemmas.{settled-row}
+use Rattle.art_schedules.proofs.versions.StepLemmas.{after-more, next-turn}
+use Rattle.art_schedules.proofs.versions.WordFacts.{version-free}
 use Rattle.art_schedules.proofs.Common.{BeginsWork, KnowsStage, IsReachedHere, KnowsWay, Stands, AllStand, hold_taken, IsPast, IsHeldReached}
 use Rattle.art_schedules.proofs.Common.{Agrees, Gets, Goes, GoesOn, StepsOn, OwnStepsGoOn, OwnFindingsStay}
 use Rattle.std.proofs.Common.{◌==◌, slice_index, slice_set, if◌then◌else◌}
 use Rattle.std.proofs.lemmas.Grind.{same_number_lists}
 use Rattle.art_steps.specs.declared.access.Point.TheVariants as point
 use Rattle.art_core.specs.Core.{Makes}
-use Rattle.art_versions.specs.versions.Holding.{FitsTaking}
+use Rattle.art_schedules.specs.versions.Holding.{FitsTaking}
 use Rattle.art_schedules.proofs.calm.InductionLemmas.{run-begins, last-step, step-of-run}
 use Rattle.art_schedules.proofs.calm.RunLemmas.{step-at, calm-at}
 use Rattle.art_schedules.proofs.calm.UseLemmas.{without-store, with-released}
@@ -30,7 +35,7 @@ use Rattle.art_schedules.proofs.optimistic.OwnLemmas.{ways-go-on, findings-stay}
 
 -- ---- the access of a step
 
--- The process makes the access that its stage asks for, and is at the stage behind it.
+-- The process makes the access that its stage asks for, and is at the stage after it.
 record Made (shape : Shape) (s : State) (p : ℕ) (t : State) (call : Call) (stage : Stage) (a : Access) : Type 0 where
   at : IsAtStage Optimistic shape t p call (OnKey (stage_after (setting shape Optimistic call) stage (got_by a s.words)))
   words : t.words ≡ words_after a s.words
@@ -271,12 +276,12 @@ module _ (plan : Plan) (start : Contents) (first schedule : List ℕ) (p : ℕ) 
         calm-is = calm-same call at.process at.is_open (λ w u l f. exchange-store (sym (its-turn _ _ turn) ∙ f))
             (λ w small. other-word w (λ f. omega (arith, f, small, high)))
 
-        -- it was not as it had been
+        -- the row's version was not the kept one
         unchanged : (value == x.row.kept) ≡ false → t.words ≡ s.words
         unfolding words-if
         unchanged f = did.words ∙ (ap words-if f ∙ set-get_or s.words x.row.base 0)
 
-        -- it was
+        -- the row's version was the kept one
         module _ (st : value ≡ x.row.kept) where
           locked : slice_index t.words x.row.base ≡ locked_word x.row.kept
           unfolding words-if

@@ -4,7 +4,8 @@ use Rattle.art_schedules.proofs.Common.{false≢true, Contents, Call, Reply, Sha
 use Rattle.art_schedules.proofs.Common.{info_of, is_obsolete, seven-words, Optimistic, Setting, key_of, is_insert, Held, Position}
 use Rattle.art_schedules.proofs.Common.{Down, Work, Root, Below, Taken, Stage, Wait, Between, Info, Find, FindKeys, FindMore, FindCount, Slot}
 use Rattle.art_schedules.proofs.Common.{Check, CheckLast, Take, Unlock, Over, held, setting, State, path_in, SameRow, Each, IsKept, rows_kept}
-use Rattle.art_schedules.proofs.Common.{all_of, held_at_stage, IsSettled, IsSteady, settled-row, is_busy, IsGoneBy, ComesInBy, IsStill, pairs_by}
+use Rattle.art_schedules.proofs.Common.{ComesInBy, IsGoneBy, IsSettled, IsSteady, IsStill, all_of, held_at_stage, is_busy, pairs_by}
+use Rattle.art_schedules.proofs.versions.MoveLemmas.{settled-row}
 use Rattle.art_schedules.proofs.Common.{Effect, Follows, BeginsWork, Stands, IsBelow, HangsBelow, KnowsPlace, KnowsStage, IsReachedHere}
 use Rattle.art_schedules.proofs.Common.{AllStand, hold_taken, IsPast, IsHeldReached, Agrees, HangsOnWay}
 use Rattle.std.proofs.Common.{slice_index}
@@ -13,7 +14,7 @@ use Rattle.art_schedules.specs.optimistic.Knows.{KnowsReply, KnowsAt, PathFollow
 use Rattle.art_schedules.specs.optimistic.Laws.{InfosStay, WaysAreKept}
 use Rattle.art_schedules.proofs.effects.WayLemmas.{on-way, slot-still, hangs-still, finding-still, index-still, begins-still}
 
--- ---- a step, with the states before and behind it
+-- ---- a step, with the states before and after it
 
 module _ (shape : Shape) (call : Call) (n : ℕ) (calm after : List ℕ) (pairs : Contents) (effect : Option Effect) (s t : State)
     (follows : Follows shape n calm after pairs (IsGoneBy effect) (ComesInBy effect)) (agree : Agrees shape s.words calm)
@@ -32,7 +33,7 @@ module _ (shape : Shape) (call : Call) (n : ℕ) (calm after : List ℕ) (pairs 
   abbrev Past : Held → Type 0
   Past h = IsPast s.words h
 
-  -- a row that stands behind the step stood before it, and stays
+  -- a row whose version is the kept one after the step had it before, and stays
   back : (h : Held) → Kept h → Past h → Stands t.words h → Stands s.words h × S h
   back h kept past st = (stood, (row, stays))
     where
@@ -80,7 +81,7 @@ module _ (shape : Shape) (call : Call) (n : ℕ) (calm after : List ℕ) (pairs 
     above-kept p.row p.slot p.above kept.1 past.1 up,
   )
 
-  -- what a row that stands has said, it says
+  -- what was known of a row is still known, if its version is the kept one
   says : (h : Held) → Kept h → Past h → (P Q : Type 0) → (S h → P → Q) → (Stands s.words h → P) → Stands t.words h → Q
   says h kept past P Q f p st =
       let x = back h kept past st in

@@ -3,7 +3,8 @@ use Rattle.art_schedules.proofs.Common.{◌≡◌, ℕ, ◌≤◌, true, List, [
 use Rattle.art_schedules.proofs.Common.{same_Some, none-some, take-length, Call, Scan, Reply, Contents, Does, Shape, Optimistic, Answers}
 use Rattle.art_schedules.proofs.Common.{reply_of, is_tree_call, Stage, Info, CheckLast, Unlock, Over, setting, reply_for, turn_at, OnKey}
 use Rattle.art_schedules.proofs.Common.{call_turn, Process, Plan, State, begun, opened_on, known_reply, At, Gives, IsIn, IsOpen, stage_of}
-use Rattle.art_schedules.proofs.Common.{next-turn, calm_of, Status, Before, Found, HasNotChanged, HasReply, Tale, IsInCall, IsToldStep, AllFit}
+use Rattle.art_schedules.proofs.Common.{AllFit, Before, Found, HasNotChanged, HasReply, IsInCall, IsToldStep, Status, Tale, calm_of}
+use Rattle.art_schedules.proofs.versions.StepLemmas.{next-turn}
 use Rattle.art_schedules.proofs.Common.{Stays, FindsAt, AnswersCall, MeansAt, HasItsReply, the_plan, KnowsWay, AtWork, AtEnd, Answering, Leaving}
 use Rattle.art_schedules.proofs.Common.{WorkStep, Ghosts, IsWorld, IsFit, Seeks, Works, Finds, Walks, OptimisticFits}
 use Rattle.art_schedules.specs.scan_points.ScanPoints.{HasScanPoint}
@@ -65,7 +66,7 @@ module _ (laws : LawsOfParts) (shape : Shape) (scripts : List (List Call)) (star
     turn : (stage : Stage) → stage_of Optimistic shape call q ≡ OnKey stage → turn_at (setting shape Optimistic call) stage ≡ Answers reply
     turn stage at = ap (call_turn (setting shape Optimistic call)) (sym at) ∙ x.answers
 
-    -- behind the step the process is in no call
+    -- after the step the process is in no call
     closed : (other : Process) → IsOpen t p call other → ⊥
     closed other o = none-some call (sym x.idle ∙ (ap (λ (y : Process). y.call) (same_Some x.later other (sym x.own ∙ o.own)) ∙ o.is_open))
 

@@ -85,7 +85,7 @@ module _ (laws : LawsOfParts) (shape : Shape) (scripts : List (List Call)) (star
         (λ ghost. HasItsReply plan words schedule tale p call q status reply)
         (answered laws shape scripts start words schedule tale p s t g told world all call q status reply x f.tree f)
 
-  -- What fits each call is kept.
+  -- Each step preserves what fits each call.
   pub calls-are-led : OptimisticAreLed shape scripts start words
   calls-are-led = record {
     first = λ run rest means. (

@@ -2,7 +2,8 @@
 use Rattle.art_schedules.proofs.Common.{◌≡◌, ◌≢◌, ℕ, true, false, List, [], ◌∷◌, ◌++◌, length, refl, sym, ap, subst, ◌∙◌, inr, ⊎_elim, arith}
 use Rattle.art_schedules.proofs.Common.{slice_index, Option, Some, None, same_Some, none-some, Call, Reply, Contents, Shape, Kind, is_obsolete}
 use Rattle.art_schedules.proofs.Common.{Optimistic, is_insert, Stage, setting, CallAt, OnKey, OnScan, Process, Plan, State, Reached, IsClaimed}
-use Rattle.art_schedules.proofs.Common.{IsAmong, Named, holds, IsOpen, stage_of, each-map, held_at_stage, calm_of, Effect, IsGoneBy, TreeGoesOn}
+use Rattle.art_schedules.proofs.Common.{Effect, IsAmong, IsGoneBy, IsOpen, Named, TreeGoesOn, calm_of, held_at_stage, holds, stage_of}
+use Rattle.art_schedules.proofs.versions.KnownLemmas.{each-map}
 use Rattle.art_schedules.proofs.Common.{KeepsTree, Status, Tale, IsToldStep, AllFit, IsLedOn, set_at, the_plan, KnowsWay, AtWork, fresh_of}
 use Rattle.art_schedules.proofs.Common.{Makes, HoldsReached, IsOther, AreTwoRows, Ghosts, IsWorld, IsFit, Seeks, Works, Finds, Walks}
 use Rattle.art_schedules.proofs.Common.{OptimisticFits}
@@ -15,7 +16,7 @@ use Rattle.art_schedules.proofs.optimistic_runs.SmallLemmas.{among-locks, apart-
 use Rattle.art_schedules.proofs.changes.EffectLemmas.{gone-reached}
 use Rattle.art_schedules.proofs.stories.OpenLemmas.{set-cases, set-other}
 
--- the fresh row behind a step: as before, or none, or one that was claimed in it
+-- the fresh row after a step: as before, or none, or one that was claimed in it
 pub data FreshBehind (shape : Shape) (s t : State) (before fresh : Option Named) : Type 0 where
   SameFresh : fresh ≡ before → FreshBehind shape s t before fresh
   NoFresh : fresh ≡ None → FreshBehind shape s t before fresh

@@ -3,7 +3,8 @@ use Rattle.art_schedules.proofs.Common.{◌≡◌, ◌⊎◌, ℕ, true, false, 
 use Rattle.art_schedules.proofs.Common.{Option, Some, None, Call, Scan, Reply, Contents, Shape, Optimistic, Access, Point, Asks, is_tree_call}
 use Rattle.art_schedules.proofs.Common.{is_insert, is_scan, Held, Hold, Outcome, Stage, Over, Work, setting, ScanAt, turn_at, work_at, OnKey}
 use Rattle.art_schedules.proofs.Common.{OnScan, call_turn, call_after, Process, got_by, Plan, State, begun, opened_on, IsClaimed, Named, Each}
-use Rattle.art_schedules.proofs.Common.{Knows, IsKept, rows_of_hold, IsOpen, stage_of, each-map, calm_of, RowsOf, Effect, KeepsTree, Status}
+use Rattle.art_schedules.proofs.Common.{Effect, IsKept, IsOpen, KeepsTree, Knows, RowsOf, Status, calm_of, rows_of_hold, stage_of}
+use Rattle.art_schedules.proofs.versions.KnownLemmas.{each-map}
 use Rattle.art_schedules.proofs.Common.{Before, Found, Changed, HasNotChanged, Tale, IsToldStep, AllFit, IsLedOn, OwnStep, Changes, Next, Stays}
 use Rattle.art_schedules.proofs.Common.{Forgets, FindsNow, MakesAccess, set_at, the_plan, KnowsWay, IsHeldReached, StepsOn, BeginsWork, AtWork}
 use Rattle.art_schedules.proofs.Common.{AtEnd, Makes, WorkStep, EndStep, Ghosts, IsWorld, IsFit, Seeks, Works, Finds, Walks, OptimisticFits}
@@ -62,7 +63,7 @@ module _ (laws : LawsOfParts) (shape : Shape) (scripts : List (List Call)) (star
     none-now : set_at g p None p ≡ None
     none-now = set-here g p None
 
-    -- the call keeps the pairs, and has no fresh row behind the step
+    -- the call keeps the pairs, and has no fresh row after the step
     plain : (next : Status) → Makes Optimistic shape s p calm after m None
         → Next plan (opened_on plan words) schedule tale p (length (begun q)) call status next
         → IsFit shape (set_at g p None) t after p call later next → Answer
@@ -126,7 +127,7 @@ module _ (laws : LawsOfParts) (shape : Shape) (scripts : List (List Call)) (star
             (Works from.0.next there
             (subst (λ y. AtWork (setting shape Optimistic call) t.words after y from.0.next) (sym none-now) (works h w f begins each)) refl)
 
-    -- ---- behind the moment at which it found its reply
+    -- ---- after the moment at which it found its reply
 
     finds : (stage : Stage) (reply : Reply) → is_scan call ≡ false → g p ≡ None → stage_of Optimistic shape call q ≡ OnKey stage
         → KnowsWay (setting shape Optimistic call) calm s.words (Some reply) stage → status ≡ Found reply → Answer
@@ -148,7 +149,7 @@ module _ (laws : LawsOfParts) (shape : Shape) (scripts : List (List Call)) (star
         there : stage_of Optimistic shape call later ≡ OnKey from.0.next
         there = at-next from.0.at.process from.0.at.is_open from.0.next from.0.at.at
 
-    -- ---- behind its effect, or refused
+    -- ---- after its effect, or refused
 
     ends : (stage : Stage) (reply : Reply) → g p ≡ None → stage_of Optimistic shape call q ≡ OnKey stage
         → AtEnd (setting shape Optimistic call) s.words calm reply stage → (status ≡ Changed reply)

@@ -4,7 +4,7 @@ use Rattle.art_schedules.proofs.Common.{Four, Sixteen, FortyEight, Full, Setting
 use Rattle.art_schedules.proofs.Common.{Each, rows_kept, locks_of, rows_of_hold, AreTwoRows}
 use Rattle.art_stages.specs.declared.stage.Work.TheVariants as work
 
--- where work begins, the rows of the hold are those whose versions are kept
+-- if work begins, the rows of the hold are those whose versions are kept
 pub work-kept : (i : Bool) (c : Setting) (h : Hold) (w : Work) → rows_kept false i (work_at c h w) ≡ rows_of_hold h
 work-kept i c h (work.Write slot word reply) = refl
 work-kept i c h (work.Pair p) = refl
@@ -21,7 +21,7 @@ work-kept i c h (work.Put keys) = puts h.row.kind
     puts FortyEight = refl
     puts Full = refl
 
--- what is so of each row of a list is so of a row that is held as one of them
+-- what holds of each row of a list holds of a row that is held as one of them
 pub among-locks : (P : ℕ → Kind → Type 0) (rows : List Held) → Each (λ (x : Held). P x.base x.kind) rows → (h : Held)
     → IsAmong h (locks_of rows) → P h.base h.kind
 among-locks P [] each h a = absurd a

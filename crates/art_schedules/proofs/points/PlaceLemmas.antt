@@ -37,7 +37,7 @@ one_later-zero : (o : Option ℕ) → one_later o ≡ Some 0 → ⊥
 one_later-zero None h = none-some 0 h
 one_later-zero (Some q) h = let e : suc q ≡ 0 = same_Some (suc q) 0 h in omega arith
 
--- at its place stands the number
+-- the number is at its place
 at_place : (numbers : List ℕ) (n p : ℕ) → place_in numbers n ≡ Some p → slice_get numbers p ≡ Some n
 at_place [] n p h = absurd (none-some p h)
 at_place (m ∷ numbers) n p h = by_test (m == n) refl (λ q. at_place numbers n q) p h
@@ -49,7 +49,7 @@ at_place (m ∷ numbers) n p h = by_test (m == n) refl (λ q. at_place numbers n
     by_test false e later zero h = absurd (one_later-zero (place_in numbers n) h)
     by_test false e later (suc p) h = later p (one_later-some (place_in numbers n) p h)
 
--- numbers that differ each have the place where they stand
+-- numbers that differ each have the place where they are
 place_at : (numbers : List ℕ) (n p : ℕ) → AllPairs (λ m n. m ≢ n) numbers → slice_get numbers p ≡ Some n → place_in numbers n ≡ Some p
 place_at [] n p distinct h = absurd (none-some n h)
 place_at (m ∷ numbers) n zero distinct h = rw (eq-eqb m n (same_Some m n h)) refl

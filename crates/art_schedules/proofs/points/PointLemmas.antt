@@ -22,7 +22,7 @@ use Rattle.orders.proofs.OrderLemmas.{IsLegal-append, IsCompletedAt-below}
 use Rattle.art_schedules.specs.points.Points.{IsNotAfter}
 use Rattle.art_schedules.specs.points.Laws.{PointsGiveOrders, PointsOrderCalls}
 
--- a value or none is a value, as a test and as an equation
+-- whether an optional value is a certain value, as a test and as an equation
 is_just-some : (o : Option ℕ) (p : ℕ) → o ≡ Some p → is_just o p ≡ true
 is_just-some None p h = absurd (none-some p h)
 is_just-some (Some q) p h = eq-eqb q p (same_Some q p h)
@@ -47,7 +47,7 @@ kept_in_turn m (a ∷ calls) h =
       subst (λ (next : Contents). after_calls next calls ≡ m) first.1 rest.1,
     )
 
--- the same of calls by number
+-- calls by number that each find the same pairs and leave them are legal in turn
 kept_by_number : (m : Contents) (calls : List Operation) (numbers : List ℕ)
     → ((n : ℕ) (a : Operation) → Contains numbers n → slice_get calls n ≡ Some a → DoesCall m a.call a.response m)
     → IsLegal m (calls_at calls numbers) × (after_calls m (calls_at calls numbers) ≡ m)

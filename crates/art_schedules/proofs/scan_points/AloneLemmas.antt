@@ -4,19 +4,21 @@ use Rattle.art_schedules.proofs.Common.{inl, inr, arith, slice_index, Option, So
 use Rattle.art_schedules.proofs.Common.{Call, Scan, Reply, Kind, Four, Sixteen, FortyEight, Full, kind_at, Optimistic, Access, Load, Point, Turn}
 use Rattle.art_schedules.proofs.Common.{Asks, Answers, Setting, act, asks-same, answers-asks, answers-same, ScanStep, FirstKeys, SecondKeys}
 use Rattle.art_schedules.proofs.Common.{Index, LoadChild, Release, Held, Walk, ScanAt, at, scan_start, scan_turn, keys_turn, call_turn}
-use Rattle.art_schedules.proofs.Common.{call_begun, after_all, got_by, Plan, RunsAlone, ends, goes, same-runs, is_busy, stage, turn-is}
+use Rattle.art_schedules.proofs.Common.{Plan, RunsAlone, after_all, call_begun, ends, goes, got_by, is_busy, same-runs}
+use Rattle.art_schedules.proofs.moments.AttemptLemmas.{stage}
+use Rattle.art_schedules.proofs.moments.ValidLemmas.{turn-is}
 use Rattle.art_schedules.proofs.Common.{SameWords}
 use Rattle.std.proofs.Common.{append_assoc}
 use Rattle.events.specs.declared.event.Reply.TheVariants as replies
 use Rattle.art_stages.specs.declared.stage.ScanStep.TheVariants.{Lock, Exchange, Wait, Info, Keys, Over}
 use Rattle.art_core.specs.Moments.{next_word, alone, AnswersAlone, Reads}
 use Rattle.art_schedules.proofs.calm.VersionLemmas.{unmarked-free}
-use Rattle.art_versions.proofs.moments.TimeLemmas.{take-more, index-more, index-last}
-use Rattle.art_versions.proofs.moments.StandsLemmas.{Stands}
-use Rattle.art_versions.proofs.moments.ScanLemmas.{all-fold, all-append, at-end, attempted}
-use Rattle.art_versions.proofs.moments.ValidLemmas.{validated}
-use Rattle.art_versions.proofs.moments.AloneLemmas.{answers-alone}
-use Rattle.art_versions.proofs.moments.MomentLemmas.{index-behind, take-behind}
+use Rattle.art_schedules.proofs.moments.TimeLemmas.{take-more, index-more, index-last}
+use Rattle.art_schedules.proofs.moments.StandsLemmas.{Stands}
+use Rattle.art_schedules.proofs.moments.ScanLemmas.{all-fold, all-append, at-end, attempted}
+use Rattle.art_schedules.proofs.moments.ValidLemmas.{validated}
+use Rattle.art_schedules.proofs.moments.AloneLemmas.{answers-alone}
+use Rattle.art_schedules.proofs.moments.MomentLemmas.{index-behind, take-behind}
 
 module _ (plan : Plan) (call : Call) (words : List ℕ) where
   abbrev turn-of : List ℕ → Turn
@@ -64,7 +66,7 @@ module _ (plan : Plan) (lo hi : ℕ) (v : plan.variant ≡ Optimistic) (some : 1
   scan = Scan lo hi
 
   abbrev set : Setting
-  set = Rattle.art_versions.proofs.moments.AttemptLemmas.c plan.shape lo hi
+  set = Rattle.art_schedules.proofs.moments.AttemptLemmas.c plan.shape lo hi
 
   -- A scan of the optimistic tree loads, or answers pairs, whatever it got.
   data LoadsOrAnswers (got : List ℕ) : Type 0 where
@@ -74,7 +76,7 @@ module _ (plan : Plan) (lo hi : ℕ) (v : plan.variant ≡ Optimistic) (some : 1
   loads-or-answers : (got : List ℕ) → LoadsOrAnswers got
   loads-or-answers got = go here.step here.walk stands is
     where
-      x : Rattle.art_versions.proofs.moments.ScanLemmas.Attempted plan.shape some lo hi got
+      x : Rattle.art_schedules.proofs.moments.ScanLemmas.Attempted plan.shape some lo hi got
       x = attempted plan.shape some lo hi got
 
       here : ScanAt
@@ -110,7 +112,7 @@ module _ (plan : Plan) (lo hi : ℕ) (v : plan.variant ≡ Optimistic) (some : 1
       go (Release n) w h e = LoadsWord _ _ e
       go Over w h e = AnswersPairs _ e
 
-  -- Where other words have each row that is not busy, the scan has the same answer alone on them.
+  -- If other words have each row that is not busy, the scan has the same answer alone on them.
   pub moves : (words calm : List ℕ)
       → ((base : ℕ) (kind : Kind) → kind_at plan.shape base ≡ Some kind → is_busy (slice_index words base) ≡ false
       → SameWords words calm base kind)
@@ -119,10 +121,10 @@ module _ (plan : Plan) (lo hi : ℕ) (v : plan.variant ≡ Optimistic) (some : 1
       answers-alone plan lo hi v some x.attempt calm val.stands holds reply
       (sym (x.begins x.attempt) ∙ (ap (act plan.shape plan.variant scan) (sym x.all) ∙ e))
     where
-      val : Rattle.art_versions.proofs.moments.ValidLemmas.Validation plan lo hi v some (alone n plan scan words)
+      val : Rattle.art_schedules.proofs.moments.ValidLemmas.Validation plan lo hi v some (alone n plan scan words)
       val = validated plan lo hi v some (alone n plan scan words) reply e
 
-      x : Rattle.art_versions.specs.moments.Attempts.IsValidated plan scan (alone n plan scan words)
+      x : Rattle.art_schedules.specs.moments.Attempts.IsValidated plan scan (alone n plan scan words)
       x = val.is
 
       was : (i word : ℕ) → Reads plan scan x.attempt i word → slice_index x.attempt i ≡ slice_index words word

@@ -1,20 +1,20 @@
--- An answered scan of the optimistic tree made its last check behind the moment of its reads.
+-- An answered scan of the optimistic tree made its last check after the moment of its reads.
 use Rattle.art_schedules.proofs.Common.{◌≡◌, ℕ, suc, ◌+◌, ◌<◌, ◌≤◌, Bool, true, false, List, [], ◌∷◌, length, take, refl, ap, sym, ◌∙◌, inl, inr}
 use Rattle.art_schedules.proofs.Common.{arith, if◌then◌else◌, slice_index, Option, None, Call, Scan, Reply, is_locked, Optimistic, Access, Point}
 use Rattle.art_schedules.proofs.Common.{Answers, Asks, Setting, act, ScanAt, entry_base, scan_start, scan_after, scan_turn, Plan, State}
-use Rattle.art_schedules.proofs.Common.{turn-is}
+use Rattle.art_schedules.proofs.moments.ValidLemmas.{turn-is}
 use Rattle.std.specs.Prelude.{◌⊎◌}
 use Rattle.art_stages.specs.declared.stage.Entry.TheVariants.{Root}
 use Rattle.art_core.specs.Moments.{Reads, HasMoment}
-use Rattle.art_versions.proofs.moments.AttemptLemmas.{fold, Loads}
-use Rattle.art_versions.proofs.moments.ValidLemmas.{from-load}
+use Rattle.art_schedules.proofs.moments.AttemptLemmas.{fold, Loads}
+use Rattle.art_schedules.proofs.moments.ValidLemmas.{from-load}
 
 module _ (plan : Plan) (lo hi : ℕ) (v : plan.variant ≡ Optimistic) (some : 1 ≤ plan.shape.rows256) where
   abbrev scan : Call
   scan = Scan lo hi
 
   abbrev set : Setting
-  set = Rattle.art_versions.proofs.moments.AttemptLemmas.c plan.shape lo hi
+  set = Rattle.art_schedules.proofs.moments.AttemptLemmas.c plan.shape lo hi
 
   abbrev begin : ScanAt
   begin = scan_start set
@@ -42,7 +42,7 @@ module _ (plan : Plan) (lo hi : ℕ) (v : plan.variant ≡ Optimistic) (some : 1
   no-answer : {a : Access} {m : Option Point} {reply : Reply} → Asks a m ≡ Answers reply → ⊥
   no-answer e = cc
 
-  -- so an attempt that answers has read a version
+  -- an attempt that answers has read a version of the root
   first-read : (attempt : List ℕ) (reply : Reply) → act plan.shape plan.variant scan attempt ≡ Answers reply
       → (i : ℕ) × Reads plan scan attempt i (entry_base set Root)
   first-read attempt reply answers = elim (first attempt) [

@@ -7,7 +7,10 @@ use Rattle.art_schedules.proofs.Common.{Kind, Four, Sixteen, FortyEight, Full, c
 use Rattle.art_schedules.proofs.Common.{asks-answers, call_turn, call_begun, setting, Process, got_by, Plan, State, Move, Invokes, Responds}
 use Rattle.art_schedules.proofs.Common.{after_move, begun, history_of, invocation, known_reply, move_from, move_of, moved, next_call, next_move}
 use Rattle.art_schedules.proofs.Common.{opened_on, step, word_of_move, IsRun, changed-at, is-moved, begun-more, IsInCallAt, Means, IsAtRest}
-use Rattle.art_schedules.proofs.Common.{set-here, IsFull, IsOpen, stage_of, index-other, idle-idle, after-more, next-turn, calm_of, AsksFor}
+use Rattle.art_schedules.proofs.Common.{AsksFor, IsFull, IsOpen, calm_of, set-here, stage_of}
+use Rattle.art_schedules.proofs.versions.ChangeLemmas.{index-other}
+use Rattle.art_schedules.proofs.versions.RunLemmas.{idle-idle}
+use Rattle.art_schedules.proofs.versions.StepLemmas.{after-more, next-turn}
 use Rattle.art_schedules.proofs.Common.{CalmChange, CalmStays, CalmFilled, CalmReleased, Effect, KeptTreesFollow, Status, Before, Changed}
 use Rattle.art_schedules.proofs.Common.{HasReply, Tale, HasStatus, IsStory, MeansAt, IsToldStep, Next, OwnStep, Changes, MakesAccess}
 use Rattle.art_schedules.proofs.Common.{AnswersCall, AllFit, OfState, OfCall, IsLedOn, AreLed, HasItsReply, StartsAreAtRest, StoriesGiveOrders}
@@ -130,7 +133,7 @@ module _ (starts : StartsAreAtRest) (trees : KeptTreesFollow) (plan : Plan) (ful
     all-fit : AllFit (Fits h.ghost) schedule s calm
     all-fit r call q o = let (status, f, has) = h.fits r call q o in (status, f)
 
-    -- where the process of the step asks for no access, calm's tree stays
+    -- if the process of the step asks for no access, calm's tree stays
     low-goes : (w : Process) → slice_get s.processes p ≡ Some w → (move : Move) → word_of_move move ≡ 0 → t ≡ moved s p w move
         → ((a : Access) → AsksFor plan.variant plan.shape s p a → ⊥) → TreeGoesOn plan.shape t.words calm after m None
     low-goes w own move word is none = record {
@@ -205,7 +208,7 @@ module _ (starts : StartsAreAtRest) (trees : KeptTreesFollow) (plan : Plan) (ful
           })
           (cases_lt u (n + 1))
 
-      -- what is to be shown of an open call behind the step
+      -- what is to be shown of an open call after the step
       abbrev IsFitBehind : Ghost → ℕ → Call → Process → Type 0
       IsFitBehind g r call q = (status : Status) × Fits g longer t after r call q status
           × HasStatus plan first longer later (n + 1) r (length (begun q)) call status

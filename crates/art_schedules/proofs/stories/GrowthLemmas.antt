@@ -11,7 +11,7 @@ use Rattle.list_laws.proofs.Lists.{slice_get-append_left, slice_get-middle}
 use Rattle.events.specs.declared.event.Reply.TheVariants as replies
 use Rattle.art_schedules.proofs.calls.MomentLemmas.{stage-rises, stage-open, stage-idle}
 
--- The later tale is the same up to moment n, where this is told of step n and of the pairs behind it.
+-- The later tale is the same up to moment n, and says this of step n and of the pairs after it.
 pub record Continues (n : ℕ) (tale later : Tale) (change : Bool) (next : Contents) : Type 0 where
   pub pairs : (u : ℕ) → u ≤ n → later.pairs u ≡ tale.pairs u
   pub changes : (u : ℕ) → u < n → later.changes u ≡ tale.changes u
@@ -100,7 +100,7 @@ module _ (plan : Plan) (start : Contents) (first : State) (schedule : List ℕ) 
         → HasKept plan first longer later t r calls call
     kept-more t r calls call le kept u less own = c.changes u (omega arith) ∙ kept u less (own-front u r calls call (omega arith) own)
 
-    -- what was so at a moment of the schedule is so of the longer one
+    -- what held at a moment of the schedule holds at it in the longer one
     pub status-more : (t r calls : ℕ) (call : Call) (status : Status) → t ≤ n → HasStatus plan first schedule tale t r calls call status
         → HasStatus plan first longer later t r calls call status
     status-more t r calls call Before le h = kept-more t r calls call le h
@@ -122,7 +122,7 @@ module _ (plan : Plan) (start : Contents) (first : State) (schedule : List ℕ) 
       only = λ u less own change. h.only u less (own-front u r calls call (omega arith) own) (sym (c.changes u (omega arith)) ∙ change);
     }
 
-    -- whoever makes step n as one of a call is p
+    -- the process that makes step n as one of a call is p
     its-turn : (r calls : ℕ) (call : Call) → IsOwnStep plan first longer r calls call n → r ≡ p
     its-turn r calls call own = same_Some r p (sym own.0 ∙ turn-last)
 

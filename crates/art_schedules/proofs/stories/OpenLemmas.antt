@@ -1,8 +1,9 @@
 -- Values at one number, and the stage of an open call.
 use Rattle.art_schedules.proofs.Common.{if◌then◌else◌, ◌≡◌, ◌≢◌, ◌⊎◌, ℕ, ap, inl, inr, ⊎_elim, refl, ◌∙◌, Call, Shape, Variant, Process, State}
-use Rattle.art_schedules.proofs.Common.{IsOpen, stage_of, same-call, set_at}
+use Rattle.art_schedules.proofs.Common.{IsOpen, set_at, stage_of}
+use Rattle.art_schedules.proofs.versions.KnownLemmas.{same-call}
 use Rattle.std.proofs.lemmas.Bool.Decides.{eqb_tells}
-use Rattle.art_versions.proofs.versions.KnownLemmas.{same-process}
+use Rattle.art_schedules.proofs.versions.KnownLemmas.{same-process}
 
 pub set-cases : {A : Type 0} (f : ℕ → A) (p : ℕ) (a : A) (r : ℕ) → ((r ≡ p) × (set_at f p a r ≡ a)) ⊎ ((r ≢ p) × (set_at f p a r ≡ f r))
 set-cases f p a r = ⊎_elim (λ x. inl (x.1, ap (λ b. if b then a else f r) x.0))

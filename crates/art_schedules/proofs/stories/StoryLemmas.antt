@@ -44,7 +44,7 @@ module _ (plan : Plan) (start : Contents) (first s : State) (schedule : List ℕ
           (λ none. absurd (false≢true (sym none ∙ change))) (last u own);
     })
 
-    -- of an answered call
+    -- the effect of an answered call
     answered : (response : Response) → a.response ≡ Some response → (status : Status)
         → HasStatus plan first schedule tale t c.process c.calls a.call status
         → HasReply status response.reply → HasOwnEffect schedule tale.pairs tale.changes a c
@@ -62,7 +62,7 @@ module _ (plan : Plan) (start : Contents) (first s : State) (schedule : List ℕ
     answered response e (Changed reply) h same =
         changed reply h (λ m next does. rw e (subst (λ r. Does m a.call r next) same does))
 
-    -- of one that is pending
+    -- the effect of a pending call
     pending : a.response ≡ None → (status : Status) → HasStatus plan first schedule tale t c.process c.calls a.call status
         → HasOwnEffect schedule tale.pairs tale.changes a c
     pending e Before h = Pends e (nothing h)

@@ -5,11 +5,12 @@ use Rattle.art_schedules.proofs.Common.{lt-ltb, le-ltb, Reply, Shape, Kind, Chil
 use Rattle.art_schedules.proofs.Common.{kind_at, child_of, claims-few, Add, Point, Asks, Setting, is_scan, load-add, store-add, Held, Hold}
 use Rattle.art_schedules.proofs.Common.{Refused, Stage, Unlock, rest_in, turn_at, stage_after, CallAt, OnKey, call_turn, call_after, RunsAlone}
 use Rattle.art_schedules.proofs.Common.{row_ends, IsOutside, stored-at, stored-other, stored-long, IsUnused, all_of, Each, IsKept, IsSlot}
-use Rattle.art_schedules.proofs.Common.{HangsIn, KnowsKey, IsFull, slot-behind, Step, loads, stores, claims, Solo, RowsOf, IsRelease}
+use Rattle.art_schedules.proofs.Common.{HangsIn, IsFull, IsRelease, KnowsKey, RowsOf, Solo, Step, claims, loads, stores}
+use Rattle.art_schedules.proofs.versions.KeyLemmas.{slot-behind}
 use Rattle.std.specs.Prelude.{◌≢◌, ◌⊎◌}
 use Rattle.art_rows.proofs.KindLemmas.{claims-once}
 use Rattle.art_steps.proofs.TurnLemmas.{add-word}
-use Rattle.art_versions.specs.versions.Holding.{HasSlot}
+use Rattle.art_schedules.specs.versions.Holding.{HasSlot}
 use Rattle.art_schedules.specs.work.Works.{IsRefusal}
 use Rattle.art_schedules.proofs.work.SoloLemmas.{runs-behind, solos-keep}
 use Rattle.art_schedules.proofs.work.WorkLemmas.{IsPlain, behind-plain, is_release, Next, IsEnd}
@@ -50,7 +51,7 @@ pub record IsClaim (s : Shape) (words : List ℕ) (kind : Kind) (number : ℕ) :
   pub room : number < rows_of s kind
   pub unused : IsUnused s words kind number
 
--- a word that a fresh row of zeros has not
+-- a word that a fresh row of zeros lacks
 pub outside-fresh : (s : Shape) (words : List ℕ) (kind : Kind) (number slot : ℕ) (child : Child) → IsClaim s words kind number
     → child_of s (slice_index words slot) ≡ child → child ≢ Empty → IsOutside (base_of s kind number) kind slot
 outside-fresh s words kind number slot child claim is some = elim (cases_lt slot (base_of s kind number)) [
@@ -95,7 +96,7 @@ module _ (c : Setting) (full : IsFull c.variant) (some : 1 ≤ c.shape.rows256) 
   abbrev NoneLeft : List ℕ → Type 0
   NoneLeft words = (number : ℕ) × IsUnused c.shape w0 kind number × (rows_of c.shape kind ≤ number) × (words ≡ w0)
 
-  -- before the claim; behind one that found a row; and behind one that found none
+  -- before the claim; after one that found a row; and after one that found none
   abbrev IsAt : CallAt → List ℕ → Type 0
   IsAt at words = ((at ≡ OnKey claim) × (words ≡ w0))
       ⊎ ((number : ℕ) × IsClaim c.shape w0 kind number × IsAlong c full some key h b (a1 number) w0 (more number) at words)
@@ -172,7 +173,7 @@ module _ (c : Setting) (full : IsFull c.variant) (some : 1 ≤ c.shape.rows256) 
       )
       go (inr (inr i)) = refused i.0 (key-same i.1) i.2
 
-  -- the run from the claim, on words that have the number there, is one from the stage behind it
+  -- the run from the claim, on words that have the number there, is one from the stage after it
   pub claim-runs : (number : ℕ) → number < rows_of c.shape kind → 5 ≤ length w0 → (last : List ℕ) (reply : Reply)
       → RunsAlone (rest_in c claim) (with_number w0 kind number) last reply → RunsAlone (rest_in c (a1 number)) (more number) last reply
   claim-runs number room long last reply run =

@@ -5,7 +5,8 @@ use Rattle.art_schedules.proofs.Common.{kind_at, Rest, ◌>>◌, give, Setting, 
 use Rattle.art_schedules.proofs.Common.{Keys, Hold, Stage, Write, Unlock, row_at, rows_at, rows_held, held, byte_in, keys_in, count_in}
 use Rattle.art_schedules.proofs.Common.{value_reply, finish, part_of, rest_in, no_value, moves_at, put_at, OnKey, RunsAlone, Comes}
 use Rattle.art_schedules.proofs.Common.{unlocked_rows, same-runs, give-comes, then-comes, unlock_all-comes, row_ends, HasPut, stored-other}
-use Rattle.art_schedules.proofs.Common.{stored-long, byte_at-small, keys_in_row, lock_of, KnowsKey, IsAmong, held-is-kept, IsFull, Solo, RowsOf}
+use Rattle.art_schedules.proofs.Common.{IsAmong, IsFull, KnowsKey, RowsOf, Solo, byte_at-small, keys_in_row, lock_of, stored-long}
+use Rattle.art_schedules.proofs.versions.KnownLemmas.{held-is-kept}
 use Rattle.art_schedules.proofs.Common.{FitsWords, IsRelease, IsDoneBy}
 use Rattle.events.specs.declared.event.Reply.TheVariants as reply
 use Rattle.art_steps.specs.Steps.{store}

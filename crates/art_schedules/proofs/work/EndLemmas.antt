@@ -140,8 +140,8 @@ module _ (c : Setting) (full : IsFull c.variant) (some : 1 ≤ c.shape.rows256) 
       go (inl g) = (g, at-place b at r g.place)
       go (inr x) = absurd (behind-no h at r x)
 
-  -- Where the rest alone, from the stage behind the claim, comes to these words with the rows unlocked, the words before the release are
-  -- these.
+  -- Where the rest alone, from the stage after the claim, comes to these words with the rows
+  -- unlocked, the words before the release are these.
   pub unlock-end : (a1 : Stage) (w0 other : List ℕ) (at : Stage) (words target : List ℕ) (answer : Reply) → Goes false a1 w0 other at words
       → IsEnd h false at
       → RunsAlone (rest_in c a1) other (unlocked_rows (rows_held h) target) answer

@@ -1,4 +1,5 @@
--- Work that goes on by itself from a stage behind its claim: where it is, what its words are, and that it runs alone.
+-- Work that goes on alone from a stage after its claim: where it is, what its words are, and that
+-- it runs alone.
 use Rattle.art_schedules.proofs.Common.{◌≡◌, ℕ, ◌≤◌, List, [], ◌∷◌, length, refl, ap, sym, subst, ◌∙◌, Bool, true, false, inl, inr, arith}
 use Rattle.art_schedules.proofs.Common.{slice_index, slice_set, Option, Some, None, get_or_past, cases_eq, cases_lt, Reply, Shape, kind_at}
 use Rattle.art_schedules.proofs.Common.{released_word, Load, Store, Point, Asks, Answers, Setting, is_scan, locks, asks-answers, load-word}
@@ -64,14 +65,14 @@ unlocked-plain s (n ∷ rows) words word are plain =
 
 -- ---- where the work is
 
--- behind the first release
+-- after the first release
 abbrev pub IsBehind : Hold → Stage → Type 0
 IsBehind h stage = ((a : Held) × (o : Outcome) × (h.above ≡ Some a) × (stage ≡ Unlock (hold_alone a) (Some o)))
     ⊎ ((o : Outcome) × (stage ≡ Over o))
 
 module _ (c : Setting) (full : IsFull c.variant) (some : 1 ≤ c.shape.rows256) (key : is_scan c.call ≡ false) (h : Hold) where
-  -- From a stage behind the claim with the first words, and alone with others that are like them, the work is at this stage with these
-  -- words.
+  -- From a stage after the claim with the first words, and alone with others that are like them,
+  -- the work is at this stage with these words.
   pub record Going (b : Bool) (a1 : Stage) (w0 other : List ℕ) (stage : Stage) (words : List ℕ) : Type 0 where
     pub place : Next h b stage
     pub knows : KnowsKey (RowsOf c.shape) c stage
@@ -82,7 +83,7 @@ module _ (c : Setting) (full : IsFull c.variant) (some : 1 ≤ c.shape.rows256) 
     pub alike : (word : ℕ) → IsPlain c.shape word → slice_index now word ≡ slice_index words word
     pub runs : (last : List ℕ) (reply : Reply) → RunsAlone (rest_in c stage) now last reply → RunsAlone (rest_in c a1) other last reply
 
-  -- it is there, or has released a row
+  -- the work is at such a stage, or has released a row
   abbrev pub IsAlong : Bool → Stage → List ℕ → List ℕ → CallAt → List ℕ → Type 0
   IsAlong b a1 w0 other at words =
       (stage : Stage) × (at ≡ OnKey stage) × (Going b a1 w0 other stage words ⊎ IsBehind h stage)

@@ -1,15 +1,18 @@
--- A call that locks what it reads touches only words of rows that it holds or fills, but for its locks.
+-- A call that locks what it reads touches only words of rows that it holds or fills, except for its
+-- locks.
 use Rattle.art_schedules.proofs.Common.{◌≡◌, ℕ, ◌*◌, ◌≤◌, List, [], ◌∷◌, ◌++◌, refl, ap, sym, subst, ◌∙◌, Bool, true, false, inl, inr, arith}
 use Rattle.art_schedules.proofs.Common.{Option, None, false≢true, same_Some, Call, Shape, Kind, Four, Sixteen, FortyEight, Full, kind_at}
 use Rattle.art_schedules.proofs.Common.{info_at, keys_at, more_keys_at, index_at, count_at, child_at, seven-words, key_byte-small, Coupled}
 use Rattle.art_schedules.proofs.Common.{Setting, is_insert, key_of, Held, Position, Down, ScanStep, Stage, Lock, Exchange, Wait, Leave, Between}
 use Rattle.art_schedules.proofs.Common.{Info, Find, FindKeys, FindMore, FindCount, Slot, Check, CheckLast, LetGo, Take, setting, held, row_at}
 use Rattle.art_schedules.proofs.Common.{byte_in, Walk, at, CallAt, OnKey, OnScan, lock_of, locks_of, held_at_place, scan_locked, Each, IsKept}
-use Rattle.art_schedules.proofs.Common.{Knows, KnowsKey, IsAmong, IsBehindVersion, slot-behind, among-each, IsHeldWord, TouchesOwn, LoadsHeld}
+use Rattle.art_schedules.proofs.Common.{IsAmong, IsBehindVersion, IsHeldWord, Knows, KnowsKey, LoadsHeld, TouchesOwn}
+use Rattle.art_schedules.proofs.versions.KeyLemmas.{slot-behind}
+use Rattle.art_schedules.proofs.versions.KnownLemmas.{among-each}
 use Rattle.art_schedules.proofs.Common.{ReleasesHeld, Replies, is_lock, IsWalked, ReadsHeld, RowsOf}
 use Rattle.art_stages.specs.declared.stage.ScanStep.TheVariants as scan
-use Rattle.art_versions.specs.versions.Locking.{held_below}
-use Rattle.art_versions.specs.versions.Holding.{KnowsScanRows}
+use Rattle.art_schedules.specs.versions.Locking.{held_below}
+use Rattle.art_schedules.specs.versions.Holding.{KnowsScanRows}
 use Rattle.art_schedules.proofs.work.TouchLemmas.{work-own}
 
 pub lock-last : (rows : List Held) (n : Held) → IsAmong (lock_of n) (locks_of (rows ++ n ∷ []))

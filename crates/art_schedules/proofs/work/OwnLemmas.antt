@@ -8,10 +8,14 @@ use Rattle.art_schedules.proofs.Common.{ClaimPair, StorePair, PutLoad, PutStore,
 use Rattle.art_schedules.proofs.Common.{GrowLoad, GrowStore, SpreadIndex, SpreadLoad, SpreadStore, GrowLeaf, GrowKeys, GrowCount, Hang, Obsolete}
 use Rattle.art_schedules.proofs.Common.{Unlock, Over, setting, place_in, keys_after, turn_at, pair_turn, put_keys_turn, grow_keys_turn}
 use Rattle.art_schedules.proofs.Common.{grow_leaf_turn, grow_count_turn, store_of, CallAt, OnKey, Process, State, kind_at-base_of, IsOpen}
-use Rattle.art_schedules.proofs.Common.{IsSettled, IsSound, stage_of, knows-more, settled-row, RowsOf, lock_of, OfRows, Knows, KnowsKey}
-use Rattle.art_schedules.proofs.Common.{IsBehindVersion, AccessDoes, IsFull, slot-behind, does, IsHeldWord, is_claim, is_work}
+use Rattle.art_schedules.proofs.Common.{IsSettled, IsSound, Knows, KnowsKey, OfRows, RowsOf, lock_of, stage_of}
+use Rattle.art_schedules.proofs.versions.KnownLemmas.{knows-more}
+use Rattle.art_schedules.proofs.versions.MoveLemmas.{settled-row}
+use Rattle.art_schedules.proofs.Common.{AccessDoes, IsBehindVersion, IsFull, IsHeldWord, is_claim, is_work}
+use Rattle.art_schedules.proofs.versions.KeyLemmas.{slot-behind}
+use Rattle.art_schedules.proofs.versions.StepLemmas.{does}
 use Rattle.art_stages.specs.declared.stage.PairWord.TheVariants as pair_word
-use Rattle.art_versions.proofs.versions.WordFacts.{entry-fits}
+use Rattle.art_schedules.proofs.versions.WordFacts.{entry-fits}
 
 -- the stage that is over
 abbrev pub is_over : Stage → Bool

@@ -1,4 +1,4 @@
--- A call that goes on by itself: what it comes to, and that it runs alone.
+-- A call that goes on alone: what it comes to, and that it runs alone.
 use Rattle.art_schedules.proofs.Common.{◌≡◌, ℕ, List, [], ◌∷◌, ap, sym, subst, ◌∙◌, Option, Reply, Access, Point, Rest, Asks, Setting, asks-same}
 use Rattle.art_schedules.proofs.Common.{asks-answers, CallAt, OnKey, OnScan, rest_at, call_turn, call_after, call_next, got_by, words_after}
 use Rattle.art_schedules.proofs.Common.{RunsAlone, ends, goes, same-runs, Step, Solo, here, further, Suits}
@@ -33,7 +33,7 @@ run-behind a mark asks (ends h) = absurd (asks-answers (sym asks ∙ h))
 run-behind {rest = rest} {words = words} {last = last} {reply = reply} a mark asks (goes b p h r) =
     subst (λ (x : Access). RunsAlone (λ more. rest (got_by x words ∷ more)) (words_after x words) last reply) (asks-same (sym h ∙ asks)) r
 
--- an access, and what is left behind it
+-- an access, and what is left after it
 module _ (c : Setting) (at : CallAt) (suits : Suits c at) (a : Access) (mark : Option Point) (asks : call_turn c at ≡ Asks a mark)
     (words : List ℕ) (got : ℕ)
     (later last : List ℕ) (reply : Reply) (told : got_by a words ≡ got) (left : words_after a words ≡ later) where

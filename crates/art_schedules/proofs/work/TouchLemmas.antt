@@ -5,9 +5,10 @@ use Rattle.art_schedules.proofs.Common.{FindMore, FindCount, Slot, Check, CheckL
 use Rattle.art_schedules.proofs.Common.{PutLeaf, PutKeys, PutMore, PutCount, ClaimGrow, GrowInfo, GrowLoad, GrowStore, SpreadIndex, SpreadLoad}
 use Rattle.art_schedules.proofs.Common.{SpreadStore, GrowLeaf, GrowKeys, GrowCount, Hang, Obsolete, Unlock, Over, setting, turn_at, stage_after}
 use Rattle.art_schedules.proofs.Common.{OnKey, Knows, KnowsKey, holds, Reads, Writes, Ends, Releases, Takes, Claims, Answered, AccessDoes}
-use Rattle.art_schedules.proofs.Common.{IsFull, with-here, TouchesOwn, LoadsHeld, StoresOwn, ClaimsRow, ReleasesHeld, Replies, is_claim}
+use Rattle.art_schedules.proofs.Common.{ClaimsRow, IsFull, LoadsHeld, ReleasesHeld, Replies, StoresOwn, TouchesOwn, is_claim}
+use Rattle.art_schedules.proofs.versions.WithLemmas.{with-here}
 use Rattle.art_schedules.proofs.Common.{may_release, is_work, RowsOf}
-use Rattle.art_versions.specs.versions.Effects.{Fills}
+use Rattle.art_schedules.specs.versions.Effects.{Fills}
 use Rattle.art_schedules.proofs.work.OwnLemmas.{IsAllowed, allowed, is_over, rows-do}
 use Rattle.art_schedules.proofs.work.WorkLemmas.{AtWork, writes, pairs, put_loads, put_stores, put_leaf, put_keys, put_more, put_count}
 use Rattle.art_schedules.proofs.work.WorkLemmas.{grow_info, grow_loads, grow_stores, spread_index, spread_loads, spread_stores, grow_leaf}

@@ -13,8 +13,8 @@ use Rattle.std.proofs.Common.{map}
 use Rattle.art_stages.specs.declared.stage.Entry.TheVariants.{Root, Below}
 use Rattle.art_stages.specs.declared.stage.ScanStep.TheVariants.{Lock, Exchange, Wait, Info, Keys, Over}
 use Rattle.art_stages.specs.Scans.{entry_slot, row_begins}
-use Rattle.art_versions.proofs.versions.KeyLemmas.{each-weaker}
-use Rattle.art_versions.proofs.versions.KnownLemmas.{among-last, found-row}
+use Rattle.art_schedules.proofs.versions.KeyLemmas.{each-weaker}
+use Rattle.art_schedules.proofs.versions.KnownLemmas.{among-last, found-row}
 use Rattle.art_schedules.proofs.work.ReadLemmas.{key-reads}
 
 abbrev Good : ScanAt → Type 0

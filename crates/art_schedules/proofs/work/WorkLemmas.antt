@@ -8,17 +8,19 @@ use Rattle.art_schedules.proofs.Common.{GrowInfo, GrowLoad, GrowStore, SpreadInd
 use Rattle.art_schedules.proofs.Common.{Obsolete, Unlock, no_value, turn_at, stage_after, moves_at, pair_after, put_keys_after, copies_at}
 use Rattle.art_schedules.proofs.Common.{spreads_at, entries_at, fill_at, leaf_after, keys_at_after, OnKey, IsStored, row_begins, rows_apart}
 use Rattle.art_schedules.proofs.Common.{child_of-stored, locks_of, rows_of_hold, Each, IsNamed, KnowsKey, child_rows, holds, IsGoodAt, IsWith}
-use Rattle.art_schedules.proofs.Common.{IsBehindVersion, Reads, Writes, Ends, Releases, Takes, Claims, Answered, AccessDoes, IsFull, knows-more}
-use Rattle.art_schedules.proofs.Common.{held-is-kept, IsHeldWord, is_claim, is_work, RowsOf}
+use Rattle.art_schedules.proofs.Common.{AccessDoes, Answered, Claims, Ends, IsBehindVersion, IsFull, Reads, Releases, Takes, Writes}
+use Rattle.art_schedules.proofs.versions.KnownLemmas.{knows-more}
+use Rattle.art_schedules.proofs.Common.{IsHeldWord, RowsOf, is_claim, is_work}
+use Rattle.art_schedules.proofs.versions.KnownLemmas.{held-is-kept}
 use Rattle.std.specs.Prelude.{◌≢◌, ◌⊎◌}
 use Rattle.art_stages.specs.declared.stage.PairWord.TheVariants as pair_word
-use Rattle.art_versions.specs.versions.Holding.{HasPlace}
-use Rattle.art_versions.specs.versions.Effects.{With, Fills}
+use Rattle.art_schedules.specs.versions.Holding.{HasPlace}
+use Rattle.art_schedules.specs.versions.Effects.{With, Fills}
 use Rattle.art_schedules.proofs.work.OwnLemmas.{IsAllowed, allowed, is_over, rows-do}
 
 -- ---- plain words
 
--- a word behind the claims at which no row begins
+-- a word after the claims at which no row begins
 pub record IsPlain (s : Shape) (word : ℕ) : Type 0 where
   pub behind : 5 ≤ word
   pub bare : (base : ℕ) (kind : Kind) → kind_at s base ≡ Some kind → word ≢ base

@@ -42,9 +42,9 @@ pub data HasOwnEffect (schedule : List ℕ) (pairs : ℕ → Contents) (changes 
 abbrev pub IsInCallAt : Plan → State → List ℕ → ℕ → ℕ → Type 0
 IsInCallAt plan first schedule t p = (now : State) × (calls : ℕ) × (call : Call) × At plan first schedule t now × IsIn now p calls call
 
--- Every call of the schedule has its effect: `pairs t` is what the map holds before step t, from
--- the starting pairs on, and `changes t` tells whether step t is one that changes them, which none
--- makes outside of a call.
+-- Every call of the schedule has its effect. `pairs t` is what the map holds before step t, from
+-- the starting pairs on. `changes t` says whether step t is one that changes them; a step outside
+-- of a call changes nothing.
 pub record HaveEffects (plan : Plan) (start : Contents) (first : State) (schedule : List ℕ) : Type 0 where
   pub pairs : ℕ → Contents
   pub changes : ℕ → Bool

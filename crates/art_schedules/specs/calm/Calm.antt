@@ -1,4 +1,5 @@
--- Calm: beside the words of a table, a list in which each row that is locked or obsolete has the words that it had before.
+-- Calm: a second list of words for a table, in which each row that is locked or obsolete has the
+-- words that it had before.
 use Rattle.std.specs.Prelude.{◌≡◌, ◌⊎◌, ℕ, zero, suc, ◌+◌, ◌^◌, ◌<◌, Bool, true, false, ◌||◌, ◌&&◌, nat_lt, if◌then◌else◌, List, [], ◌∷◌}
 use Rattle.std.specs.Prelude.{length, map}
 use Rattle.std.specs.Prelude.{slice_index, All, Option, Some, None}
@@ -14,9 +15,9 @@ use Rattle.art_core.specs.declared.process.Process.{Process}
 use Rattle.art_core.specs.Core.{Plan, State, opened_on, step}
 use Rattle.art_core.specs.Meaning.{Reached, AllUnlocked}
 use Rattle.art_serial.specs.trees.Trees.{AreZeroPastClaims}
-use Rattle.art_versions.specs.versions.Effects.{IsGoodAt}
-use Rattle.art_versions.specs.versions.Versions.{IsOpen, filled_by, IsSettled, EachHeld}
-use Rattle.art_versions.specs.versions.Steady.{SameWords}
+use Rattle.art_schedules.specs.versions.Effects.{IsGoodAt}
+use Rattle.art_schedules.specs.versions.Versions.{IsOpen, filled_by, IsSettled, EachHeld}
+use Rattle.art_schedules.specs.versions.Steady.{SameWords}
 
 -- A row is busy where its version is locked or obsolete.
 abbrev pub is_busy : ℕ → Bool
@@ -27,7 +28,7 @@ abbrev pub lies_at : List ℕ → ℕ → ℕ → Option Kind → Bool
 lies_at words word base None = false
 lies_at words word base (Some kind) = nat_lt word (base + row_words kind) && is_busy (slice_index words base)
 
--- the same for some base below n
+-- whether the word is one of a busy row at some base below n
 abbrev pub lies_below : Shape → List ℕ → ℕ → ℕ → Bool
 lies_below shape words word zero = false
 lies_below shape words word (suc n) = lies_at words word n (kind_at shape n) || lies_below shape words word n
@@ -41,22 +42,22 @@ unfoldable pub calm_after : Shape → List ℕ → List ℕ → List ℕ
 calm_after shape calm later =
     map (λ word. if is_of_busy_row shape later word then slice_index calm word else slice_index later word) (numbers 0 (length later))
 
--- the same behind a step
+-- calm after a step that gives this state
 abbrev pub calm_behind : Shape → List ℕ → Option State → List ℕ
 calm_behind shape calm None = calm
 calm_behind shape calm (Some s) = calm_after shape calm s.words
 
--- and behind each step of a schedule
+-- calm after each step of a schedule
 abbrev pub calm_on : Plan → Option State → List ℕ → List ℕ → List ℕ
 calm_on plan None calm schedule = calm
 calm_on plan (Some s) calm [] = calm
 calm_on plan (Some s) calm (p ∷ schedule) = calm_on plan (step plan s p) (calm_behind plan.shape calm (step plan s p)) schedule
 
--- Calm behind a schedule: before the first step it is the words themselves.
+-- Calm after a schedule: before the first step it is the words themselves.
 unfoldable pub calm_of : Plan → List ℕ → List ℕ → List ℕ
 calm_of plan words schedule = calm_on plan (Some (opened_on plan words)) words schedule
 
--- What calm is beside a state, where the schedule began on the first words.
+-- How calm relates to a state, where the schedule began on the first words.
 pub record IsCalm (variant : Variant) (shape : Shape) (first : List ℕ) (s : State) (calm : List ℕ) : Type 0 where
   pub long : length calm ≡ table_words shape
   pub small : All (λ w. w < 2 ^ 64) calm
@@ -64,7 +65,7 @@ pub record IsCalm (variant : Variant) (shape : Shape) (first : List ℕ) (s : St
   pub low : (word : ℕ) → word < 5 → slice_index calm word ≡ slice_index s.words word
   pub free : (base : ℕ) (kind : Kind) → kind_at shape base ≡ Some kind → is_busy (slice_index s.words base) ≡ false
       → SameWords s.words calm base kind
-  -- and so is a row that a process fills
+  -- calm has the words of a row that a process fills
   pub filled : (p : ℕ) (call : Call) (q : Process) → IsOpen s p call q → (base : ℕ) (kind : Kind)
       → filled_by variant shape call q ≡ (base, kind) ∷ [] → SameWords s.words calm base kind
   -- no row is locked

@@ -19,11 +19,11 @@ use Rattle.art_core.specs.declared.process.Process.{Process}
 use Rattle.art_core.specs.Core.{State, Plan, step}
 use Rattle.art_core.specs.Plans.{IsRun}
 use Rattle.art_serial.specs.writes.Writes.{IsOutside}
-use Rattle.art_versions.specs.versions.Holding.{IsKept}
-use Rattle.art_versions.specs.versions.Effects.{IsAmong, IsWith, IsBehindVersion}
-use Rattle.art_versions.specs.versions.Versions.{IsOpen, IsHeld, stage_of, held_by, filled_by, IsSettled}
-use Rattle.art_versions.specs.versions.Steady.{SameWords}
-use Rattle.art_versions.specs.versions.Laws.{IsFull}
+use Rattle.art_schedules.specs.versions.Holding.{IsKept}
+use Rattle.art_schedules.specs.versions.Effects.{IsAmong, IsWith, IsBehindVersion}
+use Rattle.art_schedules.specs.versions.Versions.{IsOpen, IsHeld, stage_of, held_by, filled_by, IsSettled}
+use Rattle.art_schedules.specs.versions.Steady.{SameWords}
+use Rattle.art_schedules.specs.versions.Laws.{IsFull}
 use Rattle.art_schedules.specs.calm.Calm.{is_busy}
 
 -- process p steps from s to t, at the end of a run of a full tree
@@ -45,15 +45,15 @@ pub record AsksFor (variant : Variant) (shape : Shape) (s : State) (p : ℕ) (a 
   pub mark : Option Point
   pub turn : call_turn (setting shape variant call) (stage_of variant shape call process) ≡ Asks a mark
 
--- The process is in this call behind the step too, where it holds these rows.
+-- The process is in this call after the step too, and then holds these rows.
 pub record HoldsThen (variant : Variant) (shape : Shape) (later : State) (p : ℕ) (call : Call) (rows : List Held) : Type 0 where
   pub process : Process
   pub is_open : IsOpen later p call process
   pub holds : held_by variant shape call process ≡ rows
 
--- What the step of process p changes in the words of rows: nothing, a word behind the version of a
--- row that it holds or of the row that it fills, the version by which it takes a row, or that by
--- which it releases one.
+-- What the step of process p changes in the words of rows. It changes nothing; or a word after the
+-- version of a row that it holds or of the row that it fills; or the version by which it takes a
+-- row; or that by which it releases one.
 pub data RowChange (variant : Variant) (shape : Shape) (s : State) (p : ℕ) (later : State) : Type 0 where
   RowsStay : ((word : ℕ) → 5 ≤ word → slice_index later.words word ≡ slice_index s.words word) → RowChange variant shape s p later
   RowWritten : (word value : ℕ) → (asks : AsksFor variant shape s p (Store word value)) → (h : Held)
@@ -88,11 +88,12 @@ pub data CalmChange (variant : Variant) (shape : Shape) (s : State) (p : ℕ) (l
       → ((other : ℕ) → 5 ≤ other → IsOutside h.base h.kind other → slice_index after other ≡ slice_index calm other)
       → CalmChange variant shape s p later calm after
 
--- A step, and calm before and behind it.
+-- A step, with calm before and after it.
 pub record CalmStep (variant : Variant) (shape : Shape) (s : State) (p : ℕ) (later : State) (calm after : List ℕ) : Type 0 where
   pub rows : RowChange variant shape s p later
   pub change : CalmChange variant shape s p later calm after
-  -- a row that is busy behind the step has the same words in calm: one that is held, or obsolete, then
+  -- a row that is busy after the step, so held or obsolete then, has the same words in calm before
+  -- and after
   pub busy : (base : ℕ) (kind : Kind) → kind_at shape base ≡ Some kind → is_busy (slice_index later.words base) ≡ true
       → SameWords calm after base kind
   pub held : (base : ℕ) (kind : Kind) → kind_at shape base ≡ Some kind → IsHeld variant shape later base → SameWords calm after base kind

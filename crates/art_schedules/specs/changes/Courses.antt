@@ -30,7 +30,8 @@ pub record TreeGoesOn (s : Shape) (words calm later : List ℕ) (m : Contents) (
   pub follows : Follows s claims calm later (pairs_by effect m) (IsGoneBy effect) (ComesInBy effect)
   pub gone : (b : ℕ) → IsGoneBy effect b → is_obsolete (slice_index words b) ≡ true
 
--- Behind its version the calm words of the row stay, and its words, and the row does not leave the calm tree.
+-- After its version the calm words of the row stay, and its words, and the row does not leave the
+-- calm tree.
 pub record IsStill (calm words after later : List ℕ) (effect : Option Effect) (n : Held) : Type 0 where
   pub row : SameRow calm after n.base n.kind
   pub same : SameRow words later n.base n.kind

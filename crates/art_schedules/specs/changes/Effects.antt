@@ -12,9 +12,9 @@ use Rattle.art_schedules.specs.changes.Rows.{HasNewChild, IsFilled}
 
 -- The row that changes is (base, kind) in each; x is the byte of it that has another child.
 pub data Effect : Type 0 where
-  -- nothing: all its words but the version are the same
+  -- nothing: all its words except the version are the same
   Keeps : (base : ℕ) (kind : Kind) → Effect
-  -- nothing: the row is not reached, as one that is being filled
+  -- nothing: the row is not reached, like one that is being filled
   Fills : (base : ℕ) (kind : Kind) → Effect
   PutsLeaf : (base : ℕ) (kind : Kind) (x : ℕ) (key value : ℕ) → Effect
   RemovesLeaf : (base : ℕ) (kind : Kind) (x : ℕ) (key : ℕ) → Effect

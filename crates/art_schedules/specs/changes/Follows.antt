@@ -9,13 +9,13 @@ use Rattle.art_core.specs.Meaning.{Reached, Means, AllUnlocked}
 use Rattle.art_core.specs.Forms.{level_in, path_in}
 use Rattle.art_serial.specs.trees.Trees.{IsAtRest, SameTree, LeadsTo, AreZeroPastClaims}
 
--- at most so many claims of each kind were made
+-- at most this many claims of each kind were made
 abbrev pub HasFewClaims : ℕ → List ℕ → Type 0
 HasFewClaims n words = (kind : Kind) → slice_index words (claims_of kind) ≤ n
 
 -- The later words are a tree at rest, which means these pairs. Its rows are those of the calm tree
--- but for some that are gone, and fresh ones. Ways to rows that are not gone stay, and there are no
--- others but to fresh rows; of no row of the calm tree has the info changed.
+-- except for some that are gone, and fresh ones. Ways to rows that are not gone stay, and there are
+-- no others but to fresh rows; of no row of the calm tree has the info changed.
 pub record Follows (s : Shape) (n : ℕ) (calm later : List ℕ) (pairs : Contents) (gone : ℕ → Type 0)
     (fresh : ℕ → Kind → Type 0) : Type 0 where
   pub rests : IsAtRest s n later
@@ -27,9 +27,9 @@ pub record Follows (s : Shape) (n : ℕ) (calm later : List ℕ) (pairs : Conten
   pub ways : (key b : ℕ) (k : Kind) (x : ℕ) → LeadsTo s calm key b k x → (gone b → ⊥) → LeadsTo s later key b k x
   pub ways_before : (key b : ℕ) (k : Kind) (x : ℕ) → LeadsTo s later key b k x → LeadsTo s calm key b k x ⊎ fresh b k
 
--- The later words say the same of each row of the calm tree, but for its version: other rows, the clock and the counts of claims may have
--- changed.
--- No row is locked, none of the tree is obsolete, claims have not fallen, and a row that was not claimed has only zeros.
+-- The later words say the same of each row of the calm tree, except for its version: other rows,
+-- the clock and the counts of claims may have changed. No row is locked, none of the tree is
+-- obsolete, claims have not fallen, and a row that was not claimed has only zeros.
 pub record KeepsTree (s : Shape) (calm later : List ℕ) : Type 0 where
   pub long : length later ≡ length calm
   pub small : All (λ w. w < 2 ^ 64) later

@@ -22,26 +22,28 @@ EffectsFollow = (s : Shape) (n claims : ℕ) (calm later : List ℕ) (m : Conten
     → OneRow s calm later (base_of_effect effect) (kind_of_effect effect) → HasFewClaims claims later → HasEffect s calm later effect
     → Follows s claims calm later (pairs_after effect m) (IsGone effect) (ComesIn effect)
 
--- Where the rows of the tree say the same, the tree is the same, whatever the other words are.
+-- If the rows of the tree say the same, the tree is the same, whatever the other words are.
 abbrev pub KeptTreesFollow : Type 0
 KeptTreesFollow = (s : Shape) (n claims : ℕ) (calm later : List ℕ) (m : Contents) → IsAtRest s n calm → Means s calm m
     → KeepsTree s calm later
     → HasFewClaims claims later → Follows s claims calm later m (IsGoneBy None) (ComesInBy None)
 
--- Where only the clock and counts of claims have changed, the rows of the tree say the same.
+-- If only the clock and counts of claims have changed, the rows of the tree say the same.
 abbrev pub LowWordsKeep : Type 0
 LowWordsKeep = (s : Shape) (n : ℕ) (calm later : List ℕ) → IsAtRest s n calm → length later ≡ length calm → All (λ w. w < 2 ^ 64) later
     → ((kind : Kind) → slice_index calm (claims_of kind) ≤ slice_index later (claims_of kind))
     → ((word : ℕ) → 5 ≤ word → slice_index later word ≡ slice_index calm word) → KeepsTree s calm later
 
--- Words that are the same but for the words of a row and those before all rows differ in one row.
+-- Words that are the same except for the words of a row and those before all rows differ in one
+-- row.
 abbrev pub RowsAreByWords : Type 0
 RowsAreByWords = (s : Shape) (calm later : List ℕ) (base : ℕ) (kind : Kind) → kind_at s base ≡ Some kind → length later ≡ length calm
     → All (λ w. w < 2 ^ 64) later → ((k : Kind) → slice_index calm (claims_of k) ≤ slice_index later (claims_of k))
     → SameOutside calm later base kind
     → is_locked (slice_index later base) ≡ false → is_obsolete (slice_index later base) ≡ false → OneRow s calm later base kind
 
--- Where only the slot of a byte has changed of a row, the byte has the child that the slot's word says.
+-- If only the slot of a byte has changed of a row, the byte has the child that the slot's word
+-- says.
 abbrev pub SlotsAreChildren : Type 0
 SlotsAreChildren = (s : Shape) (n : ℕ) (calm later : List ℕ) (base : ℕ) (kind : Kind) (x slot : ℕ) → IsAtRest s n calm
     → Reached s calm base kind
@@ -49,7 +51,8 @@ SlotsAreChildren = (s : Shape) (n : ℕ) (calm later : List ℕ) (base : ℕ) (k
     → ((j : ℕ) → 1 ≤ j → j < row_words kind → base + j ≢ slot → slice_index later (base + j) ≡ slice_index calm (base + j))
     → HasNewChild s calm later base kind x (child_of s (slice_index later slot))
 
--- So does a child whose word was written there.
+-- If only the slot of a byte has changed of a row, a child whose word was written there is the
+-- byte's new child.
 abbrev pub SlotsAreWritten : Type 0
 SlotsAreWritten = (s : Shape) (n : ℕ) (calm later : List ℕ) (base : ℕ) (kind : Kind) (x slot : ℕ) (child : Child) → IsAtRest s n calm
     → Reached s calm base kind → OneRow s calm later base kind → x < 256 → slot_of calm base kind x ≡ Some slot

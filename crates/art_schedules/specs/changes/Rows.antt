@@ -10,7 +10,8 @@ use Rattle.art_core.specs.Forms.{HasForm}
 use Rattle.art_serial.specs.writes.Writes.{IsOutside}
 use Rattle.art_serial.specs.trees.Trees.{IsClaimed}
 
--- Each word of each other row is the same, claims may have risen, and the row is neither locked nor obsolete. Of the clock nothing is said.
+-- Each word of each other row is the same, claims may have risen, and the row is neither locked nor
+-- obsolete. The clock may be any number.
 pub record OneRow (s : Shape) (calm later : List ℕ) (base : ℕ) (kind : Kind) : Type 0 where
   pub row : kind_at s base ≡ Some kind
   pub long : length later ≡ length calm
@@ -21,7 +22,7 @@ pub record OneRow (s : Shape) (calm later : List ℕ) (base : ℕ) (kind : Kind)
   pub unlocked : is_locked (slice_index later base) ≡ false
   pub live : is_obsolete (slice_index later base) ≡ false
 
--- the words behind the claims that are none of the row's are the same
+-- the words after the claims that are none of the row's are the same
 abbrev pub SameOutside : List ℕ → List ℕ → ℕ → Kind → Type 0
 SameOutside calm later base kind = (word : ℕ) → 5 ≤ word → IsOutside base kind word → slice_index later word ≡ slice_index calm word
 

@@ -25,7 +25,7 @@ StoredZerosRemove = (s : Shape) (n : ℕ) (calm later : List ℕ) (base : ℕ) (
     → HasWordAt calm later base kind x slot 0
     → HasEffect s calm later (RemovesLeaf base kind x key)
 
--- A pair that was written, and hung in the slot of the byte, is hung.
+-- A pair that was written, and whose row was put into the slot of the byte, counts as hung there.
 abbrev pub WrittenPairsAreHung : Type 0
 WrittenPairsAreHung = (s : Shape) (n : ℕ) (calm later written : List ℕ) (base : ℕ) (kind : Kind) (x slot key value fresh d a : ℕ)
     → IsAtRest s n calm

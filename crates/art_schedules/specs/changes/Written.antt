@@ -22,7 +22,7 @@ IsUnreached s calm row = (k : Kind) → Reached s calm row k → ⊥
 
 -- ---- a child in a row that is held
 
--- Of the row's words behind the version only the slot of the byte has changed: it is this word.
+-- Only the slot of the byte has changed among the words after the row's version: it is this word.
 pub record HasWordAt (calm later : List ℕ) (base : ℕ) (kind : Kind) (x slot word : ℕ) : Type 0 where
   pub at : slot_of calm base kind x ≡ Some slot
   pub others : (j : ℕ) → 1 ≤ j → j < row_words kind → base + j ≢ slot → slice_index later (base + j) ≡ slice_index calm (base + j)
@@ -33,13 +33,13 @@ pub record IsHungIn (words written : List ℕ) (fresh : ℕ) (kind : Kind) (slot
   pub same : (word : ℕ) → 5 ≤ word → word ≢ slot → IsOutside fresh kind word → slice_index written word ≡ slice_index words word
   pub hangs : slice_index written slot ≡ row_word fresh
 
--- A word that was stored in the slot is the slot's,
+-- A word that was stored in the slot is the slot's.
 abbrev pub StoresAreSlots : Type 0
 StoresAreSlots = (words calm later : List ℕ) (base : ℕ) (kind : Kind) (x slot word : ℕ) → x < 256 → slot_of calm base kind x ≡ Some slot
     → slot < length words
     → SameRow words calm base kind → SameRow (slice_set words slot word) later base kind → HasWordAt calm later base kind x slot word
 
--- and so is the word of a row that was hung there.
+-- The word of a row that was hung into the slot is the slot's.
 abbrev pub HungRowsAreSlots : Type 0
 HungRowsAreSlots = (s : Shape) (n : ℕ) (words written calm later : List ℕ) (base : ℕ) (kind : Kind) (x slot fresh : ℕ) (larger : Kind)
     → IsAtRest s n calm
@@ -87,7 +87,8 @@ PairsAreFresh = (s : Shape) (written calm : List ℕ) (key value fresh d a : ℕ
     → SameRow written calm fresh Four → a < 256 → IsUnreached s calm fresh
     → IsPair s calm calm key value fresh d a (slice_index (key_bytes key) d) child
 
--- So is a row that was copied from a full one.
+-- A copy of a full row is one in all words that say the same of both rows, if their tree does not
+-- reach it.
 abbrev pub CopiesAreFresh : Type 0
 CopiesAreFresh = (s : Shape) (words written calm : List ℕ) (key value full : ℕ) (kind : Kind) (y fresh : ℕ) (larger : Kind)
     → IsCopy s words written full kind fresh larger (info_word larger (level_in calm full kind) (path_in calm full kind)) y (Leaf key value)

@@ -14,13 +14,13 @@ use Rattle.art_stages.specs.declared.stage.Stage.{Stage}
 use Rattle.art_stages.specs.Automaton.{turn_at, work_at}
 use Rattle.art_core.specs.Meaning.{Reached}
 use Rattle.art_serial.specs.trees.Trees.{SameRow}
-use Rattle.art_versions.specs.versions.Holding.{Each}
-use Rattle.art_versions.specs.versions.Locking.{rows_of_hold}
+use Rattle.art_schedules.specs.versions.Holding.{Each}
+use Rattle.art_schedules.specs.versions.Locking.{rows_of_hold}
 use Rattle.art_schedules.specs.coupled.Knows.{KnowsWay, IsHeldLive}
 use Rattle.art_schedules.specs.effects.Begins.{BeginsWork}
 
--- What the access gets: a load the word as it is; and where an exchange takes a row of the calm
--- tree, that row is not obsolete, and behind its version the words are the calm ones.
+-- What the access gets: a load gets the word as it is. If an exchange takes a row of the calm tree,
+-- that row is not obsolete, and after its version the words are the calm ones.
 pub record Gets (c : Setting) (calm words : List ℕ) (stage : Stage) (w : ℕ) : Type 0 where
   pub loads : (word : ℕ) (mark : Option Point) → turn_at c stage ≡ Asks (Load word) mark → w ≡ slice_index words word
   pub takes : (word v : ℕ) (mark : Option Point) → turn_at c stage ≡ Asks (Swap word v (locked_word v)) mark → w ≡ v → (kind : Kind)

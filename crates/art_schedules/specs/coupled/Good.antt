@@ -17,7 +17,7 @@ use Rattle.art_stages.specs.Calls.{OnKey}
 use Rattle.art_core.specs.declared.process.Process.{Process}
 use Rattle.art_core.specs.Core.{Plan, State}
 use Rattle.art_core.specs.Meaning.{Reached}
-use Rattle.art_versions.specs.versions.Versions.{IsOpen, IsAtStage, AllHeld, EachHeld}
+use Rattle.art_schedules.specs.versions.Versions.{IsOpen, IsAtStage, AllHeld, EachHeld}
 use Rattle.art_schedules.specs.calm.Calm.{calm_of}
 use Rattle.art_schedules.specs.calm.Changes.{AsksFor}
 use Rattle.art_schedules.specs.changes.Effects.{Effect}
@@ -26,11 +26,11 @@ use Rattle.art_schedules.specs.coupled.Knows.{KnowsWay}
 use Rattle.art_schedules.specs.coupled.Moments.{TakesLive, IsCoupledStep}
 use Rattle.art_schedules.specs.work.Ways.{IsInTree}
 
--- a call holds such rows alone
+-- a call holds only rows of the calm tree that were live when they were taken
 abbrev pub HoldsGood : Shape → List ℕ → Call → Process → Type 0
 HoldsGood shape calm call q = AllHeld Coupled shape call q (IsInTree shape calm)
 
--- and so does the process
+-- the process holds only rows of the calm tree that were live when they were taken
 abbrev pub GoodOf : Shape → State → ℕ → List ℕ → Type 0
 GoodOf shape s p calm = EachHeld Coupled shape s p (IsInTree shape calm)
 
@@ -48,9 +48,9 @@ WaysTakeReached = (plan : Plan) (start : Contents) (words schedule : List ℕ) (
     → KnowsWay (setting plan.shape Coupled call) (calm_of plan words schedule) s.words found stage
     → TakesReached plan.shape s p (calm_of plan words schedule)
 
--- Where a process takes live rows of the calm tree alone, each row that it holds behind its step is one of the tree of then, and was live
--- when it was taken.
--- The calm tree changes by an effect, or by none; the row that leaves it, if one does, is obsolete then.
+-- Suppose that a process takes only live rows of the calm tree. Then each row that it holds after
+-- its step is one of the tree of then, and was live when it was taken. The calm tree changes by an
+-- effect, or by none; the row that leaves it, if one does, is obsolete then.
 abbrev pub GoodRowsStay : Type 0
 GoodRowsStay = (plan : Plan) (start : Contents) (words schedule : List ℕ) (p : ℕ) (s t : State) (claims : ℕ) (m pairs : Contents)
     (effect : Option Effect) → IsCoupledStep plan start words schedule p s t claims m
@@ -59,7 +59,7 @@ GoodRowsStay = (plan : Plan) (start : Contents) (words schedule : List ℕ) (p :
     → TakesLive plan.shape s p → TakesReached plan.shape s p (calm_of plan words schedule)
     → GoodOf plan.shape t p (calm_of plan words (schedule ++ p ∷ []))
 
--- So are the rows that the other processes hold.
+-- The rows that the other processes hold stay good.
 abbrev pub OthersLeaveGood : Type 0
 OthersLeaveGood = (plan : Plan) (start : Contents) (words schedule : List ℕ) (p : ℕ) (s t : State) (claims : ℕ) (m pairs : Contents)
     (effect : Option Effect) → IsCoupledStep plan start words schedule p s t claims m

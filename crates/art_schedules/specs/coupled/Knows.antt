@@ -20,12 +20,12 @@ use Rattle.art_stages.specs.Stages.{byte_in, reply_for}
 use Rattle.art_core.specs.Meaning.{Reached}
 use Rattle.art_core.specs.Forms.{level_in, path_in}
 use Rattle.art_serial.specs.trees.Trees.{LeadsTo}
-use Rattle.art_versions.specs.versions.Holding.{Each}
-use Rattle.art_versions.specs.versions.Locking.{held_at_stage}
+use Rattle.art_schedules.specs.versions.Holding.{Each}
+use Rattle.art_schedules.specs.versions.Locking.{held_at_stage}
 use Rattle.art_schedules.specs.work.Ways.{slot_in, KnowsFinding, IsOnWay, IsSame, HangsOnWay}
 
--- A row that the call holds and has not written to: behind its version the words are the calm ones, and it was not obsolete when it was
--- locked.
+-- A row that the call holds and has not written to: after its version the words are the calm ones,
+-- and it was not obsolete when it was locked.
 pub record IsHeldLive (calm words : List ℕ) (n : Held) : Type 0 where
   pub same : IsSame calm words n
   pub live : is_obsolete n.kept ≡ false
@@ -61,7 +61,7 @@ IsPassed true c calm d = ⊥
 IsPassed false c calm d =
     Reached c.shape calm d.base d.kind × ((at : ℕ) × (first_difference (path_in calm d.base d.kind) (key_bytes (key_of c.call)) ≡ Some at))
 
--- What is so where the call has found nothing yet,
+-- What the call knows at each stage at which it has found no reply yet.
 abbrev pub KnowsStage : Bool → Setting → List ℕ → Stage → Type 0
 KnowsStage i c calm (Lock t first) = KnowsTarget c calm t
 KnowsStage i c calm (Exchange t v) = KnowsTarget c calm t
@@ -84,7 +84,8 @@ abbrev pub IsOutcome : Reply → Option Outcome → Type 0
 IsOutcome r None = ⊥
 IsOutcome r (Some outcome) = r ≡ reply_for outcome
 
--- and where it has found, at some moment, that it can be answered so.
+-- what the call knows at each stage at which it has found, at some moment, that this can be its
+-- reply
 abbrev pub KnowsReply : Reply → Bool → Setting → List ℕ → Stage → Type 0
 KnowsReply r i c calm (Info d kept) = (r ≡ reply.None) × IsPassed i c calm d
 KnowsReply r i c calm (Unlock h outcome) = (h.above ≡ None) × IsOutcome r outcome × Reached c.shape calm h.row.base h.row.kind
@@ -95,8 +96,8 @@ abbrev pub KnowsAt : Option Reply → Bool → Setting → List ℕ → Stage �
 KnowsAt None i c calm stage = KnowsStage i c calm stage
 KnowsAt (Some r) i c calm stage = KnowsReply r i c calm stage
 
--- What a call that has not begun its work knows: of calm by its stage, where `found` is the reply that it has found, if any, and of the
--- rows that it holds.
+-- What a call that has not begun its work knows of calm by its stage, and of the rows that it
+-- holds. `found` is the reply that it has found, if any.
 pub record KnowsWay (c : Setting) (calm words : List ℕ) (found : Option Reply) (stage : Stage) : Type 0 where
   pub way : KnowsAt found (is_insert c.call) c calm stage
   pub rows : Each (IsHeldLive calm words) (held_at_stage true (is_insert c.call) stage)

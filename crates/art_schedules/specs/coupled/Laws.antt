@@ -12,8 +12,8 @@ use Rattle.art_stages.specs.Stages.{setting}
 use Rattle.art_stages.specs.Automaton.{turn_at, stage_after}
 use Rattle.art_core.specs.Meaning.{Means}
 use Rattle.art_serial.specs.trees.Trees.{IsAtRest}
-use Rattle.art_versions.specs.versions.Holding.{FitsStage}
-use Rattle.art_versions.specs.versions.Versions.{IsAtStage}
+use Rattle.art_schedules.specs.versions.Holding.{FitsStage}
+use Rattle.art_schedules.specs.versions.Versions.{IsAtStage}
 use Rattle.art_steps.specs.declared.access.Access.{Access}
 use Rattle.art_steps.specs.declared.access.Point.{Point}
 use Rattle.art_steps.specs.Steps.{Asks, Answers}

@@ -19,7 +19,7 @@ use Rattle.art_stages.specs.Calls.{OnKey}
 use Rattle.art_core.specs.Core.{Plan, State}
 use Rattle.art_core.specs.Meaning.{Reached, child_on, Means}
 use Rattle.art_serial.specs.trees.Trees.{IsAtRest}
-use Rattle.art_versions.specs.versions.Versions.{IsAtStage, EachHeld}
+use Rattle.art_schedules.specs.versions.Versions.{IsAtStage, EachHeld}
 use Rattle.art_schedules.specs.calm.Calm.{calm_of}
 use Rattle.art_schedules.specs.calm.Changes.{AsksFor, IsRunStep}
 use Rattle.art_schedules.specs.changes.Effects.{Effect}
@@ -50,22 +50,22 @@ pub record IsLeaving (shape : Shape) (s : State) (calm : List ℕ) (leaving : �
   pub reached : Reached shape calm hold.row.base hold.row.kind
   pub hangs : child_on shape calm hold.row.base hold.row.kind byte ≡ Row base kind
 
--- A row of the calm tree that is obsolete in the words is about to leave it: `leaving` names for a process the row that it has made
--- obsolete, as long as it
--- holds the row above.
+-- A row of the calm tree that is obsolete in the words is about to leave it. For each process,
+-- `leaving` names the row that it has made obsolete, as long as it holds the row above.
 abbrev pub ObsoleteLeave : Shape → State → List ℕ → (ℕ → Option ℕ) → Type 0
 ObsoleteLeave shape s calm leaving = (base : ℕ) (kind : Kind) → Reached shape calm base kind → is_obsolete (slice_index s.words base) ≡ true
     → IsLeaving shape s calm leaving base kind
 
--- Behind its step the call is at the next stage, and the calm tree is as it was; it knows its way there, or its work begins, or it has
--- found its reply.
+-- After its step the call is at the next stage, and the calm tree is as it was. There it knows its
+-- way, or its work begins, or it has found its reply.
 pub record GoesFrom (shape : Shape) (call : Call) (t : State) (p : ℕ) (calm after : List ℕ) (m : Contents) : Type 0 where
   pub next : Stage
   pub at : IsAtStage Coupled shape t p call (OnKey next)
   pub keeps : KeepsTree shape calm after
   pub goes : Goes (setting shape Coupled call) after t.words m next
 
--- The same of a call that has found its reply.
+-- After its step a call that has found its reply is at the next stage, and the calm tree is as it
+-- was.
 pub record StaysFrom (shape : Shape) (call : Call) (t : State) (p : ℕ) (calm after : List ℕ) (reply : Reply) : Type 0 where
   pub next : Stage
   pub at : IsAtStage Coupled shape t p call (OnKey next)
@@ -78,7 +78,7 @@ pub record StaysFrom (shape : Shape) (call : Call) (t : State) (p : ℕ) (calm a
 abbrev pub HeldAreLive : Shape → State → Type 0
 HeldAreLive shape s = (p : ℕ) → EachHeld Coupled shape s p (λ h. is_obsolete h.kept ≡ false)
 
--- and the process takes none in its step
+-- the process takes no obsolete row in its step
 abbrev pub TakesLive : Shape → State → ℕ → Type 0
 TakesLive shape s p = (h : Held) → AsksFor Coupled shape s p (Swap h.base h.kept (locked_word h.kept)) → slice_index s.words h.base ≡ h.kept
     → is_obsolete h.kept ≡ false
@@ -87,9 +87,9 @@ TakesLive shape s p = (h : Held) → AsksFor Coupled shape s p (Swap h.base h.ke
 abbrev pub MakesLeave : Shape → List ℕ → Hold → Option ℕ → Type 0
 MakesLeave shape calm h named = HangsOnAbove shape calm h × (named ≡ Some h.row.base)
 
--- What a step of process p has to do with the rows that are obsolete: one that it makes obsolete is
--- named, one that was named leaves the calm tree as p releases the row above; what comes into it is
--- not obsolete behind the step.
+-- What a step of process p does to the rows that are obsolete: one that it makes obsolete is named,
+-- and one that was named leaves the calm tree as p releases the row above. What comes into the calm
+-- tree is not obsolete after the step.
 pub record LeavesBy (shape : Shape) (s t : State) (p : ℕ) (calm : List ℕ) (effect : Option Effect)
     (leaving next : ℕ → Option ℕ) : Type 0 where
   pub others : (r : ℕ) → r ≢ p → next r ≡ leaving r

@@ -26,8 +26,8 @@ use Rattle.map_object.specs.MapObject.{Contents}
 use Rattle.art_schedules.specs.changes.Effects.{Effect}
 use Rattle.art_schedules.specs.changes.Courses.{IsGoneBy, ComesInBy}
 use Rattle.art_schedules.specs.changes.Follows.{Follows}
-use Rattle.art_versions.specs.versions.Effects.{IsAmong}
-use Rattle.art_versions.specs.versions.Holding.{Each}
+use Rattle.art_schedules.specs.versions.Effects.{IsAmong}
+use Rattle.art_schedules.specs.versions.Holding.{Each}
 use Rattle.art_schedules.specs.work.Own.{IsWalked, ReadsHeld, is_lock}
 
 -- what was read of a row, in kind 48 the index word of this number
@@ -81,7 +81,8 @@ pub record KnowsTree (shape : Shape) (calm : List ℕ) (at : ScanAt) : Type 0 wh
   pub step : KnowsStep shape calm at.walk.rows at.step
   pub way : Each (KnowsFrame shape calm) at.walk.way
 
--- A scan that gets calm's words, but for the versions that it locks, goes on to where it knows the calm tree.
+-- A scan that gets calm's words, except for the versions that it locks, goes on to where it knows
+-- the calm tree.
 abbrev pub ScansKnowTrees : Type 0
 ScansKnowTrees = (shape : Shape) (low high n : ℕ) (calm : List ℕ) (at : ScanAt) (word : ℕ) → IsAtRest shape n calm
     → ReadsHeld (OnScan low high at)
@@ -91,7 +92,7 @@ ScansKnowTrees = (shape : Shape) (low high n : ℕ) (calm : List ℕ) (at : Scan
     → word ≡ slice_index calm x)
     → KnowsTree shape calm (scan_after (setting shape Coupled (Scan low high)) low high at word)
 
--- a row of which the calm words behind the version stay, and which does not leave the calm tree
+-- a row whose calm words after the version stay, and which does not leave the calm tree
 abbrev pub StaysAt : Shape → List ℕ → List ℕ → Option Effect → ℕ → Type 0
 StaysAt shape calm after effect base = (kind : Kind) → kind_at shape base ≡ Some kind → SameRow calm after base kind
     × (IsGoneBy effect base → ⊥)

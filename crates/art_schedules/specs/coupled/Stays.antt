@@ -8,8 +8,8 @@ use Rattle.art_steps.specs.declared.variant.Variant.TheVariants.{Coupled}
 use Rattle.art_steps.specs.Rows.{is_insert}
 use Rattle.art_stages.specs.declared.stage.Stage.{Stage}
 use Rattle.art_stages.specs.Stages.{setting}
-use Rattle.art_versions.specs.versions.Holding.{Each}
-use Rattle.art_versions.specs.versions.Locking.{held_at_stage}
+use Rattle.art_schedules.specs.versions.Holding.{Each}
+use Rattle.art_schedules.specs.versions.Locking.{held_at_stage}
 use Rattle.art_schedules.specs.changes.Effects.{Effect}
 use Rattle.art_schedules.specs.changes.Courses.{IsGoneBy, ComesInBy, IsStill}
 use Rattle.art_schedules.specs.changes.Follows.{Follows}

@@ -1,6 +1,5 @@
--- A scan under lock coupling by itself: it touches only the rows that it holds at its end, so that it comes to the same stage on all words
--- that have these
--- rows.
+-- A scan under lock coupling that runs alone. It touches only the rows that it holds at its end, so
+-- it comes to the same stage on all words that have these rows.
 use Rattle.std.specs.Prelude.{◌≡◌, ℕ, ◌+◌, ◌<◌, ◌≤◌, List, length, slice_index, Option}
 use Rattle.events.specs.declared.event.Call.TheVariants.{Scan}
 use Rattle.events.specs.declared.event.Reply.TheVariants as reply
@@ -23,7 +22,7 @@ use Rattle.art_stages.specs.Calls.{CallAt, OnScan, call_turn, call_after, call_b
 use Rattle.art_core.specs.Accesses.{got_by, words_after}
 use Rattle.art_core.specs.Meaning.{Means}
 use Rattle.art_serial.specs.trees.Trees.{IsAtRest}
-use Rattle.art_versions.specs.versions.Effects.{IsAmong}
+use Rattle.art_schedules.specs.versions.Effects.{IsAmong}
 
 -- the word is one of these rows
 abbrev pub IsOfRows : List Held → ℕ → Type 0

@@ -14,8 +14,8 @@ use Rattle.art_stages.specs.Calls.{OnKey, OnScan}
 use Rattle.art_core.specs.declared.process.Process.{Process}
 use Rattle.art_core.specs.Core.{State}
 use Rattle.art_serial.specs.trees.Trees.{IsClaimed}
-use Rattle.art_versions.specs.versions.Holding.{Named}
-use Rattle.art_versions.specs.versions.Versions.{stage_of}
+use Rattle.art_schedules.specs.versions.Holding.{Named}
+use Rattle.art_schedules.specs.versions.Versions.{stage_of}
 use Rattle.art_schedules.specs.stories.Stories.{Status, Before, Found, Changed}
 use Rattle.art_schedules.specs.coupled.Knows.{KnowsWay}
 use Rattle.art_schedules.specs.coupled.Moments.{ObsoleteLeave}
@@ -24,10 +24,10 @@ use Rattle.art_schedules.specs.effects.AtWork.{AtWork, AtEnd}
 use Rattle.art_schedules.specs.effects.Marks.{IsMarked}
 use Rattle.art_schedules.specs.stories.Fitting.{set_at}
 
--- ---- what is so of the whole state
+-- ---- what holds of the whole state
 
--- Beside a run: the fresh row of each process, from its claim to the end of its work, and the row that it has made obsolete in its last
--- step.
+-- Ghosts of a run: the fresh row of each process, from its claim to the end of its work, and the
+-- row that it has made obsolete in its last step.
 pub record Ghosts : Type 0 where
   pub fresh : ℕ → Option Named
   pub leaving : ℕ → Option ℕ
@@ -41,7 +41,7 @@ pub record IsWorld (shape : Shape) (g : Ghosts) (s : State) (calm : List ℕ) : 
   pub claimed : (p : ℕ) (row : Named) → g.fresh p ≡ Some row → IsClaimed shape s.words row.0 row.1
   pub apart : (p r : ℕ) (row : Named) → g.fresh p ≡ Some row → g.fresh r ≡ Some row → p ≡ r
 
--- ---- what is so of an open call
+-- ---- what holds of an open call
 
 -- A call at work, with its fresh row and the row that it made obsolete.
 abbrev pub IsWorking : Shape → List ℕ → List ℕ → Call → Stage → Option Named → Option ℕ → Type 0
@@ -51,12 +51,12 @@ IsWorking shape words calm call stage fresh left = (work : AtWork (setting shape
 abbrev pub HasNone : Ghosts → ℕ → Type 0
 HasNone g p = (g.fresh p ≡ None) × (g.leaving p ≡ None)
 
--- what is so of a scan
+-- what holds of a scan
 abbrev pub OfScans : Type 1
 OfScans = List ℕ → State → List ℕ → ℕ → Call → Process → Status → Type 0
 
--- What fits an open call: on its way; at work before its effect; behind the moment at which it
--- found its reply; behind its effect; refused; or it scans, and what fits a scan fits it.
+-- What fits an open call: it is on its way; at work before its effect; past the moment at which it
+-- found its reply; past its effect; refused; or it scans, and what fits a scan fits it.
 pub data IsFit (shape : Shape) (Scans : OfScans) (g : Ghosts) (schedule : List ℕ) (s : State) (calm : List ℕ) (p : ℕ)
     (call : Call) (q : Process)
     (status : Status) : Type 0 where

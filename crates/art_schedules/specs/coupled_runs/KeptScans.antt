@@ -1,4 +1,5 @@
--- What is to be kept of scans, so that what fits each call of the coupled tree is kept.
+-- What steps have to preserve of scans, so that they preserve what fits each call of the coupled
+-- tree.
 use Rattle.std.specs.Prelude.{◌≡◌, ◌≢◌, ℕ, List, [], ◌∷◌, ◌++◌, length, Option}
 use Rattle.events.specs.declared.event.Call.{Call}
 use Rattle.events.specs.declared.event.Call.TheVariants.{Scan}
@@ -10,7 +11,7 @@ use Rattle.art_core.specs.declared.process.Process.{Process}
 use Rattle.art_core.specs.Core.{Plan, State, begun, opened_on}
 use Rattle.art_stages.specs.Scans.{ScanAt}
 use Rattle.art_stages.specs.Calls.{OnScan}
-use Rattle.art_versions.specs.versions.Versions.{IsOpen, stage_of}
+use Rattle.art_schedules.specs.versions.Versions.{IsOpen, stage_of}
 use Rattle.art_schedules.specs.changes.Effects.{Effect}
 use Rattle.art_schedules.specs.changes.Follows.{KeepsTree}
 use Rattle.art_schedules.specs.effects.Outcomes.{Makes}
@@ -20,7 +21,8 @@ use Rattle.art_schedules.specs.stories.Stories.{Status, Before, Tale}
 use Rattle.art_schedules.specs.stories.Fitting.{IsToldStep, Next, BeginsCall, MakesAccess, AnswersCall, HasItsReply}
 use Rattle.art_schedules.specs.coupled_runs.CoupledFits.{OfScans}
 
--- What a step of a scan is to give: the status behind it, calm's tree as it was, and no row taken but live ones of calm's tree.
+-- What a step of a scan has to give: the status after it, calm's tree as it was, and only live rows
+-- of calm's tree taken.
 pub record ScanStep (plan : Plan) (words schedule : List ℕ) (tale : Tale) (p : ℕ) (s t : State) (calm after : List ℕ) (call : Call)
     (q later : Process)
     (status : Status) (Scans : OfScans) : Type 0 where

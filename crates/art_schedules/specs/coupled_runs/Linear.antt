@@ -12,7 +12,7 @@ use Rattle.art_schedules.specs.stories.Fitting.{AreLed, the_plan}
 use Rattle.art_schedules.specs.coupled_runs.KeptScans.{ScansAreKept}
 use Rattle.art_schedules.specs.coupled_runs.CoupledFits.{Ghosts, IsWorld, CoupledFits, OfScans}
 
--- what fits a call, with a ghost and something of the whole state beside it, is kept by each step of a run
+-- each step of a run preserves what fits a call, with a ghost and a fact about the whole state
 abbrev pub CoupledAreLed : Shape → List (List Call) → Contents → List ℕ → OfScans → Type 0
 CoupledAreLed shape scripts start words Scans =
     AreLed (the_plan Coupled shape scripts) start words Ghosts (λ g schedule s calm. IsWorld shape g s calm) (CoupledFits shape Scans)

@@ -8,7 +8,7 @@ use Rattle.art_stages.specs.Scans.{ScanAt}
 use Rattle.art_stages.specs.Calls.{OnScan}
 use Rattle.art_core.specs.declared.process.Process.{Process}
 use Rattle.art_core.specs.Core.{State}
-use Rattle.art_versions.specs.versions.Versions.{stage_of}
+use Rattle.art_schedules.specs.versions.Versions.{stage_of}
 use Rattle.art_schedules.specs.stories.Stories.{Status, Before, Found, Changed}
 use Rattle.art_schedules.specs.coupled.Scanning.{KnowsTree}
 use Rattle.art_schedules.specs.locked_scans.Walking.{HasWalked, HasPairsFound}

@@ -1,4 +1,5 @@
--- A call at work in a run: what it did so far beside what it would have done by itself, and what its release will do to calm's tree.
+-- A call at work in a run: what it did so far, compared with what it would have done alone, and
+-- what its release will do to calm's tree.
 use Rattle.std.specs.Prelude.{◌≡◌, ◌⊎◌, ℕ, ◌<◌, ◌^◌, ◌++◌, List, take, length, slice_index, Bool, true, false, Option, Some, None}
 use Rattle.events.specs.declared.event.Call.{Call}
 use Rattle.events.specs.declared.event.Call.TheVariants.{Get, Insert, Remove, Scan, Replace}
@@ -28,8 +29,8 @@ use Rattle.art_stages.specs.Calls.{OnKey}
 use Rattle.art_core.specs.Meaning.{child_on}
 use Rattle.art_core.specs.Forms.{level_in, path_in}
 use Rattle.art_serial.specs.trees.Trees.{SameRow, LeadsTo, Parts, IsClaimed}
-use Rattle.art_versions.specs.versions.Locking.{rows_of_hold}
-use Rattle.art_versions.specs.versions.Holding.{Named, Each, Knows}
+use Rattle.art_schedules.specs.versions.Locking.{rows_of_hold}
+use Rattle.art_schedules.specs.versions.Holding.{Named, Each, Knows}
 use Rattle.art_schedules.specs.changes.Rows.{HasNewChild}
 use Rattle.art_schedules.specs.changes.Effects.{Effect, Keeps, Fills, PutsLeaf, RemovesLeaf, HangsPair, HangsGrown, base_of_effect}
 use Rattle.art_schedules.specs.changes.Effects.{kind_of_effect, pairs_after}
@@ -61,7 +62,7 @@ pub record IsClaiming (c : Setting) (real calm : List ℕ) (stage : Stage) : Typ
 
 -- ---- before the first release
 
--- the rows of a stage that is behind the claim and before the first release
+-- the rows of a stage that is after the claim and before the first release
 abbrev pub hold_at : Stage → Option Hold
 hold_at (Write h slot word reply) = Some h
 hold_at (StorePair h p base word) = Some h
@@ -131,7 +132,8 @@ abbrev pub HasNew : Setting → List ℕ → List ℕ → List ℕ → Hold → 
 HasNew c real calm words h work stage None = (claims_row work ≡ false) × (writes_at stage ≡ true)
 HasNew c real calm words h work stage (Some row) = FillsFresh c real calm words h work stage row.0 row.1
 
--- By itself the call came from the first words, which are calm's on its rows, to this stage with words that are the real ones on its rows.
+-- From the first words, which are calm's on its rows, the call alone came to this stage, with words
+-- that are the real ones on its rows.
 pub record IsGoing (c : Setting) (real calm : List ℕ) (fresh : Option Named) (stage : Stage) : Type 0 where
   pub hold : Hold
   pub work : Work
@@ -177,8 +179,8 @@ pub record HasStoredLeaf (calm real : List ℕ) (base : ℕ) (kind : Kind) (x ke
   pub slot : ℕ
   pub has : HasWordAt calm real base kind x slot (leaf_word key value)
 
--- What calm and the real words of the row say, so that its release has this effect on calm's tree: old is what the map has at the key
--- before it.
+-- What calm and the real words of the row say, so that its release has this effect on calm's tree.
+-- `old` is what the map has at the key before it.
 abbrev pub IsPending : Setting → List ℕ → List ℕ → Effect → Option ℕ → Type 0
 IsPending c real calm (Keeps base kind) old = ⊥
 IsPending c real calm (Fills base kind) old = ⊥
@@ -216,9 +218,9 @@ IsEffectOf (Replace key expected value) old e =
 IsEffectOf (Get key) old e = ⊥
 IsEffectOf (Scan low high) old e = ⊥
 
--- All rows that the call holds are unchanged but for the upper one. It releases that next, or
--- another row before: unchanged, or as obsolete, where that row goes by the effect. A row that goes
--- and is released is obsolete.
+-- All rows that the call holds are unchanged except for the upper one. It releases that next, or
+-- another row before: unchanged, or as obsolete, where that row leaves by the effect. A row that
+-- goes and is released is obsolete.
 pub data IsReleasing (c : Setting) (real calm : List ℕ) (row : Held) (e : Effect) (o : Outcome) (stage : Stage) : Type 0 where
   Last : stage ≡ Unlock (hold_alone row) (Some o) → ((b : ℕ) → IsGone e b → is_obsolete (slice_index real b) ≡ true)
       → IsReleasing c real calm row e o stage

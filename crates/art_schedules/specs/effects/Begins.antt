@@ -1,4 +1,4 @@
--- Where the work of a call begins: what is so of calm's tree there.
+-- Where the work of a call begins: what holds of calm's tree there.
 use Rattle.std.specs.Prelude.{◌≡◌, ◌⊎◌, ℕ, List, slice_index, true, Option, Some, None}
 use Rattle.art_rows.specs.declared.table.Child.{Child}
 use Rattle.art_rows.specs.declared.table.Child.TheVariants.{Empty, Row, Leaf}

@@ -20,10 +20,10 @@ use Rattle.art_stages.specs.Calls.{OnKey}
 use Rattle.art_core.specs.Core.{Plan, State}
 use Rattle.art_core.specs.Meaning.{Reached, Means}
 use Rattle.art_serial.specs.trees.Trees.{IsAtRest, IsClaimed}
-use Rattle.art_versions.specs.versions.Locking.{rows_of_hold}
-use Rattle.art_versions.specs.versions.Holding.{Named, Each, Knows, holds}
-use Rattle.art_versions.specs.versions.Effects.{IsAmong}
-use Rattle.art_versions.specs.versions.Versions.{IsAtStage}
+use Rattle.art_schedules.specs.versions.Locking.{rows_of_hold}
+use Rattle.art_schedules.specs.versions.Holding.{Named, Each, Knows, holds}
+use Rattle.art_schedules.specs.versions.Effects.{IsAmong}
+use Rattle.art_schedules.specs.versions.Versions.{IsAtStage}
 use Rattle.art_schedules.specs.calm.Calm.{calm_of}
 use Rattle.art_schedules.specs.changes.Effects.{Effect}
 use Rattle.art_schedules.specs.work.Works.{RowsOf}
@@ -34,7 +34,7 @@ use Rattle.art_schedules.specs.effects.Marks.{IsMarked, WorkerStep, HangsOnAbove
 use Rattle.art_schedules.specs.calm.Changes.{IsRunStep}
 use Rattle.art_schedules.specs.work.Ways.{IsInTree, IsSame}
 
--- Where work begins in rows of calm's tree that are as calm has them, the call is at work.
+-- If work begins in rows of calm's tree that are as calm has them, the call is at work.
 abbrev pub WorkBegins : Type 0
 WorkBegins = (c : Setting) (real calm : List ℕ) (h : Hold) (work : Work) → length calm ≡ table_words c.shape
     → Knows (RowsOf c.shape) c (OnKey (work_at c h work)) → BeginsWork c calm h work → Each (IsInTree c.shape calm) (rows_of_hold h)
@@ -46,7 +46,7 @@ WorkersHoldReached = (c : Setting) (real calm : List ℕ) (stage : Stage) (fresh
     → AtWork c real calm fresh stage → (row : Held)
     → IsAmong row (holds c (OnKey stage)) → Reached c.shape calm row.base row.kind
 
--- and so are those that it only releases.
+-- A call that only releases rows holds only rows of calm's tree.
 abbrev pub LeaversHoldReached : Type 0
 LeaversHoldReached = (c : Setting) (real calm : List ℕ) (stage : Stage) (reply : Reply) → AtEnd c real calm reply stage → (row : Held)
     → IsAmong row (holds c (OnKey stage)) → Reached c.shape calm row.base row.kind
@@ -65,7 +65,7 @@ OthersKeepWork = (plan : Plan) (start : Contents) (words schedule : List ℕ) (p
     → IsAtStage plan.variant plan.shape t r call (OnKey stage)
     × AtWork (setting plan.shape plan.variant call) t.words (calm_of plan words (schedule ++ p ∷ [])) fresh stage
 
--- So it keeps one at its end.
+-- A step of another process keeps a call that only releases rows.
 abbrev pub OthersKeepEnds : Type 0
 OthersKeepEnds = (plan : Plan) (start : Contents) (words schedule : List ℕ) (p : ℕ) (s t : State) (n : ℕ) (m : Contents)
     (effect : Option Effect)
@@ -102,7 +102,7 @@ abbrev pub FreshIsClaimed : Type 0
 FreshIsClaimed = (c : Setting) (real calm : List ℕ) (stage : Stage) (row : Named) → AtWork c real calm (Some row) stage
     → IsClaimed c.shape real row.0 row.1
 
--- and the row that an effect brings is none of another call.
+-- The row that an effect brings into calm's tree is not the fresh row of another call.
 abbrev pub EffectsBringTheirs : Type 0
 EffectsBringTheirs = (e : Effect) (other : Option Named) → AreTwoRows (fresh_of e) other → IsOther (Some e) other
 

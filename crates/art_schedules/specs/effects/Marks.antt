@@ -1,7 +1,8 @@
 -- Marks: the row that a call at work made obsolete in its step before, and what a step of the call
--- makes of it. Where a row is to be replaced by its larger copy, the call releases it as obsolete,
--- and takes it out of calm's tree by its next step, the release of the row above. Only between
--- these two steps is a row of calm's tree obsolete: the marks of all calls name these rows.
+-- makes of it. A row that is too small is replaced by a larger copy. The call first releases it as
+-- obsolete. By its next step, the release of the row above, it takes the row out of calm's tree.
+-- Only between these two steps is a row of calm's tree obsolete: the marks of all calls name these
+-- rows.
 use Rattle.std.specs.Prelude.{◌≡◌, ℕ, ◌<◌, List, Option, Some, None}
 use Rattle.events.specs.declared.event.Call.{Call}
 use Rattle.events.specs.declared.event.Reply.{Reply}
@@ -19,8 +20,8 @@ use Rattle.art_stages.specs.Stages.{setting}
 use Rattle.art_stages.specs.Calls.{OnKey}
 use Rattle.art_core.specs.Core.{Plan, State}
 use Rattle.art_core.specs.Meaning.{Reached, child_on}
-use Rattle.art_versions.specs.versions.Holding.{Named}
-use Rattle.art_versions.specs.versions.Versions.{IsAtStage}
+use Rattle.art_schedules.specs.versions.Holding.{Named}
+use Rattle.art_schedules.specs.versions.Versions.{IsAtStage}
 use Rattle.art_schedules.specs.changes.Effects.{Effect, IsGone}
 use Rattle.art_schedules.specs.effects.AtWork.{IsReleasing, Last, Lower, Gone, AtWork, Claiming, Going, Hanging, AtEnd}
 use Rattle.art_schedules.specs.effects.Outcomes.{Makes, WorkStep, Works, IsRefused, TakesEffect}
@@ -30,7 +31,8 @@ abbrev pub obsolete_by : Stage → Option ℕ
 obsolete_by (Obsolete h) = Some h.row.base
 obsolete_by stage = None
 
--- the row that was made obsolete goes by the effect to come; there is none before the release of the upper row is next
+-- the row that was made obsolete leaves by the effect to come; there is none before the release of
+-- the upper row is next
 abbrev pub IsMarkedBy : {c : Setting} {real calm : List ℕ} {row : Held} {e : Effect} {o : Outcome} {stage : Stage} → Option ℕ
     → IsReleasing c real calm row e o stage → Type 0
 IsMarkedBy {e = e} left (Last is gone) = (b : ℕ) → left ≡ Some b → IsGone e b
@@ -44,10 +46,10 @@ IsMarked left (Claiming none x) = left ≡ None
 IsMarked left (Going x) = left ≡ None
 IsMarked left (Hanging x) = IsMarkedBy left x.at
 
--- What a step of a call at work makes of its mark. Where the call works on, it had none, and has
--- from now on what this step made obsolete. Where it is refused, it had none. Where it takes
--- effect, the row that it had goes by the effect. A step behind which the call does not work makes
--- no row obsolete.
+-- What a step of a call at work makes of its mark. If the call works on, it had none, and from now
+-- on has what this step made obsolete. If it is refused, it had none. If it takes effect, the row
+-- that it had leaves by the effect. A step after which the call does not work makes no row
+-- obsolete.
 abbrev pub MarksGoOn : {variant : Variant} {shape : Shape} {s : State} {p : ℕ} {t : State} {calm after : List ℕ}
     {m : Contents} {call : Call}
     {fresh : Option Named} → Option ℕ → Stage → WorkStep variant shape s p t calm after m call fresh → Type 0

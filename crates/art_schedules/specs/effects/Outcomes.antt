@@ -16,9 +16,9 @@ use Rattle.art_stages.specs.Calls.{OnKey}
 use Rattle.art_core.specs.Core.{State}
 use Rattle.art_core.specs.Meaning.{Reached}
 use Rattle.art_serial.specs.trees.Trees.{IsClaimed}
-use Rattle.art_versions.specs.versions.Holding.{Named}
-use Rattle.art_versions.specs.versions.Versions.{IsAtStage, EachHeld}
-use Rattle.art_versions.specs.versions.Writers.{IsHeldBy}
+use Rattle.art_schedules.specs.versions.Holding.{Named}
+use Rattle.art_schedules.specs.versions.Versions.{IsAtStage, EachHeld}
+use Rattle.art_schedules.specs.versions.Writers.{IsHeldBy}
 use Rattle.art_schedules.specs.changes.Effects.{Effect, base_of_effect, pairs_after, HasEffect, ComesIn}
 use Rattle.art_schedules.specs.changes.Courses.{ComesInBy, TreeGoesOn}
 use Rattle.art_schedules.specs.effects.AtWork.{fresh_of, AtWork, AtEnd}

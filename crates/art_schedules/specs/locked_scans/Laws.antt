@@ -21,8 +21,8 @@ use Rattle.art_schedules.specs.changes.Effects.{Effect}
 use Rattle.art_schedules.specs.changes.Courses.{IsGoneBy, ComesInBy}
 use Rattle.art_schedules.specs.changes.Follows.{Follows}
 use Rattle.art_schedules.specs.coupled.Moments.{TakesLive, ObsoleteLeave, IsCoupledStep}
-use Rattle.art_versions.specs.versions.Effects.{IsAmong}
-use Rattle.art_versions.specs.versions.Versions.{IsAtStage}
+use Rattle.art_schedules.specs.versions.Effects.{IsAmong}
+use Rattle.art_schedules.specs.versions.Versions.{IsAtStage}
 use Rattle.art_schedules.specs.coupled.Good.{TakesReached}
 use Rattle.art_schedules.specs.coupled.Scanning.{KnowsTree}
 use Rattle.art_schedules.specs.locked_scans.Walking.{HasWalked, ScanGoes, ScanComes, ScanStays, HasPairsFound, rows_of_scan}
@@ -93,7 +93,7 @@ ScansTakeLive = (plan : Plan) (start : Contents) (words schedule : List ℕ) (p 
     → IsAtStage Coupled plan.shape s p (Scan low high) (OnScan low high x)
     → ((IsOver x.step → ⊥) → KnowsTree plan.shape (calm_of plan words schedule) x) → TakesLive plan.shape s p
 
--- and takes rows of the calm tree alone.
+-- A scan takes only rows of the calm tree.
 abbrev pub ScansTakeReached : Type 0
 ScansTakeReached = (plan : Plan) (start : Contents) (words schedule : List ℕ) (p : ℕ) (s t : State) (claims : ℕ) (m : Contents)
     (low high : ℕ) (x : ScanAt)
@@ -101,7 +101,7 @@ ScansTakeReached = (plan : Plan) (start : Contents) (words schedule : List ℕ) 
     → ((IsOver x.step → ⊥) → KnowsTree plan.shape (calm_of plan words schedule) x)
     → TakesReached plan.shape s p (calm_of plan words schedule)
 
--- So its steps need no further premise, and it knows the calm tree behind them.
+-- The steps of a scan need no further premise, and it knows the calm tree after them.
 abbrev pub ScansComeOn : Type 0
 ScansComeOn = (plan : Plan) (start : Contents) (words schedule : List ℕ) (p : ℕ) (s t : State) (claims : ℕ) (m : Contents)
     (leaving : ℕ → Option ℕ)

@@ -1,4 +1,5 @@
--- What a scan under lock coupling knows at each stage: by itself on calm it has come there too, by words of the rows that it holds.
+-- What a scan under lock coupling knows at each stage: alone on calm it has come there too, by
+-- words of the rows that it holds.
 use Rattle.std.specs.Prelude.{◌≡◌, ℕ, List, length, true}
 use Rattle.events.specs.declared.event.Call.TheVariants.{Scan}
 use Rattle.events.specs.declared.event.Reply.{Reply}
@@ -12,8 +13,8 @@ use Rattle.art_stages.specs.Stages.{setting}
 use Rattle.art_stages.specs.Scans.{ScanAt, at}
 use Rattle.art_stages.specs.Calls.{OnScan, call_begun}
 use Rattle.art_core.specs.Core.{State}
-use Rattle.art_versions.specs.versions.Holding.{Each, holds}
-use Rattle.art_versions.specs.versions.Versions.{IsAtStage}
+use Rattle.art_schedules.specs.versions.Holding.{Each, holds}
+use Rattle.art_schedules.specs.versions.Versions.{IsAtStage}
 use Rattle.art_schedules.specs.changes.Follows.{KeepsTree}
 use Rattle.art_schedules.specs.coupled.Walks.{Alone, SameOn, IsOver}
 use Rattle.art_schedules.specs.coupled.Scanning.{KnowsTree}
@@ -34,7 +35,7 @@ rows_of_scan shape low high x = holds (setting shape Coupled (Scan low high)) (O
 
 -- Before its first release: alone on calm, where no lock is waited for, the scan comes to this
 -- stage, by accesses to words of the rows that it holds. On these rows the words are those that it
--- has there; behind the versions they are calm's.
+-- has there; after the versions they are calm's.
 pub record HasWalked (shape : Shape) (low high : ℕ) (calm words : List ℕ) (x : ScanAt) : Type 0 where
   pub now : List ℕ
   pub alone : Alone (setting shape Coupled (Scan low high)) (rows_of_scan shape low high x)
@@ -50,7 +51,8 @@ pub record HasPairsFound (shape : Shape) (low high : ℕ) (calm words : List ℕ
   pub is : r ≡ reply.Pairs x.walk.pairs
   pub own : Each (IsHeldLive calm words) (rows_of_scan shape low high x)
 
--- Behind its step the scan is at the next stage; the calm tree is as it was, and the scan has come there by itself,
+-- After its step the scan is at the next stage; the calm tree is as it was, and the scan alone has
+-- come there,
 pub record ScanGoes (shape : Shape) (low high : ℕ) (t : State) (p : ℕ) (calm after : List ℕ) : Type 0 where
   pub next : ScanAt
   pub at : IsAtStage Coupled shape t p (Scan low high) (OnScan low high next)

@@ -15,9 +15,9 @@ use Rattle.art_stages.specs.declared.stage.Stage.{Stage}
 use Rattle.art_stages.specs.Automaton.{turn_at, work_at}
 use Rattle.art_core.specs.Accesses.{got_by}
 use Rattle.art_core.specs.Meaning.{Reached}
-use Rattle.art_versions.specs.versions.Holding.{Each}
-use Rattle.art_versions.specs.versions.Locking.{rows_of_hold}
-use Rattle.art_versions.specs.versions.Steady.{SameWords}
+use Rattle.art_schedules.specs.versions.Holding.{Each}
+use Rattle.art_schedules.specs.versions.Locking.{rows_of_hold}
+use Rattle.art_schedules.specs.versions.Steady.{SameWords}
 use Rattle.art_schedules.specs.calm.Calm.{is_busy}
 use Rattle.art_schedules.specs.effects.Begins.{BeginsWork}
 use Rattle.art_schedules.specs.optimistic.Knows.{KnowsWay, IsHeldReached}

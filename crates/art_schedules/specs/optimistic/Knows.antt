@@ -1,5 +1,5 @@
 -- What a call on a key of the optimistic tree knows at each stage at which it is not at work. It
--- holds no row on its way: all that it knows of a row is so where the version that it has kept is
+-- holds no row on its way: all that it knows of a row is true if the version that it has kept is
 -- still the row's.
 use Rattle.std.specs.Prelude.{◌≡◌, ℕ, ◌≤◌, Bool, true, false, List, slice_index, Option, Some, None}
 use Rattle.events.specs.declared.event.Reply.{Reply}
@@ -23,16 +23,18 @@ use Rattle.art_stages.specs.declared.stage.Stage.TheVariants.{FindCount, Slot, C
 use Rattle.art_stages.specs.Stages.{byte_in, reply_for}
 use Rattle.art_core.specs.Meaning.{Reached}
 use Rattle.art_core.specs.Forms.{path_in}
-use Rattle.art_versions.specs.versions.Holding.{Each, rows_kept}
-use Rattle.art_versions.specs.versions.Locking.{all_of, held_at_stage}
+use Rattle.art_schedules.specs.versions.Holding.{Each, rows_kept}
+use Rattle.art_schedules.specs.versions.Locking.{all_of, held_at_stage}
 use Rattle.art_schedules.specs.effects.Begins.{BeginsWork}
 use Rattle.art_schedules.specs.work.Ways.{IsOnWay, slot_in, KnowsFinding, IsSame, HangsOnWay}
 
--- the version that was kept is still the row's: it is neither locked nor obsolete, and calm has its words
+-- the version that was kept is still the row's: the row is neither locked nor obsolete, and calm
+-- has its words
 abbrev pub Stands : List ℕ → Held → Type 0
 Stands words n = slice_index words n.base ≡ n.kept
 
--- the row below hangs on the key's byte of the row above, if that stands
+-- the row below hangs on the key's byte of the row above, if the version of the row above is the
+-- kept one
 abbrev pub IsBelow : Setting → List ℕ → List ℕ → Down → Type 0
 IsBelow c calm words d = Stands words d.above → HangsOnWay c calm d.above d.slot (ChildRow d.base d.kind)
 
@@ -52,13 +54,12 @@ IsLed c calm words n = Stands words n → IsOnWay c calm n
 abbrev pub KnowsPlace : Setting → List ℕ → List ℕ → Position → Type 0
 KnowsPlace c calm words p = IsLed c calm words p.row × HangsBelow c calm words p.row p.slot p.above
 
--- Behind the check of the row above, the row below is reached, if it stands; where the call is no insert, its path differs nowhere from the
--- key,
+-- The path of the row below differs nowhere from the key, if the call is no insert.
 abbrev pub PathFollows : Bool → Setting → List ℕ → Down → Type 0
 PathFollows true c words d = Unit {0}
 PathFollows false c words d = first_difference (path_in words d.base d.kind) (key_bytes (key_of c.call)) ≡ None
 
--- or it does, and the key was absent at that check.
+-- The path of the row below differs from the key, and the call is no insert.
 abbrev pub PathDiffers : Bool → Setting → List ℕ → Down → Type 0
 PathDiffers true c words d = ⊥
 PathDiffers false c words d = (x : ℕ) × (first_difference (path_in words d.base d.kind) (key_bytes (key_of c.call)) ≡ Some x)
@@ -75,7 +76,8 @@ abbrev pub AllStand : List ℕ → Held → Option Held → Type 0
 AllStand words row None = Stands words row
 AllStand words row (Some below) = Stands words row × Stands words below
 
--- each row that stands is reached; and where all of them stand, the work can begin
+-- each row whose version is the kept one is reached; and if all of them are such, the work can
+-- begin
 abbrev pub IsReachedHere : Setting → List ℕ → List ℕ → Held → Type 0
 IsReachedHere c calm words n = Stands words n → Reached c.shape calm n.base n.kind
 
@@ -84,12 +86,12 @@ KnowsTaking c calm words t =
     IsReachedHere c calm words t.row × Each (IsReachedHere c calm words) (all_of t.below)
     × (AllStand words t.row t.below → BeginsWork c calm (hold_taken t.row t.held t.below) t.work)
 
--- where a row that was taken is given back, nothing has been done
+-- if a row that was taken is given back, nothing has been done
 abbrev pub GivesBack : Hold → Option Rattle.art_stages.specs.declared.stage.Outcome.Outcome → Type 0
 GivesBack h None = h.above ≡ None
 GivesBack h (Some outcome) = ⊥
 
--- What is so where the call has found nothing yet,
+-- What the call knows at each stage at which it has found no reply yet.
 abbrev pub KnowsStage : Bool → Setting → List ℕ → List ℕ → Stage → Type 0
 KnowsStage i c calm words (Wait t) = KnowsTarget c calm words t
 KnowsStage i c calm words (Between d kept) = IsBelow c calm words d
@@ -109,7 +111,8 @@ KnowsStage i c calm words (Take t) = KnowsTaking c calm words t
 KnowsStage i c calm words (Unlock h outcome) = GivesBack h outcome
 KnowsStage i c calm words stage = ⊥
 
--- and where it has found, at some moment, that it can be answered so.
+-- what the call knows at each stage at which it has found, at some moment, that this can be its
+-- reply
 abbrev pub KnowsReply : Reply → Bool → Setting → List ℕ → Stage → Type 0
 KnowsReply r i c words (Info d kept) = (r ≡ reply.None) × PathDiffers i c words d
 KnowsReply r i c words (CheckLast n) = r ≡ reply.None
@@ -120,11 +123,12 @@ abbrev pub KnowsAt : Option Reply → Bool → Setting → List ℕ → List ℕ
 KnowsAt None i c calm words stage = KnowsStage i c calm words stage
 KnowsAt (Some r) i c calm words stage = KnowsReply r i c words stage
 
--- a version that was kept is not above the row's
+-- a version that was kept is at most the row's
 abbrev pub IsPast : List ℕ → Held → Type 0
 IsPast words n = n.kept ≤ slice_index words n.base
 
--- a row that the call holds and has not written to: it is reached, and behind its version the words are the calm ones
+-- a row that the call holds and has not written to: it is reached, and after its version the words
+-- are the calm ones
 abbrev pub IsHeldReached : Shape → List ℕ → List ℕ → Held → Type 0
 IsHeldReached s calm words n = IsSame calm words n × Reached s calm n.base n.kind
 

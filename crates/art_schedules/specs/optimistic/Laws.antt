@@ -16,10 +16,10 @@ use Rattle.art_core.specs.Core.{Plan, State}
 use Rattle.art_core.specs.Plans.{IsRun}
 use Rattle.art_core.specs.Meaning.{Means}
 use Rattle.art_serial.specs.trees.Trees.{IsAtRest}
-use Rattle.art_versions.specs.versions.Holding.{Each, KnowsKey}
-use Rattle.art_versions.specs.versions.Versions.{IsSettled}
-use Rattle.art_versions.specs.versions.Steady.{IsSteady}
-use Rattle.art_versions.specs.versions.Locking.{held_at_stage}
+use Rattle.art_schedules.specs.versions.Holding.{Each, KnowsKey}
+use Rattle.art_schedules.specs.versions.Versions.{IsSettled}
+use Rattle.art_schedules.specs.versions.Steady.{IsSteady}
+use Rattle.art_schedules.specs.versions.Locking.{held_at_stage}
 use Rattle.art_schedules.specs.work.Works.{RowsOf}
 use Rattle.art_schedules.specs.calm.Calm.{calm_of}
 use Rattle.art_schedules.specs.changes.Effects.{Effect}
@@ -53,8 +53,8 @@ abbrev pub InfosStay : Shape → State → State → Type 0
 InfosStay shape s t = (base : ℕ) (kind : Kind) → IsSettled Optimistic shape s base kind
     → slice_index t.words (info_at base) ≡ slice_index s.words (info_at base)
 
--- In a step of any process, by which the calm tree changes by an effect or by none, a call knows what it knew: a row leaves the tree only
--- where it is obsolete.
+-- A step of any process, by which the calm tree changes by an effect or by none, leaves a call what
+-- it knew. A row leaves the tree only if it is obsolete.
 abbrev pub WaysAreKept : Type 0
 WaysAreKept = (shape : Shape) (call : Call) (calm after : List ℕ) (pairs : Contents) (effect : Option Effect) (s t : State)
     (found : Option Reply)

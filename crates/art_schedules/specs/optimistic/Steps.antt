@@ -21,7 +21,7 @@ use Rattle.art_core.specs.declared.process.Process.{Process}
 use Rattle.art_core.specs.Core.{Plan, State}
 use Rattle.art_core.specs.Meaning.{Means}
 use Rattle.art_serial.specs.trees.Trees.{IsAtRest}
-use Rattle.art_versions.specs.versions.Versions.{IsOpen, stage_of, IsAtStage}
+use Rattle.art_schedules.specs.versions.Versions.{IsOpen, stage_of, IsAtStage}
 use Rattle.art_schedules.specs.calm.Calm.{calm_of}
 use Rattle.art_schedules.specs.changes.Effects.{Effect}
 use Rattle.art_schedules.specs.changes.Courses.{TreeGoesOn}
@@ -30,8 +30,8 @@ use Rattle.art_schedules.specs.optimistic.Knows.{KnowsWay}
 use Rattle.art_schedules.specs.optimistic.Goes.{Goes}
 use Rattle.art_schedules.specs.calm.Changes.{IsRunStep}
 
--- What the call knew before a step of another process it knows behind it, where the calm tree
--- changes by an effect or by none, and a row leaves it only where it is obsolete.
+-- What the call knew before a step of another process it knows after it, if the calm tree changes
+-- by an effect or by none, and only obsolete rows leave it.
 abbrev pub OtherStepsKeepWays : Type 0
 OtherStepsKeepWays = (plan : Plan) (start : Contents) (words schedule : List ℕ) (p : ℕ) (s t : State)
     → IsRunStep plan start words schedule p s t
@@ -41,7 +41,7 @@ OtherStepsKeepWays = (plan : Plan) (start : Contents) (words schedule : List ℕ
     → IsOpen t r call at.process → KnowsWay (setting plan.shape Optimistic call) (calm_of plan words schedule) s.words found stage
     → KnowsWay (setting plan.shape Optimistic call) (calm_of plan words (schedule ++ p ∷ [])) t.words found stage
 
--- Behind a step of its own the call is at another stage, and the calm tree is the same.
+-- After a step of its own the call is at another stage, and the calm tree is the same.
 pub record StepsOn (plan : Plan) (words schedule : List ℕ) (p : ℕ) (t : State) (call : Call) : Type 0 where
   pub next : Stage
   pub at : IsAtStage Optimistic plan.shape t p call (OnKey next)

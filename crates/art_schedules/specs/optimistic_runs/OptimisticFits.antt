@@ -16,15 +16,15 @@ use Rattle.art_stages.specs.Calls.{OnKey, OnScan}
 use Rattle.art_core.specs.declared.process.Process.{Process}
 use Rattle.art_core.specs.Core.{State}
 use Rattle.art_serial.specs.trees.Trees.{IsClaimed}
-use Rattle.art_versions.specs.versions.Holding.{Named}
-use Rattle.art_versions.specs.versions.Versions.{stage_of}
+use Rattle.art_schedules.specs.versions.Holding.{Named}
+use Rattle.art_schedules.specs.versions.Versions.{stage_of}
 use Rattle.art_schedules.specs.stories.Stories.{Status, Before, Found, Changed}
 use Rattle.art_schedules.specs.stories.Fitting.{AreLed, the_plan}
 use Rattle.art_schedules.specs.optimistic.Knows.{KnowsWay}
 use Rattle.art_schedules.specs.effects.AtWork.{AtWork, AtEnd}
 use Rattle.art_schedules.specs.effects.Outcomes.{AreTwoRows}
 
--- Beside a run: the fresh row of each process, from its claim to the end of its work.
+-- Ghosts of a run: the fresh row of each process, from its claim to the end of its work.
 abbrev pub Ghosts : Type 0
 Ghosts = ℕ → Option Named
 
@@ -33,9 +33,9 @@ pub record IsWorld (shape : Shape) (g : Ghosts) (s : State) : Type 0 where
   pub claimed : (p : ℕ) (row : Named) → g p ≡ Some row → IsClaimed shape s.words row.0 row.1
   pub apart : (p r : ℕ) → p ≢ r → AreTwoRows (g p) (g r)
 
--- What fits an open call: on its way; behind the moment at which it found its reply; at work before
--- its effect; behind its effect, or refused; or it scans, and nothing is known of it before it is
--- answered.
+-- What fits an open call: it is on its way; past the moment at which it found its reply; at work
+-- before its effect; past its effect, or refused; or it scans, and nothing is known of it before it
+-- is answered.
 pub data IsFit (shape : Shape) (g : Ghosts) (s : State) (calm : List ℕ) (p : ℕ) (call : Call) (q : Process) (status : Status) : Type 0 where
   Seeks : (stage : Stage) → is_scan call ≡ false → g p ≡ None → stage_of Optimistic shape call q ≡ OnKey stage
       → KnowsWay (setting shape Optimistic call) calm s.words None stage → status ≡ Before → IsFit shape g s calm p call q status
@@ -57,7 +57,7 @@ pub record OptimisticFits (shape : Shape) (g : Ghosts) (schedule : List ℕ) (s 
   pub tree : is_tree_call call ≡ true
   pub fit : IsFit shape g s calm p call q status
 
--- what fits a call, with a ghost and something of the whole state beside it, is kept by each step of a run
+-- each step of a run preserves what fits a call, with a ghost and a fact about the whole state
 abbrev pub OptimisticAreLed : Shape → List (List Call) → Contents → List ℕ → Type 0
 OptimisticAreLed shape scripts start words =
     AreLed (the_plan Optimistic shape scripts) start words Ghosts (λ g schedule s calm. IsWorld shape g s) (OptimisticFits shape)

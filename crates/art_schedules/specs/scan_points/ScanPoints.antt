@@ -15,10 +15,10 @@ use Rattle.art_schedules.specs.calls.RunCalls.{IsIn}
 use Rattle.art_serial.specs.trees.Trees.{IsAtRest}
 use Rattle.art_schedules.specs.calm.Calm.{calm_of}
 
--- A moment t of the schedule, before moment u, at which process p is in this scan, the last of so
--- many calls that it has begun, and has got some of its words. If calm is a tree at rest then, and
--- means a map of no more pairs than a scan may answer, the reply is the map's; so it is legal, and
--- the map stays.
+-- A moment t of the schedule, before moment u, at which process p is in this scan, the last of this
+-- many calls that it has begun, and has got some of its words. Suppose that calm is a tree at rest
+-- then, and means a map of no more pairs than a scan may answer. Then the reply is the map's; so it
+-- is legal, and the map stays.
 pub record HasScanPoint (plan : Plan) (words schedule : List ℕ) (u p calls low high : ℕ) (reply : Reply) : Type 0 where
   pub t : ℕ
   pub before : t < u

@@ -1,4 +1,5 @@
--- Statuses that fit what is known of each open call of a full tree, with calm beside it, and the steps that keep them.
+-- Statuses that fit what is known of each open call of a full tree, by calm, and the steps that
+-- keep them.
 use Rattle.std.specs.Prelude.{◌≡◌, ◌≢◌, ℕ, ◌+◌, ◌≤◌, List, [], ◌∷◌, ◌++◌, length, take, slice_get, slice_index, Option, Some, None}
 use Rattle.std.specs.Prelude.{◌==◌, if◌then◌else◌}
 use Rattle.events.specs.declared.event.Call.{Call}
@@ -19,7 +20,7 @@ use Rattle.art_core.specs.Core.{Plan, State, begun, next_call, opened_on}
 use Rattle.art_core.specs.Plans.{IsRun}
 use Rattle.art_core.specs.Meaning.{Means}
 use Rattle.art_serial.specs.trees.Trees.{IsAtRest}
-use Rattle.art_versions.specs.versions.Versions.{IsOpen, stage_of}
+use Rattle.art_schedules.specs.versions.Versions.{IsOpen, stage_of}
 use Rattle.art_schedules.specs.calm.Calm.{calm_of, IsCalm}
 use Rattle.art_schedules.specs.calm.Changes.{CalmStep, IsRunStep}
 use Rattle.art_schedules.specs.changes.Effects.{Effect, pairs_after}
@@ -37,7 +38,7 @@ pub record MeansAt (plan : Plan) (words schedule : List ℕ) (u : ℕ) (m : Cont
   pub means : Means plan.shape (calm_of plan words (take u schedule)) m
   pub few : length m ≤ pair_limit
 
--- A step of a run of which something is told, with calm before and behind it.
+-- A step of a run with a tale, with calm before and after it.
 pub record IsToldStep (plan : Plan) (start : Contents) (words schedule : List ℕ) (tale : Tale) (p : ℕ) (s t : State)
     (calm after : List ℕ) : Type 0 where
   pub step : IsRunStep plan start words schedule p s t
@@ -52,9 +53,9 @@ pub record IsToldStep (plan : Plan) (start : Contents) (words schedule : List �
   pub few : length (tale.pairs (length schedule)) ≤ pair_limit
   pub earlier : (u : ℕ) → u ≤ length schedule → MeansAt plan words schedule u (tale.pairs u)
 
--- What becomes of the status in a step that keeps the pairs: it stays, or what was found is
--- forgotten, or a reply is found, in the pairs as they are now or as they were at an earlier moment
--- within the call.
+-- What becomes of the status in a step that keeps the pairs. It stays, or what was found is
+-- forgotten, or a reply is found: in the pairs as they are now, or as they were at an earlier
+-- moment within the call.
 pub data Next (plan : Plan) (first : State) (schedule : List ℕ) (tale : Tale) (p calls : ℕ) (call : Call)
     (status next : Status) : Type 0 where
   Stays : next ≡ status → Next plan first schedule tale p calls call status next
@@ -66,13 +67,13 @@ pub data Next (plan : Plan) (first : State) (schedule : List ℕ) (tale : Tale) 
       → IsInCall plan first schedule u p calls call
       → Does (tale.pairs u) call reply (tale.pairs u) → Next plan first schedule tale p calls call status next
 
--- Where it is answered, its status is, or becomes, one that has the reply.
+-- If it is answered, its status is, or becomes, one that has the reply.
 abbrev pub HasItsReply : Plan → List ℕ → List ℕ → Tale → ℕ → Call → Process → Status → Reply → Type 0
 HasItsReply plan words schedule tale p call q status reply =
     (next : Status) × Next plan (opened_on plan words) schedule tale p (length (begun q)) call status next × HasReply next reply
 
 -- What an open call does in a step of its own: it keeps the pairs, or changes them as it does with
--- this reply. `Behind` is what has to be so behind the step, by its effect and the status then.
+-- this reply. `Behind` is what has to hold after the step, by its effect and the status then.
 pub data OwnStep (plan : Plan) (words schedule : List ℕ) (tale : Tale) (p : ℕ) (t : State) (calm after : List ℕ) (call : Call)
     (q : Process) (status : Status)
     (Behind : Option Effect → Status → Type 0) : Type 0 where
@@ -97,7 +98,8 @@ pub record BeginsCall (plan : Plan) (s : State) (p : ℕ) (t : State) (call : Ca
   pub stage : stage_of plan.variant plan.shape call later ≡ call_begun (setting plan.shape plan.variant call)
   pub words : (word : ℕ) → word ≢ 0 → slice_index t.words word ≡ slice_index s.words word
 
--- Process p, which is in this call, makes this access of it in the step, and is at the next stage behind it.
+-- Process p, which is in this call, makes this access of it in the step, and is at the next stage
+-- after it.
 pub record MakesAccess (plan : Plan) (s : State) (p : ℕ) (t : State) (call : Call) (q later : Process) (a : Access) : Type 0 where
   pub here : IsOpen s p call q
   pub behind : IsOpen t p call later
@@ -132,11 +134,11 @@ set_at f p a r = if r == p then a else f r
 abbrev pub OfState : Type 0 → Type 1
 OfState Ghost = Ghost → List ℕ → State → List ℕ → Type 0
 
--- and of an open call of a process, and its status
+-- a statement on a ghost, the state, an open call of a process, and its status
 abbrev pub OfCall : Type 0 → Type 1
 OfCall Ghost = Ghost → List ℕ → State → List ℕ → ℕ → Call → Process → Status → Type 0
 
--- Behind the step of p this is so of a ghost, and what is so of each other call stays so.
+-- After the step of p, some ghost has this, and what fits each other call still fits it.
 pub record IsLedOn (Ghost : Type 0) (World : OfState Ghost) (Fits : OfCall Ghost) (ghost : Ghost) (schedule : List ℕ) (p : ℕ) (s t : State)
     (calm after : List ℕ) (Own : Ghost → Type 0) : Type 0 where
   pub next : Ghost
@@ -145,9 +147,8 @@ pub record IsLedOn (Ghost : Type 0) (World : OfState Ghost) (Fits : OfCall Ghost
   pub others : (r : ℕ) (call : Call) (q : Process) (status : Status) → r ≢ p → IsOpen s r call q → IsOpen t r call q
       → Fits ghost schedule s calm r call q status → Fits next (schedule ++ p ∷ []) t after r call q status
 
--- All of it is so before the first step, and is led on by each step: that begins a call, that makes an access of it, and that answers it,
--- with the reply of
--- its status.
+-- All of it holds before the first step, and each step preserves it: one that begins a call, one
+-- that makes an access of it, and one that answers it with the reply of its status.
 pub record AreLed (plan : Plan) (start : Contents) (words : List ℕ) (Ghost : Type 0) (World : OfState Ghost)
     (Fits : OfCall Ghost) : Type 0 where
   pub first : IsRun plan start words [] (opened_on plan words) → IsAtRest plan.shape (length start + 1) words → Means plan.shape words start

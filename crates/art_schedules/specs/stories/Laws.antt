@@ -21,7 +21,7 @@ StoriesGiveEffects = (plan : Plan) (start : Contents) (words schedule : List ℕ
     → IsRun plan start words schedule s
     → IsStory plan start (opened_on plan words) schedule tale → HaveEffects plan start (opened_on plan words) schedule
 
--- so such a run is linearizable.
+-- a run that has a story is linearizable
 abbrev pub StoriesGiveOrders : Type 0
 StoriesGiveOrders = (plan : Plan) (start : Contents) (words schedule : List ℕ) (s : State) (tale : Tale) → IsRun plan start words schedule s
     → IsStory plan start (opened_on plan words) schedule tale → IsLinearizable start (operations (history_of s))

@@ -26,12 +26,12 @@ HasReply Before reply = ⊥
 HasReply (Found r) reply = r ≡ reply
 HasReply (Changed r) reply = r ≡ reply
 
--- What is told of a run: the pairs before each step, and whether the step changes them.
+-- The tale of a run: the pairs before each step, and whether the step changes them.
 pub record Tale : Type 0 where
   pub pairs : ℕ → Contents
   pub changes : ℕ → Bool
 
--- At moment t process p is in this call, the last of so many that it has begun.
+-- At moment t process p is in this call, the last of this many that it has begun.
 pub record IsInCall (plan : Plan) (first : State) (schedule : List ℕ) (t p calls : ℕ) (call : Call) : Type 0 where
   pub now : State
   pub at : At plan first schedule t now
@@ -71,8 +71,8 @@ HasStatus plan first schedule tale t p calls call Before = HasKept plan first sc
 HasStatus plan first schedule tale t p calls call (Found reply) = HasFound plan first schedule tale t p calls call reply
 HasStatus plan first schedule tale t p calls call (Changed reply) = HasChanged plan first schedule tale t p calls call reply
 
--- The tale is a story of the run: other steps leave the pairs, and at each moment each open call has a status, which at the step that
--- answers it has the reply.
+-- The tale is a story of the run. Other steps leave the pairs. At each moment each open call has a
+-- status, and at the step that answers it this status has the reply.
 pub record IsStory (plan : Plan) (start : Contents) (first : State) (schedule : List ℕ) (tale : Tale) : Type 0 where
   pub begins : tale.pairs 0 ≡ start
   pub stay : (t : ℕ) → t < length schedule → tale.changes t ≡ false → tale.pairs (t + 1) ≡ tale.pairs t

@@ -7,12 +7,12 @@ use Rattle.art_stages.specs.declared.stage.Work.{Work}
 use Rattle.art_stages.specs.declared.stage.Stage.{Stage}
 use Rattle.art_stages.specs.Automaton.{work_at}
 use Rattle.art_stages.specs.Calls.{OnKey}
-use Rattle.art_versions.specs.versions.Holding.{Knows}
-use Rattle.art_versions.specs.versions.Laws.{IsFull}
+use Rattle.art_schedules.specs.versions.Holding.{Knows}
+use Rattle.art_schedules.specs.versions.Laws.{IsFull}
 use Rattle.art_schedules.specs.work.Solo.{Solo}
 use Rattle.art_schedules.specs.work.Works.{RowsOf, FitsWords, IsRelease, IsWorkDone}
 
--- Where the work has come to its first release by itself, it has left what its kind says.
+-- If the work alone has come to its first release, it has left what its kind says.
 abbrev pub WorkIsDone : Type 0
 WorkIsDone = (c : Setting) (h : Hold) (work : Work) (w0 words : List ℕ) (at : Stage) → IsFull c.variant → is_scan c.call ≡ false
     → 1 ≤ c.shape.rows256

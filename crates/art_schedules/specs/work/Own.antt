@@ -16,10 +16,10 @@ use Rattle.art_stages.specs.declared.stage.Stage.TheVariants.{CheckLast, LetGo, 
 use Rattle.art_stages.specs.declared.stage.ScanStep.TheVariants as scan
 use Rattle.art_stages.specs.declared.stage.ScanStep.{ScanStep}
 use Rattle.art_stages.specs.Calls.{CallAt, OnKey, OnScan, call_turn}
-use Rattle.art_versions.specs.versions.Holding.{Each, holds, fills}
-use Rattle.art_versions.specs.versions.Effects.{IsAmong, IsBehindVersion}
+use Rattle.art_schedules.specs.versions.Holding.{Each, holds, fills}
+use Rattle.art_schedules.specs.versions.Effects.{IsAmong, IsBehindVersion}
 
--- the word is one of a row that the call holds, behind its version
+-- the word is one of a row that the call holds, after the row's version
 pub record IsHeldWord (c : Setting) (at : CallAt) (word : ℕ) : Type 0 where
   pub row : Held
   pub among : IsAmong row (holds c at)
@@ -99,9 +99,8 @@ is_lock (OnKey (Exchange t v)) = true
 is_lock (OnKey stage) = false
 is_lock (OnScan low high at) = is_lock_step at.step
 
--- What a call that locks what it reads has besides: it counts the children of a row of kind 48 alone, and a scan holds each row that it
--- reads, or that
--- is on its way.
+-- What else holds of a call that locks what it reads. It counts only the children of a row of kind
+-- 48. A scan holds each row that it reads, or that is on its way.
 abbrev pub IsWalked : Held → List Held → Type 0
 IsWalked n rows = (row : Held) × IsAmong row rows × (row.base ≡ n.base)
 

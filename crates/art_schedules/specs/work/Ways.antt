@@ -32,7 +32,8 @@ pub record HasChild (c : Setting) (calm : List ℕ) (n : Held) (slot : ℕ) (chi
 abbrev pub HangsOnWay : Setting → List ℕ → Held → ℕ → Child → Type 0
 HangsOnWay c calm n slot child = IsOnWay c calm n × HasChild c calm n slot child
 
--- What was read of a row that has not the byte: only an insert has to know it. The flag says that the call is an insert.
+-- What was read of a row that lacks the byte: only an insert has to know it. The flag says that the
+-- call is an insert.
 abbrev pub KnowsKeys : Bool → Setting → List ℕ → Held → Keys → Type 0
 KnowsKeys true c calm n keys = LacksByte c n keys calm
 KnowsKeys false c calm n keys = slot_in c calm n ≡ None
@@ -47,6 +48,6 @@ pub record IsInTree (shape : Shape) (calm : List ℕ) (row : Held) : Type 0 wher
   pub reached : Reached shape calm row.base row.kind
   pub live : is_obsolete row.kept ≡ false
 
--- both lists have the same words of the row behind its version
+-- both lists have the same words of the row after its version
 abbrev pub IsSame : List ℕ → List ℕ → Held → Type 0
 IsSame words later row = SameRow words later row.base row.kind

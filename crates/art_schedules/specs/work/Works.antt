@@ -26,7 +26,7 @@ use Rattle.art_core.specs.Forms.{HasForm}
 use Rattle.art_serial.specs.writes.Writes.{HasPut, IsOutside}
 use Rattle.art_serial.specs.trees.Trees.{IsUnused}
 use Rattle.art_serial.specs.alone.Finding.{count_in_row, keys_in_row}
-use Rattle.art_versions.specs.versions.Holding.{OfRows}
+use Rattle.art_schedules.specs.versions.Holding.{OfRows}
 
 -- the rows of the table
 abbrev pub RowsOf : Shape → OfRows
@@ -100,7 +100,8 @@ FindsUnused c h (work.Pair p) number words = IsUnused c.shape words Four number
 FindsUnused c h (work.Put keys) number words = Unit {0}
 FindsUnused c h (work.Grow slot keys) number words = IsUnused c.shape words (next_kind h.row.kind) number
 
--- What the work leaves where it comes to the first release, where its claim, if it makes one, got this number.
+-- What the work has left when it comes to the first release. If it makes a claim, the claim got
+-- this number.
 abbrev pub IsDoneBy : Setting → Hold → Work → ℕ → List ℕ → Stage → List ℕ → Type 0
 IsDoneBy c h (work.Write slot word reply) number words at later = (at ≡ Unlock h (Some (Value reply))) × (later ≡ slice_set words slot word)
 IsDoneBy c h (work.Pair p) number words at later =

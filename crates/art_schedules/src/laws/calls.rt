@@ -1,14 +1,14 @@
 // Laws of the calls of a run, each the contract of a function that does nothing.
 ghost use Rattle.art_schedules.specs.calls.Laws.{RunsHaveCalls, EffectsGiveOrders, MomentsEndRuns, FrontsHaveMoments};
 
-/// The calls of a run's history are those that its processes begin: each at one step, with the next call of a script,
-/// and answered at a later one or not yet.
+/// The calls of a run's history are those that its processes begin. Each is begun at one step, as
+/// the next call of a script, and answered at a later step or not yet.
 pub fn runs_have_calls()
     ensures { RunsHaveCalls }
 {}
 
-/// A run is linearizable where each call takes effect within itself: at the one step of its process that changes the
-/// pairs, or at a moment at which they are as it found them.
+/// A run is linearizable if each call takes effect within itself. It does so at the one step of its
+/// process that changes the pairs, or at a moment at which they are as it found them.
 pub fn effects_give_orders()
     ensures { EffectsGiveOrders }
 {}

@@ -18,7 +18,7 @@ pub fn effects_follow()
     grown_rows_are_hung();
 }
 
-/// Where the rows of the tree say the same, the tree is the same, whatever the other words are.
+/// If the rows of the tree say the same, the tree is the same, whatever the other words are.
 pub fn kept_trees_follow()
     ensures { KeptTreesFollow }
 {

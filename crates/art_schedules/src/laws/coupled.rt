@@ -13,8 +13,8 @@ pub fn calls_begin()
     ensures { CallsBegin }
 {}
 
-/// A step of a call that knows its way, in a run of the coupled tree: the calm tree stays, and the call knows its way behind it,
-/// or its work begins, or it has found its reply.
+/// A step of a call that knows its way, in a run of the coupled tree, leaves the calm tree as it
+/// is. After it the call knows its way, or its work begins, or it has found its reply.
 pub fn calls_go_on()
     ensures { CallsGoOn }
 {
@@ -23,7 +23,7 @@ pub fn calls_go_on()
     leaves_are_small();
 }
 
-/// A step of a call that has found its reply, in a run of the coupled tree.
+/// In a run of the coupled tree, a call that has found its reply still has it after its step.
 pub fn calls_stay()
     ensures { CallsStay }
 {
@@ -51,19 +51,19 @@ pub fn calls_take_live()
     ensures work { WorkTakesLive }
 {}
 
-/// A row of the calm tree that is obsolete hangs on a row that the process releases which made it obsolete: so it is in tables at
-/// rest, where there is none, and each step keeps it.
+/// If a row of the calm tree is obsolete, the process that made it obsolete still has to release a
+/// row above it. A table at rest has no such row, and each step preserves this.
 pub fn obsolete_rows_leave()
     ensures first { RestsHaveNone }
     ensures next { ObsoleteRowsLeave }
 {}
 
-/// It takes rows of the calm tree alone.
+/// In the coupled tree a call on its way takes only rows of the calm tree.
 pub fn ways_take_reached()
     ensures { WaysTakeReached }
 {}
 
-/// Where a process takes live rows of the calm tree alone, it holds such rows alone behind its step.
+/// If a process holds only live rows of the calm tree, it holds only such rows after its step.
 pub fn good_rows_stay()
     ensures { GoodRowsStay }
 {}
@@ -73,8 +73,8 @@ pub fn others_leave_good()
     ensures { OthersLeaveGood }
 {}
 
-/// A scan that comes to the end of its walk alone on a tree at rest has the pairs of the map, and comes there on all words that are
-/// the same on the rows that it touches.
+/// A scan that comes to the end of its walk alone, on a tree at rest, has the pairs of the map. It
+/// comes there on all words that are the same on the rows that it touches.
 pub fn walks_are_the_maps()
     ensures maps { WalksAreTheMaps }
     ensures stay { WalksStay }

@@ -14,12 +14,12 @@ pub fn work_begins()
     ensures { WorkBegins }
 {}
 
-/// A call at work holds rows of calm's tree alone.
+/// A call at work holds only rows of calm's tree.
 pub fn workers_hold_reached()
     ensures { WorkersHoldReached }
 {}
 
-/// So does a call that only releases rows.
+/// A call that only releases rows holds only rows that are reached.
 pub fn leavers_hold_reached()
     ensures { LeaversHoldReached }
 {}
@@ -74,7 +74,8 @@ pub fn workers_may_have_no_mark()
     ensures { WorkersMayHaveNoMark }
 {}
 
-/// A step of a call at work takes its mark on: the row that it made obsolete goes by its effect.
+/// A step of a call at work carries its mark on: the row that the call made obsolete leaves calm's
+/// tree by its effect.
 pub fn workers_go_on()
     ensures { WorkersGoOn }
 {

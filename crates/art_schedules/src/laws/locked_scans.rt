@@ -18,7 +18,7 @@ pub fn walked_scans_find()
     walks_are_the_maps();
 }
 
-/// A step of a scan that has found its reply: the calm tree stays, and so does the reply.
+/// A step of a scan that has found its reply leaves the calm tree and the reply as they are.
 pub fn found_scans_stay()
     ensures { FoundScansStay }
 {}
@@ -48,7 +48,8 @@ pub fn scans_take_reached()
     ensures { ScansTakeReached }
 {}
 
-/// A step of a scan that knows the calm tree and has not come to the end of its walk: so it does behind the step.
+/// After a step of a scan that knows the calm tree, and has not come to the end of its walk, it
+/// still knows the calm tree.
 pub fn scans_come_on()
     ensures { ScansComeOn }
 {

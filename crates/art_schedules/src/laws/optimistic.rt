@@ -15,13 +15,15 @@ pub fn other_steps_keep_ways()
     ensures { OtherStepsKeepWays }
 {}
 
-/// In a run, a call that has found what it will answer has it behind a step of its own, or starts again; the calm tree stays.
+/// In a run, a call that has found what it will answer still has it after a step of its own, or
+/// starts again. The calm tree stays.
 pub fn own_findings_stay()
     ensures { OwnFindingsStay }
 {}
 
-/// In a run, a step of a call that knows its way: it knows its way then, or starts again, or its work begins, or it has found what
-/// it will answer, at the state before this step; the calm tree stays.
+/// In a run, a call that knows its way makes a step. After it the call knows its way, or starts
+/// again, or its work begins, or it has found what it will answer at the state before this step.
+/// The calm tree stays.
 pub fn own_steps_go_on()
     ensures { OwnStepsGoOn }
 {

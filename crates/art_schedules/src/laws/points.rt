@@ -6,7 +6,7 @@ pub fn points_give_orders()
     ensures { PointsGiveOrders }
 {}
 
-/// Calls that are linearizable have points, so no call needs any order beyond one by points.
+/// Linearizable calls have points. So an order by points is enough for any calls.
 pub fn orders_give_points()
     ensures { OrdersGivePoints }
 {}

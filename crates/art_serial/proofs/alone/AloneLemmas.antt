@@ -12,7 +12,7 @@ use Rattle.art_steps.proofs.TurnLemmas.{asks-same, answers-same, asks-answers}
 
 -- ---- what is left of a call
 
--- as many accesses, however the rest and the words are written
+-- a run makes as many accesses, however the rest and the words are written
 moved : {A : Type 0} (rest : A → Rest) (words : A → List ℕ) {last : List ℕ} {reply : Reply} {x y : A} (e : x ≡ y)
     (h : RunsAlone (rest x) (words x) last reply)
     → accesses (subst (λ x. RunsAlone (rest x) (words x) last reply) e h) ≡ accesses h
@@ -45,7 +45,7 @@ runs-once {rest = rest} {words = words} {last2 = last2} {reply2 = reply2} (goes 
     runs-once r (subst (λ (x : Access). RunsAlone (λ got. rest (got_by x words ∷ got)) (words_after x words) last2 reply2)
     (asks-same (sym k ∙ h)) s)
 
--- by as many accesses
+-- a call that runs alone comes to its end by one number of accesses
 pub accesses-once : {rest : Rest} {words last last2 : List ℕ} {reply reply2 : Reply} (r : RunsAlone rest words last reply)
     (s : RunsAlone rest words last2 reply2) → accesses r ≡ accesses s
 accesses-once (ends h) (ends k) = refl
@@ -291,7 +291,7 @@ act-comes shape variant call {later = later} {reply = reply} h =
     same-runs (act shape variant call) (act-body shape variant call)
     (h.runs (act shape variant call) (λ r got. Answers r) later reply (ends refl))
 
--- as many accesses as the procedure makes
+-- a call makes as many accesses as its procedure
 
 pub act-ends-accesses : (shape : Shape) (variant : Variant) (call : Call) {words later : List ℕ} {reply : Reply}
     (h : Ends (procedure (record { shape = shape; variant = variant; call = call }) call) words reply later)

@@ -132,7 +132,7 @@ module _ (c : Setting) (n : ℕ) (words : List ℕ) (rest : IsAtRest c.shape n w
     free : is_locked version ≡ false
     live : is_obsolete version ≡ false
 
-  -- its lock
+  -- the row below is locked
   lock-like : {now : List ℕ} {held held2 : ℕ → Type 0} {m : ℕ} {k : Kind} → Like c.shape words words now held → Reached c.shape words m k
       → ((w : ℕ) → held w → held2 w) → held2 m → Like c.shape words words (with_lock now m) held2
   lock-like {now} {held} {held2} {m} {k} like reached more holds =

@@ -1,4 +1,4 @@
--- Where a key parts from what hangs on its way: behind the level of the row.
+-- Where a key parts from what hangs on its way: after the level of the row.
 use Rattle.art_serial.proofs.Common.{◌≡◌, ℕ, ◌/◌, ◌%◌, ◌<◌, List, ◌∷◌, Some, None, refl, sym, ap, ◌∙◌, arith, unwrap_or, key_bytes}
 use Rattle.art_serial.proofs.Common.{first_difference, keys_differ_at}
 use Rattle.std.proofs.Common.{◌≢◌, Option}

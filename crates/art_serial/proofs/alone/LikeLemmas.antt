@@ -15,7 +15,7 @@ pub record IsVersion (s : Shape) (words now : List ℕ) (held : ℕ → Type 0) 
   pub live : is_obsolete (slice_index now w) ≡ false
   pub free : (held w → ⊥) → is_locked (slice_index now w) ≡ false
 
--- The words are those aimed at, but for versions of rows that are reached at rest.
+-- The words are those aimed at, except for versions of rows that are reached at rest.
 pub record Like (s : Shape) (words target now : List ℕ) (held : ℕ → Type 0) : Type 0 where
   pub long : length now ≡ table_words s
   pub small : All (λ w. w < 18446744073709551616) now

@@ -11,7 +11,7 @@ pub record Sits (s : Shape) (base : ℕ) (kind : Kind) : Type 0 where
   pub low : number < rows_of s kind
   pub is : base ≡ base_of s kind number
 
--- ---- a word stands in one row only
+-- ---- a word is in one row only
 
 -- two places are one
 abbrev One : Kind → Kind → ℕ → ℕ → ℕ → ℕ → Type 0
@@ -36,7 +36,7 @@ rows-part s Full Four m n i j lm ln li lj e = absurd (omega (arith, lm, ln, li, 
 rows-part s Full Sixteen m n i j lm ln li lj e = absurd (omega (arith, lm, ln, li, lj, e))
 rows-part s Full FortyEight m n i j lm ln li lj e = absurd (omega (arith, lm, ln, li, lj, e))
 
--- the same of rows that sit
+-- if two words of rows are one, so are their rows and their places in them
 pub sits-part : (s : Shape) (a b i j : ℕ) (k l : Kind) → (x : Sits s a k) → (y : Sits s b l) → i < row_words k
     → j < row_words l → a + i ≡ b + j
     → (k ≡ l) × (x.number ≡ y.number) × (a ≡ b) × (i ≡ j)
@@ -45,7 +45,7 @@ sits-part s a b i j k l x y li lj e =
     ∙ (e ∙ ap (λ n. n + j) y.is)) in
     (kinds, numbers, x.is ∙ (ap (λ n. base_of s k n) numbers ∙ (ap (λ q. base_of s q y.number) kinds ∙ sym y.is)), places)
 
--- ---- in the table, behind the counts of claims
+-- ---- in the table, after the counts of claims
 
 pub sits-inside : (s : Shape) (base i : ℕ) (kind : Kind) → Sits s base kind → i < row_words kind → (5 ≤ base) × (base + i < table_words s)
 sits-inside s base i kind x li = subst (λ b. (5 ≤ b) × (b + i < table_words s)) (sym x.is) (go kind x.number x.low li)

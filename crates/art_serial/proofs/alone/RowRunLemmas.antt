@@ -131,7 +131,7 @@ claim-comes c held kind words e =
     answer reply.Refused)}
     (add-comes (claims_of kind) words) (if_true-comes (unlock_all held >> answer reply.Refused) e (give-comes _ _))
 
--- where there is none, the held rows are unlocked and the call is refused.
+-- if there is none, the held rows are unlocked and the call is refused.
 pub claim-ends : (c : Setting) (held : List Row) (kind : Kind) (words : List ℕ)
     → nat_lt (slice_index words (claims_of kind)) (rows_of c.shape kind) ≡ false
     → Ends (claim c held kind) words reply.Refused (unlocked_rows held (with_claim words kind))

@@ -11,7 +11,7 @@ use Rattle.art_serial.proofs.alone.WayLemmas.{WritesWords}
 
 -- ---- the map
 
--- where a key is absent, the pairs below it and above it are all
+-- if a key is absent, the pairs below it and above it are all
 pub absent-parts : (m : Contents) (key : ℕ) → IsRising m → value_at m key ≡ None → below key m ++ above key m ≡ m
 absent-parts [] key rising none = refl
 absent-parts ((k, value) ∷ m) key rising none =

@@ -56,7 +56,7 @@ module _ (s : Shape) (n : ℕ) (words : List ℕ) (rest : IsAtRest s n words) wh
         },
       )
 
-  -- and goes on to a row whose path differs nowhere from the key
+  -- the way of a key goes on to a row whose path differs nowhere from the key
   pub leads-below : {key base x m : ℕ} {kind k : Kind} → LeadsTo s words key base kind x → x < 256
       → child_on s words base kind x ≡ ChildRow m k
       → first_difference (path_in words m k) (key_bytes key) ≡ None

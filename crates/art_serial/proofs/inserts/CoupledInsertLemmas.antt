@@ -40,7 +40,7 @@ module _ (g : Given) (s : Shape) (variant : Variant) (n : ℕ) (words : List ℕ
   abbrev Does : ℕ → Part Reply → List ℕ → Type 0
   Does k part now = Inserts g s variant n words rest few bounded m means key value key_small value_small k part now
 
-  -- the words are those at rest but for versions, and these rows are held
+  -- the words are those at rest except for versions, and these rows are held
   abbrev Holding : List Row → List ℕ → Type 0
   Holding rows now = Near s n words rest Nothing (Among s n words rest rows) Nothing now
 

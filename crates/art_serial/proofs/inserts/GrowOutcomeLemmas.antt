@@ -41,7 +41,8 @@ module _ (trees : SameTreesAreOne) (hangs : GrownRowsAreHung) (written : RowsAre
   abbrev c : Setting
   c = record { shape = s; variant = variant; call = Insert key value }
 
-  -- the part runs alone to a value and to an outcome, or the call is refused, to an outcome too
+  -- the part runs alone to a value and to an outcome; or the call is refused, and that is an
+  -- outcome too
   pub record Grows (part : Part (Unit {0})) (now : List ℕ) : Type 0 where
     pub after : List ℕ
     pub comes : (Comes part now tt after × Outcome s n words rest m means key value reply.None after)
@@ -116,7 +117,7 @@ module _ (trees : SameTreesAreOne) (hangs : GrownRowsAreHung) (written : RowsAre
       slot-above : (j : ℕ) → j < row_words r.kind → r.base + j ≡ slot → ⊥
       slot-above j lj e = below-other s n words rest above.reached y_byte hanging (slot-elsewhere r.base j r.kind leads.reached lj e).0
 
-      -- what was written beside the count of claims
+      -- what was written in addition to the count of claims
       abbrev Extra : ℕ → Type 0
       Extra w = (w ≡ slot) ⊎ ((j : ℕ) × (1 ≤ j) × (j < row_words larger) × (w ≡ row + j))
 

@@ -43,7 +43,7 @@ first-differs (x ∷ xs) (y ∷ ys) d e = go (x == y) refl (λ i f. first-differ
     go true same rest f = later (first_difference xs ys) rest refl f
     go false other rest f = subst (λ j. slice_index (x ∷ xs) j ≢ slice_index (y ∷ ys) j) (same_Some 0 d f) (eqb-false x y other)
 
--- what the ends of an insert stand on
+-- what the ends of an insert use
 pub record Given : Type 0 where
   pub trees : SameTreesAreOne
   pub ways : WaysLeadToValues
@@ -65,7 +65,8 @@ module _ (g : Given) (s : Shape) (variant : Variant) (n : ℕ) (words : List ℕ
   abbrev c : Setting
   c = record { shape = s; variant = variant; call = Insert key value }
 
-  -- A part ends an insert's way: by at most k accesses it runs alone to a reply, or the call is answered so, and it comes to an outcome.
+  -- A part ends an insert's way. By at most k accesses it runs alone to a reply, or the call is
+  -- answered; and the outcome is that of an insert.
   pub record Inserts (k : ℕ) (part : Part Reply) (now : List ℕ) : Type 0 where
     pub reply : Reply
     pub later : List ℕ

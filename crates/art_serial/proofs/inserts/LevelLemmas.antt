@@ -5,7 +5,7 @@ use Rattle.art_serial.proofs.Common.{capacity, count_at, keys_at, more_keys_at, 
 use Rattle.art_serial.proofs.Common.{keys4_of, is_insert, count_in_row}
 use Rattle.std.proofs.Common.{Option, nat_le, option_map}
 
--- lists that begin alike differ first behind that
+-- lists that begin alike differ first after that
 pub differ-behind : (k : ℕ) (xs ys : List ℕ) (d : ℕ) → take k xs ≡ take k ys → k ≤ length xs → first_difference xs ys ≡ Some d → k ≤ d
 differ-behind zero xs ys d same long e = omega arith
 differ-behind (suc k) [] ys d same long e = absurd (none-some d e)

@@ -155,7 +155,7 @@ module _ (s : Shape) (n : ℕ) (words : List ℕ) (rest : IsAtRest s n words) wh
   AreHeld [] = Unit {0}
   AreHeld (r ∷ rows) = IsHeld r × AreHeld rows
 
-  -- they are unlocked
+  -- rows that are held are unlocked
   pub near-unlocked : {out dead : ℕ → Type 0} (rows : List Row) {now : List ℕ} → AreHeld rows → Near out (Among rows) dead now
       → Near out Nothing dead (unlocked_rows rows now)
   near-unlocked [] held near = near
@@ -168,7 +168,7 @@ module _ (s : Shape) (n : ℕ) (words : List ℕ) (rest : IsAtRest s n words) wh
       go w (inl is) ne = absurd (ne is)
       go w (inr a) ne = a
 
-  -- no row's words behind its version change where rows are unlocked
+  -- no row's words after its version change where rows are unlocked
   pub unlocked-other : (rows : List Row) (now : List ℕ) → AreHeld rows → (w : ℕ) → ((kind : Kind) → Sits s w kind → ⊥)
       → slice_index (unlocked_rows rows now) w ≡ slice_index now w
   unlocked-other [] now held w plain = refl
@@ -177,7 +177,7 @@ module _ (s : Shape) (n : ℕ) (words : List ℕ) (rest : IsAtRest s n words) wh
       ∙ get_or-set_other now r.base w (released_word r.kept) 0
       (λ is. plain h.kind (subst (λ b. Sits s b h.kind) (sym is) (sits s n words rest h.reached)))
 
-  -- a word behind a row's version is no row's base
+  -- a word after a row's version is no row's base
   pub behind-plain : (base j : ℕ) (kind : Kind) → Sits s base kind → 1 ≤ j → j < row_words kind → (k : Kind) → Sits s (base + j) k → ⊥
   behind-plain base j kind x low high k y =
       let (kinds, numbers, bases, places) = sits-part s base (base + j) j 0 kind k x y high (omega (arith, two-words k)) (omega arith) in

@@ -16,7 +16,7 @@ use Rattle.art_serial.proofs.inserts.SettledLemmas.{settled-words-rest}
 
 -- ---- words and rows
 
--- a word stands before so many words, behind them, or among them
+-- a word comes before this many words, after them, or among them
 pub split : (w base len : ℕ) → (w < base) ⊎ ((base + len ≤ w) ⊎ ((j : ℕ) × (j < len) × (w ≡ base + j)))
 split w base len = below (cases_order w base)
   where
@@ -31,7 +31,7 @@ split w base len = below (cases_order w base)
     below (inr (inl lt)) = inl lt
     below (inr (inr gt)) = above (omega (arith, gt)) (cases_order w (base + len))
 
--- what hangs on a byte of a row whose words but the version are the same
+-- what hangs on a byte of a row that has the same words, except its version
 pub child-same : (s : Shape) (words later : List ℕ) (base : ℕ) (kind : Kind) (x : ℕ) → x < 256 → SameRow words later base kind
     → child_on s later base kind x ≡ child_on s words base kind x
 child-same s words later base kind x byte same =
@@ -53,7 +53,7 @@ child-same s words later base kind x byte same =
         first k = grind arith
 
 module _ (s : Shape) (n : ℕ) (words : List ℕ) (rest : IsAtRest s n words) where
-  -- no row stands before word 5
+  -- no row comes before word 5
   pub no-row : (w : ℕ) → w < 5 → (kind : Kind) → Sits s w kind → ⊥
   no-row w low kind x = omega (arith, low, (sits-inside s w 0 kind x (omega (arith, two-words kind))).0)
 

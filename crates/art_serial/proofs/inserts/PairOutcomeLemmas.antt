@@ -119,7 +119,7 @@ module _ (trees : SameTreesAreOne) (hangs : PairsAreHung) (written : writes.Pair
       abbrev later : List ℕ
       later = unlocked_rows rows after
 
-      -- what was written beside the count of claims
+      -- what was written in addition to the count of claims
       abbrev Extra : ℕ → Type 0
       Extra w = (w ≡ slot) ⊎ ((j : ℕ) × (1 ≤ j) × (j < 7) × (w ≡ row + j))
 

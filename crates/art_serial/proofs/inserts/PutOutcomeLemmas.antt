@@ -1,4 +1,5 @@
--- A leaf that an insert writes in a held row, in the slot of its byte or beside the other children, and what comes of it.
+-- A leaf that an insert writes in a held row, in the slot of its byte or next to the other
+-- children, and what comes of it.
 use Rattle.art_serial.proofs.Common.{◌≡◌, ◌⊎◌, inl, inr, ℕ, ◌+◌, ◌-◌, ◌<◌, ◌≤◌, ◌==◌, List, [], ◌∷◌, length, slice_index, Bool, true, false}
 use Rattle.art_serial.proofs.Common.{Some, None, refl, sym, ap, ◌∙◌, subst, arith, eqb-true, eqb-false, cases_order, All-set, length-set}
 use Rattle.art_serial.proofs.Common.{get_or-set_same, get_or-set_other, Insert, Contents, value_at, value_reply, put, Shape, Kind, Leaf}

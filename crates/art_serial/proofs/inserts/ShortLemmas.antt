@@ -18,14 +18,15 @@ abbrev IsAnswered : Turn → Type 0
 IsAnswered (Asks a p) = ⊥
 IsAnswered (Answers r) = Unit {0}
 
--- it answers after so many words
+-- a rest answers after this many words
 record AnswersFrom (n : ℕ) (r : Rest) : Type 0 where
   at : (got : List ℕ) → n ≤ length got → IsAnswered (r got)
 
 from-more : {j n : ℕ} {r : Rest} → AnswersFrom j r → j ≤ n → AnswersFrom n r
 from-more h le = record { at = λ got long. h.at got (omega (arith, le, long)) }
 
--- Where what comes after it answers after some words, the part does after so many more. Where it starts again is left out.
+-- If what comes after it answers after some words, the part does after this many more. Where it
+-- starts again is left out.
 pub record Short {A : Type 0} (k : ℕ) (m : Part A) : Type 0 where
   rest : (n : ℕ) (again : Rest) (after : A → Rest) → AnswersFrom 0 again → ((a : A) → AnswersFrom n (after a))
       → AnswersFrom (k + n) (m again after)
@@ -123,7 +124,7 @@ exchange-short word from to = record { rest = λ n again after r t. record { at 
 add-short : (word : ℕ) → Short 1 (add word)
 add-short word = record { rest = λ n again after r t. record { at = access-short _ _ n after t } }
 
--- so many times the same
+-- one number added to itself n times
 abbrev times : ℕ → ℕ → ℕ
 times k zero = 0
 times k (suc n) = k + times k n
@@ -223,7 +224,7 @@ pub same-ends-steps : {A : Type 0} {m n : Part A} {words later : List ℕ} {r : 
 unfolding same-ends
 same-ends-steps e h = refl
 
--- as few as it is shown in another way
+-- a part makes as few accesses as was shown in another way
 pub as-few : {A : Type 0} {m : Part A} {words later later2 : List ℕ} {a a2 : A} {n : ℕ} (h : Comes m words a later)
     (k : Comes m words a2 later2)
     → k.steps ≤ n → h.steps ≤ n

@@ -98,7 +98,7 @@ as-long (a ∷ calls) (c ∷ done) h = ap suc (as-long calls done h.1)
 module _ (shape : Shape) (variant : Variant) (claim : Said) (kept : IsKept shape variant claim) (made : ℕ) (first : List ℕ)
     (start : Contents)
     (said : claim made first start) where
-  -- what is so of calls that have run alone
+  -- what holds of calls that have run alone
   pub record Kept (done : List (Call × Reply)) (words : List ℕ) : Type 0 where
     pub legal : AreLegal start done
     pub is_said : claim (made + length done) words (after_done start done)

@@ -44,7 +44,7 @@ module _ (plan : Plan) (first : List ℕ) where
   abbrev pub HasOneInCall : State → Type 0
   HasOneInCall s = (p : ℕ) × (q : Process) × (call : Call) × IsInCall s p q call
 
-  -- as long as the history is serial
+  -- a state is orderly as long as the history is serial
   abbrev pub IsOrderly : State → Type 0
   IsOrderly s = IsSerialSoFar (logged s.processes) → IsAtRest s ⊎ HasOneInCall s
 

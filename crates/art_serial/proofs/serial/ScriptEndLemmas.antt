@@ -12,7 +12,7 @@ use Rattle.art_core.proofs.RunLemmas.{run-on-append}
 use Rattle.art_core.proofs.HistoryLemmas.{step-lengths}
 use Rattle.art_serial.proofs.serial.KeptLemmas.{Said, IsKept}
 
--- Where this is said, the call, run alone, makes at most 1,000 accesses.
+-- If this is said, the call, run alone, makes at most 1,000 accesses.
 abbrev pub IsBrief : Shape → Variant → Said → Call → Type 0
 IsBrief shape variant claim call = (n : ℕ) (words : List ℕ) (m : Contents) → n < call_limit → claim n words m
     → (last : List ℕ) (reply : Reply)
@@ -143,7 +143,7 @@ module _ (shape : Shape) (variant : Variant) (script : List Call) where
             (slice_index words 0, Invoke 0 call)));
       }
 
-  -- A state in which nothing is left to do, after so many steps at most.
+  -- A state in which nothing is left to do, after this many steps at most.
   pub record ComesToEnd (most : ℕ) (words : List ℕ) (q : Process) : Type 0 where
     pub steps : ℕ
     pub few : steps ≤ most

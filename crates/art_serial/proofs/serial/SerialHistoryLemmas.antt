@@ -69,7 +69,7 @@ module _ (p : ℕ) (call : Call) (reply : Reply) where
   more-calls (Invoke i c ∷ Invoke j b ∷ es) h = absurd h
   more-calls (Invoke i c ∷ Answer j r ∷ es) h = ap (λ l. (c, r) ∷ l) (more-calls es h.1)
 
--- they are no more than were invoked
+-- the calls of a serial history are no more than were invoked
 pub calls-counted : (es : List Event) → IsSerial es → length (calls_of es) ≤ call_count es
 calls-counted [] h = omega arith
 calls-counted (Answer i r ∷ es) h = absurd h
@@ -84,7 +84,7 @@ calls-counted (Invoke i c ∷ Answer j r ∷ es) h =
           (λ e. cond (is_invocation e) 1 0) (Answer j r) es,
     )
 
--- they are the history's, in its order
+-- the calls of a serial history are the history's, in its order
 pub calls-are-done : (i : ℕ) (es : List Event) → IsSerial es → AllZip IsDone (operations_from i es) (calls_of es)
 calls-are-done i [] h = tt
 calls-are-done i (Answer p r ∷ es) h = absurd h
@@ -95,7 +95,7 @@ calls-are-done i (Invoke p c ∷ Answer q r ∷ es) h = ((refl, answered), calls
     answered : IsSomeAnd (response_from p (suc i) (Answer q r ∷ es)) (λ response. response.reply ≡ r)
     answered = let own : (q == p) ≡ true = eq-eqb q p (sym h.0) in rw own refl
 
--- and with an invocation more they are serial so far
+-- serial events with one invocation more are serial so far
 pub so-far-more : (es : List Event) (p : ℕ) (call : Call) → IsSerial es → IsSerialSoFar (es ++ Invoke p call ∷ [])
 so-far-more [] p call h = tt
 so-far-more (Answer i r ∷ es) p call h = absurd h

@@ -30,7 +30,7 @@ no-calls e = cc
 some-call : {c : Call} {cs : List Call} → [] ≡ c ∷ cs → ⊥
 some-call e = cc
 
--- a key above all others is inserted behind them
+-- a key above all others is inserted after them
 put-last : (m : Contents) (key value : ℕ) (start : Contents) → IsRising (m ++ (key, value) ∷ start)
     → put key value m ≡ m ++ (key, value) ∷ []
 put-last m key value start rising =

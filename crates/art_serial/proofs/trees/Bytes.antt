@@ -68,7 +68,7 @@ never_differs (suc n) (b ∷ bytes) =
     ap (λ t. if t then option_map (λ d. d + 1) (first_difference (take n bytes) bytes) else Some 0) (eq-eqb b b refl)
     ∙ ap (λ o. option_map (λ d. d + 1) o) (never_differs n bytes)
 
--- so what differs is no beginning
+-- a list that differs from the bytes is no beginning of them
 pub begins_not : (n d : ℕ) (xs bytes : List ℕ) → xs ≡ take n bytes → first_difference xs bytes ≡ Some d → ⊥
 begins_not n d xs bytes begins h =
     none-some d (sym (never_differs n bytes) ∙ (ap (λ zs. first_difference zs bytes) (sym begins) ∙ h))
@@ -111,13 +111,13 @@ parts_at (x ∷ xs) (y ∷ ys) d h = go (x == y) refl (λ k is. parts_at xs ys k
       apart = λ same. grind (arith, is, eq-eqb x y same);
     })
 
--- lists that begin alike part behind that
+-- lists that begin alike part after that
 pub deeper : (xs ys : List ℕ) (level d : ℕ) → PartsAt xs ys d → take (level + 1) xs ≡ take (level + 1) ys → level < d
 deeper xs ys level d parts alike = ⊎_elim
     (λ low. absurd (parts.apart (sym (byte_less d (level + 1) xs low) ∙ (ap (λ zs. slice_index zs d) alike ∙ byte_less d
     (level + 1) ys low))))
     (λ high. omega (arith, high)) (cases_lt d (level + 1))
 
--- the byte at which they part, behind what they have alike
+-- the byte at which they part, after what they have alike
 pub parted_byte : (xs ys : List ℕ) (d a : ℕ) → PartsAt xs ys d → a ≡ slice_index xs d → take (d + 1) xs ≡ take d ys ++ a ∷ []
 parted_byte xs ys d a parts byte = one_more d xs parts.first ∙ ap₂ (λ zs z. zs ++ z ∷ []) parts.before (sym byte)

@@ -15,7 +15,7 @@ module _ (f : ℕ → Contents) where
       let (x, low, high, is) = found_from (first + 1) n p later in
       (x, omega (arith, low), omega (arith, high), is)) (Contains-append_cases (f first) (flat_map f (numbers (first + 1) n)) p h)
 
-  -- and what is at one of them is found
+  -- what is at one of the numbers is found
   pub found_at : (first n x : ℕ) (p : ℕ × ℕ) → first ≤ x → x < first + n → Contains (f x) p → Contains (flat_map f (numbers first n)) p
   found_at first zero x p low high is = absurd (omega (arith, low, high))
   found_at first (suc n) x p low high is = ⊎_elim
@@ -23,7 +23,7 @@ module _ (f : ℕ → Contents) where
       (λ other. Contains-append_right (f first) (flat_map f (numbers (first + 1) n)) p
       (found_at (first + 1) n x p (omega (arith, low, other)) (omega (arith, high)) is)) (cases_eq first x)
 
-  -- where each list rises, below those of the greater numbers, all of it rises
+  -- if each list rises, below those of the greater numbers, all of it rises
   pub found_rising : (first n : ℕ) → ((x : ℕ) → first ≤ x → x < first + n → IsRising (f x))
       → ((x y : ℕ) (p q : ℕ × ℕ) → first ≤ x → x < y → y < first + n → Contains (f x) p → Contains (f y) q → p.0 < q.0)
       → IsRising (flat_map f (numbers first n))

@@ -47,7 +47,7 @@ module _ (s : Shape) (words later : List ℕ) (key value high : ℕ) (above : Ki
   at_place : (c : ℕ) (j : Kind) (z : ℕ) → IsPlace high above y c j z → child_on s later c j z ≡ Row row larger
   at_place c j z at = child_there s later high above y c j z at ∙ change.here
 
-  -- each other child of the rows but the one that was grown is the same,
+  -- each other child of the rows is the same, except the one that was grown,
   spot : (c : ℕ) (j : Kind) (z : ℕ) → Reached s words c j → c ≢ base → z < 256
       → IsPlace high above y c j z ⊎ (child_on s later c j z ≡ child_on s words c j z)
   spot c j z r not small = ⊎_elim
@@ -58,7 +58,7 @@ module _ (s : Shape) (words later : List ℕ) (key value high : ℕ) (above : Ki
       ∙ (change.other_bytes z small other ∙ sym (ap₂ (λ c j. child_on s words c j z) here same)))) (cases_eq z y))
       (λ apart. inr (child_same words later c s j z small (change.others c j r apart not))) (cases_eq c high)
 
-  -- and so are their infos and their forms
+  -- the infos and the forms of these rows are the same,
   same_info : (c : ℕ) (j : Kind) → Reached s words c j → c ≢ base → slice_index later (info_at c) ≡ slice_index words (info_at c)
   same_info c j r not = ⊎_elim
       (λ here. subst (λ c. slice_index later (info_at c) ≡ slice_index words (info_at c)) (sym here) change.info)

@@ -11,6 +11,6 @@ abbrev pub MayHang : Kind → ℕ → ℕ → Kind → ℕ → Type 0
 MayHang k w x m v = ((info_of k w).level < (info_of m v).level)
     × (take ((info_of k w).level + 1) (info_of m v).path ≡ (info_of k w).path ++ x ∷ [])
 
--- and so a leaf
+-- a leaf with this key may hang on the byte of a row with this info
 abbrev pub LeafMayHang : Kind → ℕ → ℕ → ℕ → Type 0
 LeafMayHang k w x key = take ((info_of k w).level + 1) (key_bytes key) ≡ (info_of k w).path ++ x ∷ []

@@ -27,7 +27,7 @@ module _ (s : Shape) (words later : List ℕ) (m : Contents) (key : ℕ) (means 
     );
   }
 
-  -- or none
+  -- the key has no leaf
   pub means_removed : ((value : ℕ) → Hangs s later key value → ⊥) → Means s later (below key m ++ above key m)
   means_removed none = record {
     rising = rising_without m key means.rising;

@@ -14,7 +14,7 @@ use Rattle.art_serial.proofs.trees.Ways.{empty-leaf, empty-row, row-leaf, same_b
 use Rattle.art_serial.proofs.trees.Changes.{elsewhere, infos_stay, forms_stay, child_there, one_kind, way_byte, way_leaf, IsPlace}
 use Rattle.art_serial.proofs.trees.NewMaps.{HasOtherLeaves, means_put}
 
--- the byte at which the child's keys part from the key lies behind the row's path
+-- the byte at which the child's keys part from the key lies after the row's path
 record IsBehind (level d a b : ℕ) : Type 0 where
   few : d < 4
   lower : level < d
@@ -34,7 +34,7 @@ module _ (s : Shape) (words : List ℕ) (key base : ℕ) (kind : Kind) (x d a b 
     apart = λ same. parts.apart (sym here ∙ (same ∙ byte));
   }
 
-  -- of each child
+  -- each child parts from the key after the row's path
   behind : (child : Child) → child_on s words base kind x ≡ child → Parts words key d a child → IsBehind (level_in words base kind) d a b
   behind Empty on parts = absurd parts
   behind (Leaf k v) on parts =

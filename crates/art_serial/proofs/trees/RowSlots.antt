@@ -1,4 +1,4 @@
--- Where the slot of a byte stands in its row, and that two bytes have two.
+-- Where the slot of a byte is in its row, and that two bytes have two.
 use Rattle.art_serial.proofs.Common.{◌≡◌, ℕ, suc, ◌+◌, ◌-◌, ◌%◌, ◌<◌, ◌≤◌, ◌==◌, List, [], ◌∷◌, length, slice_index, Some, None, Bool, true}
 use Rattle.art_serial.proofs.Common.{false, refl, sym, ap, ◌∙◌, subst, arith, if◌then◌else◌, none-some, same_Some, Kind, Four, Sixteen}
 use Rattle.art_serial.proofs.Common.{FortyEight, Full, row_words, keys_at, more_keys_at, index_at, count_at, child_at, place_of, keys4_of}
@@ -7,11 +7,11 @@ use Rattle.art_serial.proofs.Common.{slot_of, HasForm}
 use Rattle.std.proofs.Common.{Option, option_map}
 use Rattle.std.proofs.lemmas.Bool.{eqb-true}
 
--- a word of the row behind its version
+-- a word of the row after its version
 abbrev pub IsWithin : ℕ → Kind → ℕ → Type 0
 IsWithin base kind slot = (j : ℕ) × (slot ≡ base + j) × (1 ≤ j) × (j < row_words kind)
 
--- a slot among so many children
+-- a slot among this many children
 slot_within : (base : ℕ) (kind : Kind) (first n : ℕ) (o : Option ℕ) (slot : ℕ) → 1 ≤ first → first + n ≤ row_words kind
     → ((i : ℕ) → o ≡ Some i → i < n)
     → option_map (λ i. base + first + i) o ≡ Some slot → IsWithin base kind slot

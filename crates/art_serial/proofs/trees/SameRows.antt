@@ -1,4 +1,5 @@
--- A row whose words but the version are those of another table: what hangs on its bytes, and its form.
+-- A row that has the words of another table, except its version: what hangs on its bytes, and its
+-- form.
 use Rattle.art_serial.proofs.Common.{◌≡◌, ℕ, ◌<◌, List, slice_index, Some, None, refl, sym, ap, ◌∙◌, arith, Shape, Kind, info_at, child_of}
 use Rattle.art_serial.proofs.Common.{slot_of, child_in, child_on, HasForm, SameRow}
 use Rattle.std.proofs.Common.{Option}

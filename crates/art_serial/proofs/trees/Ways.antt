@@ -30,7 +30,7 @@ pub empty-row : (b : ℕ) (k : Kind) → Empty ≡ Row b k → ⊥
 empty-row b k h = cc
 
 module _ (s : Shape) (words bytes : List ℕ) where
-  -- the child on the byte of the bytes that tells a row's children apart
+  -- the child on the byte that selects a child of the row
   abbrev pub next_child : ℕ → Kind → Child
   next_child b k = child_on s words b k (slice_index bytes (level_in words b k))
 
@@ -42,7 +42,7 @@ module _ (s : Shape) (words bytes : List ℕ) where
   abbrev pub HasNext : ℕ → Kind → Type 0
   HasNext b k = (c : ℕ) × (j : Kind) × (next_child b k ≡ Row c j) × Begins c j
 
-  -- the row is the one after so many steps down from the root
+  -- the row is the one after this many steps down from the root
   abbrev OnWay : ℕ → ℕ → Kind → Type 0
   OnWay zero b k = (b ≡ root_base s) × (k ≡ Full)
   OnWay (suc i) b k = (c : ℕ) × (j : Kind) × OnWay i c j × (next_child c j ≡ Row b k) × Begins b k

@@ -9,7 +9,7 @@ use Rattle.art_serial.proofs.alone.AloneLemmas.{over_none-comes, over-comes}
 use Rattle.art_serial.proofs.walks.EnterLemmas.{Walking}
 use Rattle.art_serial.proofs.walks.VisitLemmas.{Walks}
 
--- one byte more tells which
+-- paths with one byte more are equal only if these bytes are
 pub other-byte : (path : List ℕ) (x y : ℕ) → path ++ x ∷ [] ≡ path ++ y ∷ [] → x ≡ y
 other-byte [] x y e = ap (λ l. slice_index l 0) e
 other-byte (a ∷ path) x y e = other-byte path x y (ap (λ l. tail l) e)
@@ -30,7 +30,7 @@ module _ (c : Setting) (n : ℕ) (words : List ℕ) (rest : IsAtRest c.shape n w
   WalksEach locking f under xs = (x : ℕ) (w : Walked) (now : List ℕ) → Contains xs x → Walking c n words rest locking now w.rows
       → FreeBelow x w.rows → length (w.pairs ++ under x) ≤ 4096 → Walks c n words rest low high locking (f x w) now w (under x) (IsBelow x)
 
-  -- they walk one after another
+  -- the parts walk one after another
   pub walks-over : (locking : Bool) (f : ℕ → Walked → Part Walked) (under : ℕ → Contents) (xs : List ℕ) (w : Walked) (now : List ℕ)
       → WalksEach locking f under xs → AllPairs (λ a b. a < b) xs → Walking c n words rest locking now w.rows
       → ((x : ℕ) → Contains xs x → FreeBelow x w.rows) → length (w.pairs ++ flat_map under xs) ≤ 4096

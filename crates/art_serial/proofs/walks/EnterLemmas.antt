@@ -10,7 +10,7 @@ use Rattle.art_serial.proofs.alone.VersionLemmas.{locked-live, released-live, re
 use Rattle.art_serial.proofs.alone.LikeLemmas.{Like, IsVersion, Nothing, like-version, like-free, like-live}
 
 module _ (c : Setting) (n : ℕ) (words : List ℕ) (rest : IsAtRest c.shape n words) where
-  -- where rows are locked, those that were read are held
+  -- if rows are locked, those that were read are held
   abbrev pub HeldIn : Bool → List Row → ℕ → Type 0
   HeldIn true rows base = has_row base rows ≡ true
   HeldIn false rows base = ⊥
@@ -22,7 +22,7 @@ module _ (c : Setting) (n : ℕ) (words : List ℕ) (rest : IsAtRest c.shape n w
     pub live : is_obsolete r.kept ≡ false
     pub same : locking ≡ false → slice_index now r.base ≡ r.kept
 
-  -- the rows that were read stand, and nothing else has changed
+  -- the rows that were read have their words, and nothing else has changed
   pub record Walking (locking : Bool) (now : List ℕ) (rows : List Row) : Type 0 where
     pub like : Like c.shape words words now (HeldIn locking rows)
     pub stand : All (Stands locking now) rows
@@ -51,7 +51,7 @@ module _ (c : Setting) (n : ℕ) (words : List ℕ) (rest : IsAtRest c.shape n w
     pub comes : Comes (enter c base) now version later
     pub walking : (r : Row) → r.base ≡ base → r.kind ≡ kind → r.kept ≡ version → Walking locking later (rows ++ r ∷ [])
 
-  -- the row that is entered stands
+  -- the row that is entered has its words
   stands-new : (locking : Bool) (now : List ℕ) (base : ℕ) (kind : Kind) (v : ℕ) (r : Row) → r.base ≡ base → r.kind ≡ kind → r.kept ≡ v
       → Reached c.shape words base kind → is_locked v ≡ false → is_obsolete v ≡ false → (locking ≡ false → slice_index now base ≡ v)
       → Stands locking now r
@@ -103,7 +103,7 @@ module _ (c : Setting) (n : ℕ) (words : List ℕ) (rest : IsAtRest c.shape n w
 
   -- ---- at the end
 
-  -- all rows are let go
+  -- all rows are released
   pub record LetsGo (now : List ℕ) (rows : List Row) : Type 0 where
     pub later : List ℕ
     pub comes : Comes (if locks c.variant then unlock_all rows else each rows (check_of c)) now tt later

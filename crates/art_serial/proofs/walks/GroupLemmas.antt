@@ -7,7 +7,7 @@ use Rattle.art_serial.proofs.walks.FlatLemmas.{Contains-flat_map, Contains-from_
 use Rattle.art_serial.proofs.walks.OrderLemmas.{same_members-same}
 use Rattle.art_serial.proofs.walks.NumberLemmas.{Contains-numbers, numbers-rise}
 
--- those of the eight from 8 * j on
+-- the bytes among the eight from 8 * j on
 abbrev pub group : List ℕ → ℕ → List ℕ
 group xs j = filter (λ x. x / 8 == j) xs
 

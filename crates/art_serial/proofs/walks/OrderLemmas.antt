@@ -2,7 +2,7 @@
 use Rattle.art_serial.proofs.Common.{◌≡◌, List, [], ◌∷◌, refl, sym, ap, ◌∙◌, subst, ⊎_elim, All, AllPairs, Contains, All-contains, AllPairs-head}
 use Rattle.art_serial.proofs.Common.{AllPairs-tail, Contains-first, Contains-later, Contains-nil, Contains-cases}
 
--- A list in an order by which no two elements stand before each other is determined by its members.
+-- A list in an order by which no two elements come before each other is determined by its members.
 module _ {X : Type 0} (R : X → X → Type 0) (asymmetric : (x y : X) → R x y → R y x → ⊥) where
   -- the first of two such lists is the same
   same_first : (x : X) (xs : List X) (y : X) (ys : List X) → All (R x) xs → All (R y) ys → Contains (y ∷ ys) x → Contains (x ∷ xs) y → x ≡ y

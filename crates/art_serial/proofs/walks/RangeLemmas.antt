@@ -21,7 +21,7 @@ begins-number (a ∷ b ∷ c ∷ []) x key small h =
     omega (arith, small, ap (λ l. slice_index l 0) h, ap (λ l. slice_index l 1) h, ap (λ l. slice_index l 2) h, ap (λ l. slice_index l 3) h)
 begins-number (a ∷ b ∷ c ∷ d ∷ path) x key small h = absurd (omega (arith, ap (λ l. length l) h, length-append path (x ∷ [])))
 
--- a key of the range can lie under the byte that it has
+-- if a key of the range begins with a path and a byte, keys of the range can be under that byte
 bounds : (path : List ℕ) (x key low high : ℕ) → key < 2 ^ 32 → BeginsWith path x key → low ≤ key → key ≤ high
     → (big_endian (big_endian 0 path) (x ∷ []) * 256 ^ (3 - length path) ≤ high)
     × (low < (big_endian (big_endian 0 path) (x ∷ []) + 1) * 256 ^ (3 - length path))

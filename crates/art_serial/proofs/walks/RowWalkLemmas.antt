@@ -17,7 +17,7 @@ use Rattle.art_serial.proofs.walks.ByteWalkLemmas.{other-byte, walks-over}
 use Rattle.art_serial.proofs.walks.GroupLemmas.{group, grouped}
 use Rattle.art_serial.proofs.walks.NumberLemmas.{Contains-from_numbers, numbers-rise}
 
--- children stand behind the version
+-- children come after the version
 behind-version : (kind : Kind) (place : ℕ) → first_child kind ≤ place → 1 ≤ place
 behind-version Four place le = omega (arith, le)
 behind-version Sixteen place le = omega (arith, le)
@@ -72,7 +72,7 @@ module _ (c : Setting) (n : ℕ) (words : List ℕ) (rest : IsAtRest c.shape n w
         below = inner.below;
       }
 
-  -- a byte that the row has not is passed over
+  -- a byte that the row lacks is passed over
   walks-none : (now : List ℕ) (w : Walked) (x : ℕ) → slot_of words r.base r.kind x ≡ None → Walking c n words rest locking now w.rows
       → WalksByte (give w) now w x
   walks-none now w x at walking =

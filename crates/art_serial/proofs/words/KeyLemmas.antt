@@ -52,7 +52,7 @@ none_less x (y ∷ ys) h =
 abbrev Rising : List ℕ → Type 0
 Rising xs = AllPairs (λ a b. a < b) xs
 
--- the new key among these: behind the first one, or before it
+-- the new key among these: after the first one, or before it
 later_key : (x y : ℕ) (ys : List ℕ) → y < x → (new_place x (y ∷ ys) ≡ suc (new_place x ys)) × (with_key x (y ∷ ys) ≡ y ∷ with_key x ys)
 later_key x y ys l = (place, ap (λ p. take p (y ∷ ys) ++ x ∷ drop p (y ∷ ys)) place)
   where

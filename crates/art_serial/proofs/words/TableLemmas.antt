@@ -13,7 +13,7 @@ is_base s Sixteen number h = grind (arith, h)
 is_base s FortyEight number h = grind (arith, h)
 is_base s Full number h = grind (arith, h)
 
--- a word behind the rows of a kind is no base of that kind
+-- a word after the rows of a kind is no base of that kind
 behind : (s : Shape) (kind : Kind) (base : ℕ) → first_base s kind + row_words kind * rows_of s kind ≤ base → is_base_of s kind base ≡ false
 behind s Four base h = grind (arith, h)
 behind s Sixteen base h = grind (arith, h)
@@ -88,7 +88,7 @@ numbered s base Sixteen e = is_base-numbered s Sixteen base (choice _ _ _ _ Sixt
 numbered s base FortyEight e = is_base-numbered s FortyEight base (choice _ _ _ _ FortyEight e)
 numbered s base Full e = is_base-numbered s Full base (choice _ _ _ _ Full e)
 
--- rows lie behind the claims, and in the table
+-- rows lie after the claims, and in the table
 pub row_begins : (s : Shape) (base : ℕ) (kind : Kind) → kind_at s base ≡ Some kind → 5 ≤ base
 row_begins s base kind e = begins kind (numbered s base kind e)
   where

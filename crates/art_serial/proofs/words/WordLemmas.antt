@@ -116,7 +116,7 @@ child_of-stored s w = one (w % 4 == 1)
 pub child_again : (s : Shape) (w : ℕ) → child_of s (child_word (child_of s w)) ≡ child_of s w
 child_again s w = child_back s (child_of s w) (child_of-stored s w)
 
--- such a word has 64 bits where the one that was read has
+-- a child word that is read and written again has 64 bits if the first one has
 pub again_below : (s : Shape) (w : ℕ) → w < 2 ^ 64 → child_word (child_of s w) < 2 ^ 64
 again_below s w h = one (w % 4 == 1) refl
   where

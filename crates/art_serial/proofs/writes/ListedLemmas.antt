@@ -1,4 +1,4 @@
--- Rows whose children stand at the places of their keys.
+-- Rows whose children are at the places of their keys.
 use Rattle.art_serial.proofs.Common.{◌≡◌, ℕ, ◌+◌, ◌-◌, ◌<◌, ◌≤◌, List, length, refl, ap, ◌∙◌, ⊎_elim, inl, arith, slice_set, Option, option_map}
 use Rattle.art_serial.proofs.Common.{cases_lt, Shape, child_of, child_in, place_moved}
 use Rattle.std.specs.Prelude.{slice_index, Some, None}
@@ -6,8 +6,8 @@ use Rattle.art_serial.proofs.writes.StoreLemmas.{stored-other}
 use Rattle.art_serial.proofs.writes.MoveLemmas.{with_room, room-other, room-moved}
 use Rattle.art_serial.proofs.words.KeyLemmas.{moved-before, moved-behind}
 
--- The n children from one place of the words on stand in the later words from another place on, those from the p-th on one
--- place later.
+-- The n children from one place of the words on are in the later words from another place on, those
+-- from the p-th on one place later.
 pub record HaveMoved (s : Shape) (words later : List ℕ) (from to p n : ℕ) : Type 0 where
   pub before : (i : ℕ) → i < p → i < n → child_of s (slice_index later (to + i)) ≡ child_of s (slice_index words (from + i))
   pub behind : (i : ℕ) → p ≤ i → i < n → child_of s (slice_index later (to + (i + 1))) ≡ child_of s (slice_index words (from + i))
@@ -25,7 +25,7 @@ pub moved-in : {s : Shape} {words later : List ℕ} {from to p n : ℕ} → Have
 moved-in h None within = refl
 moved-in h (Some i) within = moved-child h i (within i refl)
 
--- the same after a store to another word
+-- the children have still moved so after a store to another word
 pub moved-stored : {s : Shape} {words later : List ℕ} {from to p n : ℕ} → HaveMoved s words later from to p n → (word value : ℕ) → word < to
     → HaveMoved s words (slice_set later word value) from to p n
 moved-stored {s = s} {later = later} {to = to} h word value l =
@@ -34,7 +34,7 @@ moved-stored {s = s} {later = later} {to = to} h word value l =
       behind = λ i b w. ap (child_of s) (stored-other later word (to + (i + 1)) value (λ e. omega (arith, e, l))) ∙ h.behind i b w;
     }
 
--- and after the new child is stored at the p-th place
+-- the children have still moved so after the new child is stored at the p-th place
 pub moved-new : {s : Shape} {words later : List ℕ} {from to p n : ℕ} → HaveMoved s words later from to p n → (value : ℕ)
     → HaveMoved s words (slice_set later (to + p) value) from to p n
 moved-new {s = s} {later = later} {to = to} {p = p} h value =

@@ -19,7 +19,8 @@ abbrev pub accesses : {rest : Rest} {words last : List ℕ} {reply : Reply} → 
 accesses (ends h) = 0
 accesses (goes a p h k) = 1 + accesses k
 
--- A part, run alone on these words, gives a value and leaves these words behind it, by so many accesses, whatever comes after it.
+-- A part, run alone on these words, gives a value and leaves these words, by this many accesses,
+-- whatever comes after it.
 pub record Comes {A : Type 0} (m : Part A) (words : List ℕ) (a : A) (later : List ℕ) : Type 0 where
   pub steps : ℕ
   pub runs : (again : Rest) (after : A → Rest) (last : List ℕ) (reply : Reply) → RunsAlone (after a) later last reply
@@ -27,7 +28,7 @@ pub record Comes {A : Type 0} (m : Part A) (words : List ℕ) (a : A) (later : L
   pub long : (again : Rest) (after : A → Rest) (last : List ℕ) (reply : Reply) (r : RunsAlone (after a) later last reply)
       → accesses (runs again after last reply r) ≡ steps + accesses r
 
--- A part, run alone on these words, answers the call and leaves these words behind it, by so many accesses.
+-- A part, run alone on these words, answers the call and leaves these words, by this many accesses.
 pub record Ends {A : Type 0} (m : Part A) (words : List ℕ) (reply : Reply) (later : List ℕ) : Type 0 where
   pub steps : ℕ
   pub runs : (again : Rest) (after : A → Rest) → RunsAlone (m again after) words later reply

@@ -20,8 +20,8 @@ abbrev pub SettledWordsRest : Type 0
 SettledWordsRest = (s : Shape) (n : ℕ) (words later : List ℕ) → IsAtRest s n words → IsAfterInsert s words later → IsTree s later
     → HasOldOrNewRows s words later → IsAtRest s (n + 1) later
 
--- The call runs alone to a legal reply by at most 1,000 accesses, and leaves a table at rest that means the map after it, with at most one
--- claim more of each kind.
+-- The call runs alone to a legal reply by at most 1,000 accesses. It leaves a table at rest that
+-- means the map after it, with at most one claim more of each kind.
 pub record DoesOrRefuses (s : Shape) (variant : Variant) (n : ℕ) (words : List ℕ) (m : Contents) (call : Call) : Type 0 where
   pub reply : Reply
   pub later : List ℕ

@@ -24,9 +24,9 @@ IsNew s words later w = (base : ℕ) × (kind : Kind) × (j : ℕ) × IsNewRow s
 abbrev pub IsReleased : Shape → List ℕ → List ℕ → ℕ → Type 0
 IsReleased s words later w = (kind : Kind) × Reached s words w kind × (is_locked (slice_index later w) ≡ false)
 
--- At most one claim of each kind was made since, and each word that is not the clock or a count of
--- claims is as it was, or the version of a row that is reached and not locked, or a word inside of
--- a row that is reached or was claimed since.
+-- At most one claim of each kind was made since. Each word that is not the clock or a count of
+-- claims is one of three: it is as it was; or it is the version of a row that is reached and not
+-- locked; or it is inside of a row that is reached or was claimed since.
 pub record IsAfterInsert (s : Shape) (words later : List ℕ) : Type 0 where
   pub long : length later ≡ table_words s
   pub small : All (λ w. w < 2 ^ 64) later

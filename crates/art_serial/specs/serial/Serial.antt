@@ -23,7 +23,7 @@ use Rattle.art_serial.specs.alone.Alone.{RunsAlone}
 abbrev pub ticked : List ℕ → List ℕ
 ticked words = slice_set words clock ((slice_index words clock + 1) % 2 ^ 64)
 
--- From the first words these calls with their replies come to these words: for each in turn a stamp
+-- From the first words these calls with their replies lead to these words. For each in turn a stamp
 -- is drawn, the call runs alone from its beginning to its reply, and a stamp is drawn.
 pub data SerialRun (shape : Shape) (variant : Variant) (first : List ℕ) : List (Call × Reply) → List ℕ → Type 0 where
   none : SerialRun shape variant first [] first
@@ -62,9 +62,9 @@ pub record HasRunAlone (plan : Plan) (first : List ℕ) (s : State) (done : List
 abbrev pub sole_plan : Shape → Variant → List Call → Plan
 sole_plan shape variant script = record { shape = shape; variant = variant; scripts = script ∷ [] }
 
--- What is so of one process that has made its whole script: its history is serial, and these calls
--- with their replies, which have run alone, are those of its script, in their order, with the
--- replies that it logged.
+-- What holds of one process that has made its whole script. Its history is serial. These calls with
+-- their replies, which have run alone, are those of its script, in their order, with the replies
+-- that it logged.
 pub record HasRunScript (plan : Plan) (script : List Call) (first : List ℕ) (s : State) (q : Process)
     (done : List (Call × Reply)) : Type 0 where
   pub serial : IsSerial (history_of s)

@@ -28,8 +28,8 @@ IsUnused s words kind number = number < rows_of s kind → (word : ℕ) → base
 abbrev pub AreZeroPastClaims : Shape → List ℕ → Type 0
 AreZeroPastClaims s words = (kind : Kind) (number : ℕ) → slice_index words (claims_of kind) ≤ number → IsUnused s words kind number
 
--- A table between calls where nobody else runs: no row is locked, the words are a tree, no row of
--- it is obsolete, each row of it was claimed, at most n claims of each kind were made, and a row
+-- A table between calls while nobody else runs. No row is locked, the words are a tree, and no row
+-- of it is obsolete. Each row of it was claimed, at most n claims of each kind were made, and a row
 -- that was not claimed has only zeros.
 pub record IsAtRest (s : Shape) (n : ℕ) (words : List ℕ) : Type 0 where
   pub long : length words ≡ table_words s
@@ -41,15 +41,16 @@ pub record IsAtRest (s : Shape) (n : ℕ) (words : List ℕ) : Type 0 where
   pub claimed : (base : ℕ) (kind : Kind) → Reached s words base kind → IsClaimed s words base kind
   pub fresh : AreZeroPastClaims s words
 
--- Two tables say the same of a row: all its words but the version are the same.
+-- Two tables say the same of a row: all its words except the version are the same.
 abbrev pub SameRow : List ℕ → List ℕ → ℕ → Kind → Type 0
 SameRow words later base kind = (j : ℕ) → 1 ≤ j → j < row_words kind → slice_index later (base + j) ≡ slice_index words (base + j)
 
--- and of each row that is reached from the root
+-- both lists have the same words of each row that is reached from the root
 abbrev pub SameTree : Shape → List ℕ → List ℕ → Type 0
 SameTree s words later = (base : ℕ) (kind : Kind) → Reached s words base kind → SameRow words later base kind
 
--- The key's way leads to this row: it is reached, and its path is the beginning of the key, by byte x of which its children are told apart.
+-- The key's way leads to this row: it is reached, its path is the beginning of the key, and byte x
+-- of the key selects one of its children.
 pub record LeadsTo (s : Shape) (words : List ℕ) (key base : ℕ) (kind : Kind) (x : ℕ) : Type 0 where
   pub reached : Reached s words base kind
   pub path : take (level_in words base kind) (key_bytes key) ≡ path_in words base kind
@@ -102,14 +103,14 @@ WaysLeadToValues = (s : Shape) (words : List ℕ) (m : Contents) (key base : ℕ
 abbrev pub IsFree : Shape → List ℕ → ℕ → ℕ → Kind → ℕ → Type 0
 IsFree s words key base kind x = (child_on s words base kind x ≡ Empty) ⊎ ((value : ℕ) × (child_on s words base kind x ≡ Leaf key value))
 
--- Where the key's leaf is put on its byte, the map has the value at the key;
+-- If the key's leaf is put on its byte, the map has the value at the key;
 abbrev pub LeavesArePut : Type 0
 LeavesArePut = (s : Shape) (words later : List ℕ) (m : Contents) (key value base : ℕ) (kind : Kind) (x : ℕ)
     → IsTree s words → Means s words m
     → LeadsTo s words key base kind x → IsFree s words key base kind x → ChangesAt s words later base kind x (Leaf key value)
     → HasRows s words later (put key value m)
 
--- where its byte is made empty, the key is absent.
+-- if its byte is made empty, the key is absent.
 abbrev pub LeavesAreRemoved : Type 0
 LeavesAreRemoved = (s : Shape) (words later : List ℕ) (m : Contents) (key base : ℕ) (kind : Kind) (x : ℕ) → IsTree s words → Means s words m
     → LeadsTo s words key base kind x → IsFree s words key base kind x → ChangesAt s words later base kind x Empty
@@ -138,7 +139,8 @@ abbrev pub HasRowMore : Shape → List ℕ → List ℕ → ℕ → Kind → Typ
 HasRowMore s words later row kind =
     (b : ℕ) (k : Kind) → Reached s later b k ↔ (Reached s words b k ⊎ ((b ≡ row) × (k ≡ kind)))
 
--- Where a pair is hung in the place of a child whose keys part from the key, the map has the value at the key.
+-- If a pair is hung in the place of a child whose keys part from the key, the map has the value at
+-- the key.
 abbrev pub PairsAreHung : Type 0
 PairsAreHung =
     (s : Shape) (words later : List ℕ) (m : Contents) (key value base : ℕ) (kind : Kind) (x row d a b : ℕ)
@@ -147,7 +149,8 @@ PairsAreHung =
     → IsPair s words later key value row d a b (child_on s words base kind x) → ChangesAt s words later base kind x (Row row Four)
     → IsTree s later × HasRowMore s words later row Four × Means s later (put key value m)
 
--- A row that was not reached has the level, the path and the children of another, and the key's leaf on a byte that the other has not.
+-- A row that was not reached has the level, the path and the children of another, and the key's
+-- leaf on a byte that the other lacks.
 pub record IsGrown (s : Shape) (words later : List ℕ) (key value base : ℕ) (kind : Kind) (row : ℕ) (larger : Kind) (x : ℕ) : Type 0 where
   pub new : (k : Kind) → Reached s words row k → ⊥
   pub form : HasForm later row larger
@@ -169,7 +172,8 @@ pub record ChangesAtBut (s : Shape) (words later : List ℕ) (base : ℕ) (kind 
   pub other_bytes : (y : ℕ) → y < 256 → y ≢ x → child_on s later base kind y ≡ child_on s words base kind y
   pub here : child_on s later base kind x ≡ child
 
--- Where a grown row is hung in the place of the row, in the row above it, the map has the value at the key.
+-- If a grown row is hung in the place of the row, in the row above it, the map has the value at the
+-- key.
 abbrev pub GrownRowsAreHung : Type 0
 GrownRowsAreHung = (s : Shape) (words later : List ℕ) (m : Contents) (key value above_base : ℕ) (above_kind : Kind) (y base : ℕ)
     (kind : Kind) (x row : ℕ)
@@ -178,10 +182,10 @@ GrownRowsAreHung = (s : Shape) (words later : List ℕ) (m : Contents) (key valu
     → IsGrown s words later key value base kind row larger x → ChangesAtBut s words later above_base above_kind y base (Row row larger)
     → IsTree s later × HasRowInPlace s words later base row larger × Means s later (put key value m)
 
--- The words mean one list of pairs,
+-- The words mean only one list of pairs.
 abbrev pub MapsAreOne : Type 0
 MapsAreOne = (s : Shape) (words : List ℕ) (m n : Contents) → Means s words m → Means s words n → m ≡ n
 
--- and that is what a walk down from the root finds, by rising bytes.
+-- A walk down from the root, by rising bytes, finds the pairs that the tree means.
 abbrev pub TreesAreWalked : Type 0
 TreesAreWalked = (s : Shape) (words : List ℕ) → IsTree s words → All (λ w. w < 2 ^ 64) words → Means s words (pairs_of s words)

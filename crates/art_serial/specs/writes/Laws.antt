@@ -33,8 +33,8 @@ PairsAreWritten = (c : Setting) (held : List Row) (slot d : ℕ) (old : Under) (
     × HasPair c.shape words later (fresh_base c.shape words Four) slot d (take d (key_bytes key)) old
     (record { byte = byte_at c d; child = Leaf key value })
 
--- What GROW copies, of an insert that runs alone: from a full row that has form and lacks the byte to a row of the next kind
--- whose words behind its info are 0.
+-- What GROW copies, for an insert that runs alone: from a full row that has form and lacks the
+-- byte, to a row of the next kind whose words after its info are 0.
 abbrev pub RowsAreFilled : Type 0
 RowsAreFilled = (c : Setting) (n : Row) (base : ℕ) (words : List ℕ) (x key value : ℕ) → c.call ≡ Insert key value → value < 2 ^ 30
     → base + row_words (next_kind n.kind) ≤ length words → IsApart n.base n.kind base (next_kind n.kind)

@@ -61,8 +61,8 @@ pub record HasPair (s : Shape) (words later : List ℕ) (base slot level : ℕ) 
 abbrev pub IsApart : ℕ → Kind → ℕ → Kind → Type 0
 IsApart old kind base next = (old + row_words kind ≤ base) ⊎ (base + row_words next ≤ old)
 
--- A row was copied to a fresh one of another kind, with one child more: the fresh row has form, its version and its info stand,
--- and no word outside it has changed.
+-- A row was copied to a fresh one of another kind, with one child more. The fresh row has form, its
+-- version and its info are as they were, and no word outside it has changed.
 pub record HasGrown (s : Shape) (words later : List ℕ) (old : ℕ) (kind : Kind) (base : ℕ) (next : Kind) (x : ℕ)
     (child : Child) : Type 0 where
   pub long : length later ≡ length words
@@ -72,8 +72,8 @@ pub record HasGrown (s : Shape) (words later : List ℕ) (old : ℕ) (kind : Kin
   pub put : child_on s later base next x ≡ child
   pub small : AreSmall words → IsShort child → AreSmall later
 
--- A fresh row was claimed and got the children of another one, with one child more: it has this info, and nothing else has changed
--- but that one more claim is made.
+-- A fresh row was claimed and got the children of another one, with one child more. It has this
+-- info, and nothing else has changed except that one more claim is made.
 pub record HasFresh (s : Shape) (words later : List ℕ) (old : ℕ) (kind : Kind) (base : ℕ) (next : Kind) (word_of_info x : ℕ)
     (child : Child) : Type 0 where
   pub long : length later ≡ length words

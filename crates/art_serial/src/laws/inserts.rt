@@ -7,8 +7,8 @@ use crate::laws::trees::{
 };
 use crate::laws::words::{versions_say, words_are_read_back, words_are_small};
 
-/// An insert, alone on a table at rest, is answered as the map answers it, or refused, and leaves a table at rest that
-/// means the map after it. It stands on the laws of trees and of words.
+/// An insert, alone on a table at rest, is answered as the map answers it, or refused. It leaves a
+/// table at rest that means the map after it. It uses the laws of trees and of words.
 pub fn inserts_are_the_maps()
     ensures { InsertsAreTheMaps }
 {

@@ -7,8 +7,9 @@ use crate::laws::inserts::inserts_are_the_maps;
 use crate::laws::trees::{same_trees_are_one, tables_open_at_rest};
 use crate::laws::walks::scans_are_the_maps;
 
-/// A serial schedule of a full tree has a legal history, no row is locked after it, and its words mean the pairs after it,
-/// those included that it starts with. It stands on the laws of trees and of calls that run alone.
+/// A serial schedule of a full tree has a legal history. After it no row is locked, and the words
+/// mean the pairs after it, among them those that it starts with. It uses the laws of trees and of
+/// calls that run alone.
 pub fn serial_is_map()
     ensures { SerialIsMap }
 {
@@ -19,8 +20,8 @@ pub fn serial_is_map()
     inserts_are_the_maps();
 }
 
-/// The inserts of the pairs with which a tree starts come to an end within 1,002 steps a pair, in every variant. It stands
-/// on the same laws.
+/// The inserts of the pairs with which a tree starts end within 1,002 steps a pair, in every
+/// variant. It uses the laws of trees and of calls that run alone.
 pub fn starts_end()
     ensures { StartsEnd }
 {

@@ -29,22 +29,22 @@ pub fn ways_lead_to_values()
     ensures { WaysLeadToValues }
 {}
 
-/// Where a key's leaf is put on its byte, the map has the value at the key.
+/// If a key's leaf is put on its byte, the map has the value at the key.
 pub fn leaves_are_put()
     ensures { LeavesArePut }
 {}
 
-/// Where a key's byte is made empty, the key is absent.
+/// If a key's byte is made empty, the key is absent.
 pub fn leaves_are_removed()
     ensures { LeavesAreRemoved }
 {}
 
-/// Where a pair is hung in the place of a child whose keys part from the key, the map has the value at the key.
+/// If a pair replaces a child whose keys part from the key, the map has the value at the key.
 pub fn pairs_are_hung()
     ensures { PairsAreHung }
 {}
 
-/// Where a grown row is hung in the place of the row, in the row above it, the map has the value at the key.
+/// If a grown row replaces the row, in the row above it, the map has the value at the key.
 pub fn grown_rows_are_hung()
     ensures { GrownRowsAreHung }
 {}

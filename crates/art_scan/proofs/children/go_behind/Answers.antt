@@ -1,5 +1,4 @@
-use Rattle.std.proofs.Common.{ap, ◌∙◌}
-use Rattle.art_scan.specs.Walks.{words_behind}
+use Rattle.art_scan.proofs.Common.{ap, ◌∙◌, words_behind}
 use Rattle.art_scan.proofs.NextLemmas.{behind_none}
 use Rattle.art_scan.proofs.children.go_behind.Goals as goal
 

@@ -1,6 +1,4 @@
-use Rattle.std.proofs.Common.{refl, ap, ◌∙◌, inl}
-use Rattle.art_rows.specs.declared.table.Kind.TheVariants.{Sixteen}
-use Rattle.art_scan.specs.Walks.{frame_slot}
+use Rattle.art_scan.proofs.Common.{refl, ap, ◌∙◌, inl, Sixteen, frame_slot}
 use Rattle.art_scan.proofs.KeyByteLemmas.{bare_slot}
 use Rattle.art_scan.proofs.children.next_slot.Goals as goal
 

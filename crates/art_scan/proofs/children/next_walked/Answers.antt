@@ -1,6 +1,4 @@
-use Rattle.std.proofs.Common.{◌+◌, ◌-◌, ◌∙◌, inr, arith}
-use Rattle.art_stages.specs.Scans.{child_from}
-use Rattle.art_scan.specs.Walks.{words_behind, frame_test, frame_slot}
+use Rattle.art_scan.proofs.Common.{◌+◌, ◌-◌, ◌∙◌, inr, arith, child_from, words_behind, frame_test, frame_slot}
 use Rattle.art_scan.proofs.ByteLemmas.{bytes_past}
 use Rattle.art_scan.proofs.KeyByteLemmas.{pass_to, pass_all, passed, bytes_within}
 use Rattle.art_scan.proofs.NextLemmas.{frame_bytes, bytes_found, not_tested}

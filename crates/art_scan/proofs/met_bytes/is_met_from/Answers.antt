@@ -1,7 +1,4 @@
-use Rattle.std.proofs.Common.{sym, ◌∙◌}
-use Rattle.std.proofs.lemmas.Bool.{le-ltb}
-use Rattle.art_steps.specs.Scan.{can_lie}
-use Rattle.art_stages.specs.Stages.{row_at}
+use Rattle.art_scan.proofs.Common.{sym, ◌∙◌, le-ltb, can_lie, row_at}
 use Rattle.art_scan.proofs.ByteLemmas.{met_none, met_next}
 use Rattle.art_scan.proofs.met_bytes.is_met_from.Goals as goal
 

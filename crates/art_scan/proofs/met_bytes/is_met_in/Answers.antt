@@ -1,7 +1,4 @@
-use Rattle.std.proofs.Common.{refl, ap, sym, ◌∙◌}
-use Rattle.art_steps.specs.Scan.{can_lie}
-use Rattle.art_stages.specs.Stages.{row_at}
-use Rattle.art_scan.specs.Walks.{has_any}
+use Rattle.art_scan.proofs.Common.{refl, ap, sym, ◌∙◌, can_lie, row_at, has_any}
 use Rattle.art_scan.proofs.ByteLemmas.{word_bytes}
 use Rattle.art_scan.proofs.met_bytes.is_met_in.Goals as goal
 

@@ -1,6 +1,5 @@
-use Rattle.std.proofs.Common.{◌≡◌, ◌-◌, Some, None, ap, sym, subst, ◌∙◌, ⊎_elim, arith}
-use Rattle.std.proofs.lemmas.Bool.{cases_lt}
-use Rattle.art_rows.specs.Words.{place_of, keys16_of}
+use Rattle.art_scan.proofs.Common.{◌≡◌, ◌-◌, Some, ap, sym, subst, ◌∙◌, ⊎_elim, arith, cases_lt, place_of, keys16_of}
+use Rattle.std.proofs.Common.{None}
 use Rattle.art_rows.proofs.ReaderLemmas.{few_keys, many_keys_first, many_keys_second, many_keys_none}
 use Rattle.art_scan.proofs.next_keys.next_key16.Goals as goal
 

@@ -1,5 +1,4 @@
-use Rattle.std.proofs.Common.{Some, ap, sym, ◌/◌, ◌∙◌, arith}
-use Rattle.art_rows.specs.Words.{low_bytes, place_of}
+use Rattle.art_scan.proofs.Common.{Some, ap, sym, ◌/◌, ◌∙◌, arith, low_bytes, place_of}
 use Rattle.art_scan.proofs.KeyByteLemmas.{keys4_bytes}
 use Rattle.art_scan.proofs.next_keys.next_key4.Goals as goal
 

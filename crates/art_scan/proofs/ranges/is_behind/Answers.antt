@@ -1,5 +1,4 @@
-use Rattle.std.proofs.Common.{◌<◌, ◌≤◌, ◌^◌, ◌*◌, ◌+◌, ◌-◌, subst, sym, ap, ◌∙◌, arith}
-use Rattle.std.proofs.lemmas.Bool.{ltb-true}
+use Rattle.art_scan.proofs.Common.{◌<◌, ◌≤◌, ◌^◌, ◌*◌, ◌+◌, ◌-◌, subst, sym, ap, ◌∙◌, arith, ltb-true}
 use Rattle.art_scan.proofs.RangeLemmas.{reach, all_behind}
 use Rattle.art_scan.proofs.ranges.is_behind.Goals as goal
 

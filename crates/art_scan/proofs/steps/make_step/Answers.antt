@@ -1,7 +1,4 @@
-use Rattle.std.proofs.Common.{ap, sym, ◌∙◌}
-use Rattle.art_setting.specs.Settings.{setting_of}
-use Rattle.art_stages.specs.Scans.{at, step_after, child_after, resume_at, with_frame, frame_of}
-use Rattle.art_scan.specs.Walks.{walk_of}
+use Rattle.art_scan.proofs.Common.{ap, sym, ◌∙◌, setting_of, at, step_after, child_after, resume_at, with_frame, frame_of, walk_of}
 use Rattle.art_scan.proofs.WayLemmas.{behind_child, behind_leaf}
 use Rattle.art_scan.proofs.steps.make_step.Goals as goal
 

@@ -1,7 +1,4 @@
-use Rattle.std.proofs.Common.{refl, ap, ◌∙◌}
-use Rattle.art_stages.specs.Scans.{at, frame_of, with_frame, resume_at}
-use Rattle.art_setting.specs.Settings.{setting_of}
-use Rattle.art_scan.specs.Walks.{walk_of}
+use Rattle.art_scan.proofs.Common.{refl, ap, ◌∙◌, at, frame_of, with_frame, resume_at, setting_of, walk_of}
 use Rattle.art_scan.proofs.WayLemmas.{begins_keys, begins_words, begins_full}
 use Rattle.art_scan.proofs.walks.begin_row.Goals as goal
 

@@ -1,9 +1,4 @@
-use Rattle.std.proofs.Common.{ap, sym, ◌∙◌}
-use Rattle.art_steps.specs.Scan.{bytes_of}
-use Rattle.art_stages.specs.Stages.{row_at}
-use Rattle.art_stages.specs.Scans.{with_held, resume_at, row_begins}
-use Rattle.art_setting.specs.Settings.{setting_of}
-use Rattle.art_scan.specs.Walks.{walk_of}
+use Rattle.art_scan.proofs.Common.{ap, sym, ◌∙◌, bytes_of, row_at, with_held, resume_at, row_begins, setting_of, walk_of}
 use Rattle.art_scan.proofs.WayLemmas.{visit_some, visit_none}
 use Rattle.art_scan.proofs.walks.visit.Goals as goal
 

@@ -1,10 +1,5 @@
-use Rattle.std.proofs.Common.{◌<◌, length, subst, arith}
-use Rattle.std.specs.Prelude.{Contains}
+use Rattle.call_choices.proofs.Common.{◌<◌, length, subst, arith, Contains, slice_get_within, All-from_contains, IsOrder-from_none, places, IsReduced}
 use Rattle.std.proofs.lemmas.List.Sorted.{IsPermutation-sym, Contains-permutation, length_permutation}
-use Rattle.std.proofs.lemmas.Option.{slice_get_within}
-use Rattle.list_laws.proofs.Lists.{All-from_contains}
-use Rattle.search.proofs.EarliestLemmas.{IsOrder-from_none}
-use Rattle.call_choices.specs.Standing.{places, IsReduced}
 use Rattle.call_choices.proofs.StandingLemmas.{choices_again, choices_reduced}
 use Rattle.call_choices.proofs.choosing.choices.Goals as goal
 

@@ -1,13 +1,8 @@
-use Rattle.std.proofs.Common.{◌≡◌, ◌+◌, ◌<◌, Some, length, refl, sym, ◌∙◌, subst, arith}
-use Rattle.std.specs.Prelude.{slice_get}
-use Rattle.std.proofs.lemmas.Bool.{both_ways}
-use Rattle.std.proofs.lemmas.Option.{slice_get_read}
-use Rattle.list_laws.proofs.NumberLemmas.{some_at}
-use Rattle.search.specs.Remaining.{IsEarliestAnswer}
-use Rattle.call_choices.specs.Standing.{places}
+use Rattle.call_choices.proofs.Common.{◌≡◌, ◌+◌, ◌<◌, Some, length, refl, sym, ◌∙◌, subst, arith, slice_get, both_ways, slice_get_read, some_at}
+use Rattle.call_choices.proofs.Common.{IsEarliestAnswer, places}
 use Rattle.call_choices.proofs.EarliestLemmas.{IsEarliestBelow, earliest-taken, earliest-skip, earliest-take, earliest-all, earliest-before}
-use Rattle.call_choices.proofs.choosing.earliest_answer.Goals as goal
 use Rattle.call_choices.proofs.choosing.earliest_answer.Goals.{then-not-is_taken, else-not-is_taken}
+use Rattle.call_choices.proofs.choosing.earliest_answer.Goals as goal
 
 pub loop-place-init : goal.loop-place-init
 loop-place-init g c =

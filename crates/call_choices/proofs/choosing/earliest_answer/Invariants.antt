@@ -2,6 +2,6 @@ use Rattle.call_choices.specs.Standing.{places}
 use Rattle.call_choices.proofs.EarliestLemmas.{IsEarliestBelow}
 use Rattle.call_choices.proofs.choosing.earliest_answer.Given as goal
 
--- of the calls so far
+-- the result is right for the calls so far
 abbrev pub invariant-loop-place : goal.invariant-loop-place
 invariant-loop-place g l = IsEarliestBelow l.calls (places l.standing.levels.items) l.place l.earliest

@@ -1,9 +1,7 @@
-use Rattle.std.proofs.Common.{[], ◌∷◌, ◌++◌, take, get_or, sym, ap, ◌∙◌, subst}
-use Rattle.std.proofs.lemmas.List.{take_more}
-use Rattle.call_choices.specs.Standing.{places, IsReduced}
+use Rattle.call_choices.proofs.Common.{[], ◌∷◌, ◌++◌, take, get_or, sym, ap, ◌∙◌, subst, take_more, places, IsReduced}
 use Rattle.call_choices.proofs.StandingLemmas.{reduced-keep, reduced-leave}
-use Rattle.call_choices.proofs.choosing.hopeful.Goals as goal
 use Rattle.call_choices.proofs.choosing.hopeful.Goals.{then-not-is_futile+in_ok-push, else-not-is_futile}
+use Rattle.call_choices.proofs.choosing.hopeful.Goals as goal
 
 pub loop-place-preserved : goal.loop-place-preserved
 loop-place-preserved g c =

@@ -1,9 +1,5 @@
-use Rattle.std.proofs.Common.{ℕ, take, get_or, sym, subst, ⊎_elim}
-use Rattle.std.specs.Prelude.{Contains}
-use Rattle.std.proofs.lemmas.Bool.{false≢true, both_ways}
-use Rattle.std.proofs.lemmas.List.{take_all, take_more}
-use Rattle.std.proofs.lemmas.List.Elements.{Contains-push_cases}
-use Rattle.quiet_cuts.specs.Values.{IsCallOf}
+use Rattle.call_choices.proofs.Common.{ℕ, take, get_or, sym, subst, ⊎_elim, Contains, false≢true, both_ways, take_all, take_more, Contains-push_cases}
+use Rattle.call_choices.proofs.Common.{IsCallOf}
 use Rattle.call_choices.proofs.choosing.is_of_one.Goals as goal
 
 pub loop-key-preserved : goal.loop-key-preserved

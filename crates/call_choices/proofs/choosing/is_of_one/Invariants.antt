@@ -1,8 +1,6 @@
-use Rattle.std.proofs.Common.{ℕ, take}
-use Rattle.std.specs.Prelude.{Contains}
-use Rattle.quiet_cuts.specs.Values.{IsCallOf}
+use Rattle.call_choices.proofs.Common.{ℕ, take, Contains, IsCallOf}
 use Rattle.call_choices.proofs.choosing.is_of_one.Given as goal
 
--- it is of none of those so far
+-- the call is of none of the keys so far
 abbrev pub invariant-loop-key : goal.invariant-loop-key
 invariant-loop-key l = (key : ℕ) → Contains (take l.key-index l.keys) key → IsCallOf key l.call → ⊥

@@ -1,11 +1,5 @@
-use Rattle.std.proofs.Common.{◌≡◌, ◌≤◌, Some, length, refl, sym, ◌∙◌, subst, arith}
-use Rattle.std.specs.Prelude.{slice_get}
-use Rattle.std.proofs.lemmas.Bool.{both_ways}
-use Rattle.std.proofs.lemmas.Option.{slice_get_read, same_Some}
-use Rattle.events.specs.declared.operation.Operation.{Operation}
-use Rattle.orders.specs.Orders.{IsLegalCall}
-use Rattle.search.proofs.EarliestLemmas.{preceded_from_earliest}
-use Rattle.call_choices.specs.Standing.{places}
+use Rattle.call_choices.proofs.Common.{◌≡◌, ◌≤◌, Some, length, refl, sym, ◌∙◌, subst, arith, slice_get, both_ways, slice_get_read, same_Some}
+use Rattle.call_choices.proofs.Common.{Operation, IsLegalCall, preceded_from_earliest, places}
 use Rattle.call_choices.proofs.choosing.may_come.Goals as goal
 
 pub is_taken-requires : goal.is_taken-requires

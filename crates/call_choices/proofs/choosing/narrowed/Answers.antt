@@ -1,6 +1,4 @@
-use Rattle.std.proofs.Common.{subst}
-use Rattle.call_choices.specs.FirstKeys.{AreNextOfOne}
-use Rattle.call_choices.specs.Standing.{places}
+use Rattle.call_choices.proofs.Common.{subst, AreNextOfOne, places}
 use Rattle.call_choices.proofs.FirstKeyLemmas.{few_choices}
 use Rattle.call_choices.proofs.choosing.narrowed.Goals as goal
 

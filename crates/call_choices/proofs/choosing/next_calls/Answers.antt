@@ -1,15 +1,10 @@
-use Rattle.std.proofs.Common.{◌≡◌, Some, length, refl, ap, ◌∙◌, subst, ⊎_elim, arith}
-use Rattle.std.specs.Prelude.{slice_get}
-use Rattle.std.proofs.lemmas.Bool.{cases_lt}
-use Rattle.std.proofs.lemmas.Option.{slice_get_read, slice_get_within}
-use Rattle.quiet_cuts.proofs.ReplyLemmas.{read_completed, read_leaves}
-use Rattle.call_choices.specs.Idle.{AreIdle, IsPassedOver}
-use Rattle.call_choices.specs.Standing.{places}
+use Rattle.call_choices.proofs.Common.{◌≡◌, Some, length, refl, ap, ◌∙◌, subst, ⊎_elim, arith, slice_get, cases_lt, slice_get_read, slice_get_within}
+use Rattle.call_choices.proofs.Common.{read_completed, read_leaves, AreIdle, IsPassedOver, places}
 use Rattle.call_choices.proofs.EarliestLemmas.{not_next}
 use Rattle.call_choices.proofs.IdleLemmas.{tried-more, tried-less, tried_close}
 use Rattle.call_choices.proofs.StandingLemmas.{read_next, read_choices}
-use Rattle.call_choices.proofs.choosing.next_calls.Goals as goal
 use Rattle.call_choices.proofs.choosing.next_calls.Goals.{then-may_come+else-is_read+in_ok-push, else-may_come}
+use Rattle.call_choices.proofs.choosing.next_calls.Goals as goal
 
 pub returns-then-answered-call-clause-choices : goal.returns-then-answered-call-clause-choices
 returns-then-answered-call-clause-choices g c =

@@ -1,5 +1,4 @@
-use Rattle.call_choices.specs.Idle.{IsPassedOver}
-use Rattle.call_choices.specs.Standing.{places}
+use Rattle.call_choices.proofs.Common.{IsPassedOver, places}
 use Rattle.call_choices.proofs.IdleLemmas.{AreTried}
 use Rattle.call_choices.proofs.choosing.next_calls.Given as goal
 

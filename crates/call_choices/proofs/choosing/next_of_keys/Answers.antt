@@ -1,15 +1,11 @@
-use Rattle.std.proofs.Common.{◌≡◌, Some, length, refl, sym, ap, ◌∙◌, subst, ⊎_elim, arith}
-use Rattle.std.specs.Prelude.{slice_get}
-use Rattle.std.proofs.lemmas.Bool.{false≢true, both_ways, cases_lt}
-use Rattle.std.proofs.lemmas.Option.{slice_get_read, slice_get_within, same_Some}
-use Rattle.events.specs.declared.operation.Operation.{Operation}
-use Rattle.call_choices.specs.FirstKeys.{IsCallOfOne}
-use Rattle.call_choices.specs.Standing.{places}
+use Rattle.call_choices.proofs.Common.{◌≡◌, Some, length, refl, sym, ap, ◌∙◌, subst, ⊎_elim, arith, slice_get, false≢true, both_ways, cases_lt}
+use Rattle.call_choices.proofs.Common.{slice_get_read, slice_get_within, same_Some, Operation, IsCallOfOne, places}
 use Rattle.call_choices.proofs.EarliestLemmas.{not_next}
 use Rattle.call_choices.proofs.FirstKeyLemmas.{IsOfOther, next_of_one}
 use Rattle.call_choices.proofs.IdleLemmas.{tried-more, tried-less}
+use Rattle.call_choices.proofs.choosing.next_of_keys.Goals.{then-is_of_one+then-may_come+in_ok-push, else-is_of_one}
+use Rattle.call_choices.proofs.choosing.next_of_keys.Goals.{else-is_of_one-via-then-is_of_one+else-may_come, else-is_of_one-via-else-is_of_one}
 use Rattle.call_choices.proofs.choosing.next_of_keys.Goals as goal
-use Rattle.call_choices.proofs.choosing.next_of_keys.Goals.{then-is_of_one+then-may_come+in_ok-push, else-is_of_one, else-is_of_one-via-then-is_of_one+else-may_come, else-is_of_one-via-else-is_of_one}
 
 pub returns-then-answered-call-clause-choices : goal.returns-then-answered-call-clause-choices
 returns-then-answered-call-clause-choices g c =

@@ -1,12 +1,8 @@
-use Rattle.std.proofs.Common.{◌≡◌, ◌<◌, ℕ, Some, length, refl, sym, ◌∙◌, subst, arith}
-use Rattle.std.specs.Prelude.{slice_get, IfSome}
-use Rattle.std.proofs.lemmas.Bool.{both_ways}
-use Rattle.std.proofs.lemmas.Option.{slice_get_read}
-use Rattle.call_choices.specs.Dead.{IsReported}
-use Rattle.call_choices.specs.Standing.{places}
+use Rattle.call_choices.proofs.Common.{◌≡◌, ◌<◌, ℕ, Some, length, refl, sym, ◌∙◌, subst, arith, slice_get, IfSome, both_ways, slice_get_read}
+use Rattle.call_choices.proofs.Common.{IsReported, places}
 use Rattle.call_choices.proofs.DeadLemmas.{earlier_has}
-use Rattle.call_choices.proofs.dead.first_report.Goals as goal
 use Rattle.call_choices.proofs.dead.first_report.Goals.{then-place-other+then-not-is_taken+then-reports, else-place-other}
+use Rattle.call_choices.proofs.dead.first_report.Goals as goal
 
 pub loop-place-preserved : goal.loop-place-preserved
 loop-place-preserved g c =

@@ -1,6 +1,4 @@
-use Rattle.std.specs.Prelude.{IfSome}
-use Rattle.call_choices.specs.Dead.{IsReported}
-use Rattle.call_choices.specs.Standing.{places}
+use Rattle.call_choices.proofs.Common.{IfSome, IsReported, places}
 use Rattle.call_choices.proofs.dead.first_report.Given as goal
 
 -- the earliest answer so far

@@ -1,6 +1,4 @@
-use Rattle.std.proofs.Common.{subst}
-use Rattle.call_choices.specs.Dead.{IsStuck}
-use Rattle.call_choices.specs.Standing.{places}
+use Rattle.call_choices.proofs.Common.{subst, IsStuck, places}
 use Rattle.call_choices.proofs.DeadLemmas.{stuck_dead}
 use Rattle.call_choices.proofs.dead.is_dead_end.Goals as goal
 

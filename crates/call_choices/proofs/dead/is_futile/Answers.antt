@@ -1,10 +1,5 @@
-use Rattle.std.proofs.Common.{◌≡◌, Some, length, refl, sym, ap, ◌∙◌}
-use Rattle.std.specs.Prelude.{slice_get}
-use Rattle.std.proofs.lemmas.Bool.{not-true}
-use Rattle.std.proofs.lemmas.Option.{slice_get_read}
-use Rattle.map_object.specs.MapObject.{Contents, value_at}
-use Rattle.search.specs.Standing.{pairs_after}
-use Rattle.call_choices.specs.Standing.{places}
+use Rattle.call_choices.proofs.Common.{◌≡◌, Some, length, refl, sym, ap, ◌∙◌, slice_get, not-true, slice_get_read, Contents, value_at, pairs_after}
+use Rattle.call_choices.proofs.Common.{places}
 use Rattle.call_choices.proofs.DeadLemmas.{futile_dead}
 use Rattle.call_choices.proofs.dead.is_futile.Goals as goal
 

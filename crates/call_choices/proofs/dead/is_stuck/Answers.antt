@@ -1,7 +1,4 @@
-use Rattle.std.proofs.Common.{◌≡◌, Some, None, length, refl, inl}
-use Rattle.std.specs.Prelude.{slice_get}
-use Rattle.std.proofs.lemmas.Bool.{both_ways}
-use Rattle.std.proofs.lemmas.Option.{slice_get_read}
+use Rattle.call_choices.proofs.Common.{◌≡◌, Some, None, length, refl, inl, slice_get, both_ways, slice_get_read}
 use Rattle.call_choices.proofs.dead.is_stuck.Goals as goal
 
 pub returns-in-Some-reply : goal.returns-in-Some-reply

@@ -1,12 +1,8 @@
-use Rattle.std.proofs.Common.{◌≡◌, ◌<◌, ◌≤◌, nat_le, false, Some, length, refl, ap, ◌∙◌, arith}
-use Rattle.std.specs.Prelude.{slice_get}
-use Rattle.std.proofs.lemmas.Bool.{leb-false}
-use Rattle.std.proofs.lemmas.Option.{slice_get_read}
-use Rattle.events.specs.declared.operation.Operation.{Operation}
-use Rattle.call_choices.specs.Standing.{places}
+use Rattle.call_choices.proofs.Common.{◌≡◌, ◌<◌, ◌≤◌, nat_le, false, Some, length, refl, ap, ◌∙◌, arith, slice_get, leb-false, slice_get_read}
+use Rattle.call_choices.proofs.Common.{Operation, places}
 use Rattle.call_choices.proofs.DeadLemmas.{unput-taken, unput-more, unput-late, unput-all}
-use Rattle.call_choices.proofs.dead.may_be_put.Goals as goal
 use Rattle.call_choices.proofs.dead.may_be_put.Goals.{else-not-is_taken-via-then-not-is_taken+else-may_put, else-not-is_taken-via-else-not-is_taken}
+use Rattle.call_choices.proofs.dead.may_be_put.Goals as goal
 
 pub returns-then-last-call : goal.returns-then-last-call
 returns-then-last-call g c = λ _.

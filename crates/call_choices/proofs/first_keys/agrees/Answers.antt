@@ -1,10 +1,8 @@
-use Rattle.std.proofs.Common.{◌≤◌, ℕ, take, get_or, sym, ◌∙◌, subst, ⊎_elim, arith}
-use Rattle.std.specs.Prelude.{Contains}
-use Rattle.std.proofs.lemmas.Bool.{false≢true}
-use Rattle.std.proofs.lemmas.List.{take_all, take_more}
-use Rattle.std.proofs.lemmas.List.Elements.{Contains-push_cases}
+use Rattle.call_choices.proofs.Common.{◌≤◌, ℕ, take, get_or, sym, ◌∙◌, subst, ⊎_elim, arith, Contains, false≢true, take_all, take_more}
+use Rattle.call_choices.proofs.Common.{Contains-push_cases}
+use Rattle.call_choices.proofs.first_keys.agrees.Goals.{then-low-key+then-key-high+else-ne, else-low-key, else-low-key-via-then-low-key+else-key-high}
+use Rattle.call_choices.proofs.first_keys.agrees.Goals.{else-low-key-via-else-low-key}
 use Rattle.call_choices.proofs.first_keys.agrees.Goals as goal
-use Rattle.call_choices.proofs.first_keys.agrees.Goals.{then-low-key+then-key-high+else-ne, else-low-key, else-low-key-via-then-low-key+else-key-high, else-low-key-via-else-low-key}
 
 pub loop-key-preserved : goal.loop-key-preserved
 loop-key-preserved c =

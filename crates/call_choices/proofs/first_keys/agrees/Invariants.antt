@@ -1,5 +1,4 @@
-use Rattle.std.proofs.Common.{◌≡◌, ◌≤◌, ℕ, false, take}
-use Rattle.std.specs.Prelude.{Contains}
+use Rattle.call_choices.proofs.Common.{◌≡◌, ◌≤◌, ℕ, false, take, Contains}
 use Rattle.call_choices.proofs.first_keys.agrees.Given as goal
 
 -- none of those so far is within the range, unless it is marked

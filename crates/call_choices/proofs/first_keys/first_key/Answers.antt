@@ -1,11 +1,5 @@
-use Rattle.std.proofs.Common.{◌≡◌, ℕ, Some, [], ◌∷◌, length, refl}
-use Rattle.std.specs.Prelude.{◌⊎◌, slice_get}
-use Rattle.std.proofs.lemmas.Bool.{both_ways}
-use Rattle.std.proofs.lemmas.Option.{slice_get_read}
-use Rattle.events.specs.declared.operation.Response.{Response}
-use Rattle.quiet_cuts.specs.Values.{IsCallOf}
-use Rattle.call_choices.specs.FirstKeys.{IsMissed, HasAnswered}
-use Rattle.call_choices.specs.Standing.{places}
+use Rattle.call_choices.proofs.Common.{◌≡◌, ℕ, Some, [], ◌∷◌, length, refl, ◌⊎◌, slice_get, both_ways, slice_get_read, Response, IsCallOf, IsMissed}
+use Rattle.call_choices.proofs.Common.{HasAnswered, places}
 use Rattle.call_choices.proofs.FirstKeyLemmas.{some_more, answered-first}
 use Rattle.call_choices.proofs.first_keys.first_key.Goals as goal
 

@@ -1,6 +1,4 @@
-use Rattle.std.proofs.Common.{subst}
-use Rattle.call_choices.specs.FirstKeys.{AllMissOne}
-use Rattle.call_choices.specs.Standing.{places}
+use Rattle.call_choices.proofs.Common.{subst, AllMissOne, places}
 use Rattle.call_choices.proofs.FirstKeyLemmas.{answered-push}
 use Rattle.call_choices.proofs.first_keys.first_keys.Goals as goal
 

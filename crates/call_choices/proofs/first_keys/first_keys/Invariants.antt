@@ -1,5 +1,4 @@
-use Rattle.call_choices.specs.FirstKeys.{HasAnswered}
-use Rattle.call_choices.specs.Standing.{places}
+use Rattle.call_choices.proofs.Common.{HasAnswered, places}
 use Rattle.call_choices.proofs.first_keys.first_keys.Given as goal
 
 abbrev pub ghost-first_key : goal.ghost-first_key

@@ -1,9 +1,5 @@
-use Rattle.std.proofs.Common.{ℕ, sym, ap, ◌∙◌, subst}
-use Rattle.std.specs.Prelude.{◌≤◌, Contains}
-use Rattle.std.proofs.lemmas.Option.{same_Some}
-use Rattle.events.specs.declared.operation.Response.{Response}
-use Rattle.map_object.specs.MapObject.{Contents}
-use Rattle.call_choices.specs.FirstKeys.{OneDiffers}
+use Rattle.call_choices.proofs.Common.{ℕ, sym, ap, ◌∙◌, subst, Contains, same_Some, Response, Contents, OneDiffers}
+use Rattle.std.specs.Prelude.{◌≤◌}
 use Rattle.call_choices.proofs.FirstKeyLemmas.{scan_misses_one}
 use Rattle.call_choices.proofs.first_keys.is_tied.Goals as goal
 

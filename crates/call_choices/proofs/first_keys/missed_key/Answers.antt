@@ -1,8 +1,4 @@
-use Rattle.std.proofs.Common.{◌≡◌, ℕ, Some, sym, ap, ◌∙◌, subst}
-use Rattle.std.proofs.lemmas.Option.{same_Some}
-use Rattle.events.specs.declared.operation.Response.{Response}
-use Rattle.map_object.specs.MapObject.{Contents}
-use Rattle.call_choices.specs.FirstKeys.{IsMissed, Differs}
+use Rattle.call_choices.proofs.Common.{◌≡◌, ℕ, Some, sym, ap, ◌∙◌, subst, same_Some, Response, Contents, IsMissed, Differs}
 use Rattle.call_choices.proofs.FirstKeyLemmas.{some_more, scan_missed}
 use Rattle.call_choices.proofs.first_keys.missed_key.Goals as goal
 

@@ -1,10 +1,8 @@
-use Rattle.std.proofs.Common.{◌≡◌, Some, length, refl}
-use Rattle.std.specs.Prelude.{slice_get}
-use Rattle.std.proofs.lemmas.Option.{slice_get_read}
-use Rattle.call_choices.specs.Standing.{places}
+use Rattle.call_choices.proofs.Common.{◌≡◌, Some, length, refl, slice_get, slice_get_read, places}
 use Rattle.call_choices.proofs.FirstKeyLemmas.{all_miss-taken, all_miss-more, all_miss-late, all_miss-all}
+use Rattle.call_choices.proofs.first_keys.tied_scan.Goals.{else-not-is_taken-via-then-not-is_taken+else-is_tied}
+use Rattle.call_choices.proofs.first_keys.tied_scan.Goals.{else-not-is_taken-via-else-not-is_taken}
 use Rattle.call_choices.proofs.first_keys.tied_scan.Goals as goal
-use Rattle.call_choices.proofs.first_keys.tied_scan.Goals.{else-not-is_taken-via-then-not-is_taken+else-is_tied, else-not-is_taken-via-else-not-is_taken}
 
 pub returns-then-answered-call-clause-none : goal.returns-then-answered-call-clause-none
 returns-then-answered-call-clause-none g c =

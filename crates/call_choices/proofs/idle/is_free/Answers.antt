@@ -1,7 +1,4 @@
-use Rattle.std.proofs.Common.{◌≡◌, Some, length, refl}
-use Rattle.std.specs.Prelude.{slice_get}
-use Rattle.std.proofs.lemmas.Option.{slice_get_read}
-use Rattle.call_choices.specs.Standing.{places}
+use Rattle.call_choices.proofs.Common.{◌≡◌, Some, length, refl, slice_get, slice_get_read, places}
 use Rattle.call_choices.proofs.IdleLemmas.{free-none, free-more, free-late, free-all}
 use Rattle.call_choices.proofs.idle.is_free.Goals as goal
 

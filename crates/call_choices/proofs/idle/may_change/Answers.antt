@@ -1,10 +1,5 @@
-use Rattle.std.proofs.Common.{◌≡◌, Some, length, refl, sym, ap, ◌∙◌, subst, inr, arith}
-use Rattle.std.specs.Prelude.{slice_get, is_some, Contains}
-use Rattle.std.proofs.lemmas.Bool.{false≢true, not-false}
-use Rattle.std.proofs.lemmas.Option.{slice_get_read, same_Some}
-use Rattle.events.specs.declared.operation.Operation.{Operation}
-use Rattle.segments.proofs.RangeLemmas.{IsOutside}
-use Rattle.call_choices.specs.Standing.{places}
+use Rattle.call_choices.proofs.Common.{◌≡◌, Some, length, refl, sym, ap, ◌∙◌, subst, inr, arith, slice_get, is_some, Contains, false≢true, not-false}
+use Rattle.call_choices.proofs.Common.{slice_get_read, same_Some, Operation, IsOutside, places}
 use Rattle.call_choices.proofs.idle.may_change.Goals as goal
 
 pub is_taken-requires : goal.is_taken-requires

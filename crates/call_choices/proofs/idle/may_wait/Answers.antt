@@ -1,10 +1,5 @@
-use Rattle.std.proofs.Common.{◌≡◌, Some, length, refl, sym, ap, ◌∙◌, subst, arith}
-use Rattle.std.specs.Prelude.{slice_get, is_some}
-use Rattle.std.proofs.lemmas.Bool.{false≢true, not-false}
-use Rattle.std.proofs.lemmas.Option.{slice_get_read, same_Some}
-use Rattle.events.specs.declared.operation.Operation.{Operation}
-use Rattle.call_choices.specs.Idle.{WaitsForNone}
-use Rattle.call_choices.specs.Standing.{places}
+use Rattle.call_choices.proofs.Common.{◌≡◌, Some, length, refl, sym, ap, ◌∙◌, subst, arith, slice_get, is_some, false≢true, not-false, slice_get_read}
+use Rattle.call_choices.proofs.Common.{same_Some, Operation, WaitsForNone, places}
 use Rattle.call_choices.proofs.idle.may_wait.Goals as goal
 
 pub is_taken-requires : goal.is_taken-requires

@@ -1,9 +1,4 @@
-use Rattle.std.proofs.Common.{sym, ◌∙◌, subst}
-use Rattle.map_object.specs.MapObject.{Contents, IsRising}
-use Rattle.orders.specs.Orders.{calls_at}
-use Rattle.quiet_cuts.proofs.ValueLemmas.{rising_after}
-use Rattle.call_choices.specs.Idle.{MissesPair}
-use Rattle.call_choices.specs.Standing.{places}
+use Rattle.call_choices.proofs.Common.{sym, ◌∙◌, subst, Contents, IsRising, calls_at, rising_after, MissesPair, places}
 use Rattle.call_choices.proofs.IdleLemmas.{waits-missing}
 use Rattle.call_choices.proofs.idle.waits_for_none.Goals as goal
 

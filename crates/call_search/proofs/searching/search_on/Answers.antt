@@ -7,7 +7,8 @@ use Rattle.call_choices.specs.Standing.{HasMoved, rest_of}
 use Rattle.call_choices.specs.declared.branch.CallSearch.{CallSearch}
 use Rattle.call_search.proofs.searching.search_on.Goals as goal
 
--- a search that has moved has less to do: a configuration more is one fewer that the budget allows
+-- a search that has moved has less to do: each new configuration leaves one fewer that the budget
+-- allows
 falls : (start : Contents) (calls : List Operation) (budget : ℕ) (old new : CallSearch) → length old.memo ≤ budget
     → HasMoved start calls old new
     → rest_of budget (length calls) new < rest_of budget (length calls) old

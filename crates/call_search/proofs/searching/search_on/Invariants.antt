@@ -8,7 +8,7 @@ ghost-look_on g a = g.start
 abbrev pub ghost-make_step : goal.ghost-make_step
 ghost-make_step g a = g.start
 
--- the search stands somewhere
+-- the search is in some state
 abbrev pub invariant-loop-alloc : goal.invariant-loop-alloc
 invariant-loop-alloc g l = Stands g.start l.calls l.standing
 

@@ -1,13 +1,9 @@
-use Rattle.std.proofs.Common.{subst, arith}
-use Rattle.std.proofs.lemmas.List.{take_all}
-use Rattle.std.proofs.lemmas.Option.{slice_get-get_or}
+use Rattle.certificate.proofs.Common.{subst, arith, take_all, slice_get-get_or, IsRefusedFor, IsPrefixOf}
 use Rattle.std.proofs.lemmas.Result.{err_from_is_err_and}
 use Rattle.events.specs.Operations.{operations}
-use Rattle.certificate.specs.Faults.{IsRefusedFor}
-use Rattle.certificate.specs.Prefix.{IsPrefixOf}
 use Rattle.certificate.proofs.FaultLemmas.{refused_order}
-use Rattle.certificate.proofs.checker.take_numbers.Goals as goal
 use Rattle.certificate.proofs.checker.take_numbers.Goals.{In_err-take}
+use Rattle.certificate.proofs.checker.take_numbers.Goals as goal
 
 -- a number that is not taken shows why the list is refused
 refused : (c : In_err-take) → IsRefusedFor c.args.history.now.start (operations c.args.history.now.events) c.args.order.now

@@ -1,5 +1,4 @@
-use Rattle.std.proofs.Common.{take}
-use Rattle.certificate.specs.Prefix.{IsPrefixOf}
+use Rattle.certificate.proofs.Common.{take, IsPrefixOf}
 use Rattle.certificate.proofs.checker.take_numbers.Given as goal
 
 abbrev pub invariant-loop-place : goal.invariant-loop-place

@@ -1,9 +1,8 @@
-use Rattle.std.proofs.Common.{◌≡◌, length, subst, arith}
+use Rattle.cutter.proofs.Common.{◌≡◌, length, subst, arith, AreChained}
 use Rattle.std.specs.Prelude.{take}
-use Rattle.cutter.specs.KeyRanges.{AreChained}
 use Rattle.cutter.proofs.ChainLemmas.{IsWalked-more, AreApart-from_walk}
-use Rattle.cutter.proofs.cutting.chained_len.Goals as goal
 use Rattle.cutter.proofs.cutting.chained_len.Goals.{else-place-gt0-via-then-place-gt0+else-reach-range, else-place-gt0-via-else-place-gt0}
+use Rattle.cutter.proofs.cutting.chained_len.Goals as goal
 
 pub returns-then-reach-range-clause-apart : goal.returns-then-reach-range-clause-apart
 returns-then-reach-range-clause-apart c =

@@ -1,12 +1,7 @@
-use Rattle.std.proofs.Common.{arith}
-use Rattle.std.specs.Prelude.{All}
+use Rattle.cutter.proofs.Common.{arith, All, operations, IsLinearizable, AreSegments, keys_in_order-operations}
 use Rattle.std.proofs.lemmas.Result.{IfOk-weaker}
-use Rattle.events.specs.Operations.{operations}
-use Rattle.orders.specs.Orders.{IsLinearizable}
-use Rattle.segments.specs.Segments.{AreSegments}
 use Rattle.segments.specs.SegmentOrders.{HasNoOrder}
 use Rattle.events.proofs.OperationLemmas.{length-operations_le}
-use Rattle.segments.proofs.SegmentViewLemmas.{keys_in_order-operations}
 use Rattle.segments.proofs.LocalityLemmas.{not_linearizable-segment}
 use Rattle.cutter.proofs.cutting.cut.Goals as goal
 

@@ -1,7 +1,4 @@
-use Rattle.std.proofs.Common.{◌≡◌, length, sym, ◌∙◌}
-use Rattle.std.proofs.lemmas.Bool.{eqb-true}
-use Rattle.std.proofs.lemmas.List.{nil_from_length}
-use Rattle.events.specs.Operations.{operations}
+use Rattle.cutter.proofs.Common.{◌≡◌, length, sym, ◌∙◌, eqb-true, nil_from_length, operations}
 use Rattle.cutter.proofs.WalkLemmas.{AreSegmentsBefore-more, distinct_first, known_first, some_first, AreSegments-from_before}
 use Rattle.cutter.proofs.cutting.segments_of.Goals as goal
 

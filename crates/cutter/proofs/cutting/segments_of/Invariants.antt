@@ -1,5 +1,4 @@
-use Rattle.std.proofs.Common.{length}
-use Rattle.events.specs.Operations.{operations}
+use Rattle.cutter.proofs.Common.{length, operations}
 use Rattle.cutter.proofs.WalkLemmas.{AreSegmentsBefore}
 use Rattle.cutter.proofs.cutting.segments_of.Given as goal
 

@@ -1,6 +1,4 @@
-use Rattle.std.proofs.Common.{rules}
-use Rattle.std.proofs.lemmas.List.Sorted.{IsNonDecreasingBy-from_sort_by_key}
-use Rattle.cutter.specs.declared.key_range.KeyRange.{KeyRange}
+use Rattle.cutter.proofs.Common.{rules, IsNonDecreasingBy-from_sort_by_key, KeyRange}
 use Rattle.cutter.proofs.KeyRangeLemmas.{AreRanges-IsPermutation, RiseByLow-from_sort}
 use Rattle.cutter.proofs.key_range.ranges_by_low_key.Goals as goal
 

@@ -1,12 +1,8 @@
-use Rattle.std.proofs.Common.{◌≡◌, ◌≤◌, Some, length, refl, subst, sym, arith}
-use Rattle.std.specs.Prelude.{slice_get}
-use Rattle.std.proofs.lemmas.Bool.{false_from_ne_true}
-use Rattle.std.proofs.lemmas.Option.{slice_get_read}
-use Rattle.events.specs.Keys.{low_key, high_key}
-use Rattle.events.specs.Precedence.{belongs}
+use Rattle.cutter.proofs.Common.{◌≡◌, ◌≤◌, Some, length, refl, subst, sym, arith, slice_get, false_from_ne_true, slice_get_read, low_key, high_key}
+use Rattle.cutter.proofs.Common.{belongs}
 use Rattle.cutter.proofs.KeyRangeLemmas.{AreRangesBelow-take, AreRangesBelow-skip, AreRanges-from_below}
-use Rattle.cutter.proofs.key_range.ranges_of.Goals as goal
 use Rattle.cutter.proofs.key_range.ranges_of.Goals.{in-Some+in_ok-push, in_default}
+use Rattle.cutter.proofs.key_range.ranges_of.Goals as goal
 
 pub loop-number-preserved : goal.loop-number-preserved
 loop-number-preserved c =

@@ -1,8 +1,4 @@
-use Rattle.std.proofs.Common.{◌≡◌, subst, sym, rules}
-use Rattle.std.specs.Prelude.{◌≢◌, AllPairs}
-use Rattle.std.proofs.lemmas.List.Sorted.{IsNonDecreasingBy-from_sort}
-use Rattle.list_laws.proofs.FilterLemmas.{AllPairs-map}
-use Rattle.cutter.specs.declared.key_range.KeyRange.{KeyRange}
+use Rattle.cutter.proofs.Common.{◌≡◌, subst, sym, rules, ◌≢◌, AllPairs, IsNonDecreasingBy-from_sort, AllPairs-map, KeyRange}
 use Rattle.cutter.proofs.KeyRangeLemmas.{numbers_of, IsStrictlyIncreasing-from_sort}
 use Rattle.cutter.proofs.key_range.rising_numbers.Goals as goal
 

@@ -1,8 +1,5 @@
-use Rattle.std.proofs.Common.{◌+◌, ◌++◌, take, drop, ap, sym, subst, ◌∙◌}
-use Rattle.std.proofs.lemmas.List.{take-append-drop}
-use Rattle.running.specs.Groups.{shows, opened_for}
+use Rattle.drives.proofs.Common.{◌+◌, ◌++◌, take, drop, ap, sym, subst, ◌∙◌, take-append-drop, shows, opened_for, least_process}
 use Rattle.running.specs.Progressed.{HasProgressed}
-use Rattle.running.specs.Steps.{least_process}
 use Rattle.drives.proofs.ArenaScriptLemmas.{IsBetween, take-next, begins, answers, stops}
 use Rattle.drives.proofs.arena_script.do_script.Goals as goal
 

@@ -1,6 +1,4 @@
-use Rattle.std.proofs.Common.{take}
-use Rattle.running.specs.Groups.{shows, opened_for, IsGroupOf}
-use Rattle.running.specs.Steps.{least_process}
+use Rattle.drives.proofs.Common.{take, shows, opened_for, IsGroupOf, least_process}
 use Rattle.drives.proofs.ArenaScriptLemmas.{IsBetween}
 use Rattle.drives.proofs.arena_script.do_script.Given as goal
 

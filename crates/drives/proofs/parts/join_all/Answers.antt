@@ -1,8 +1,5 @@
-use Rattle.std.proofs.Common.{◌≡◌, ◌∷◌, All, IfOk, sym, ap, subst, ◌∙◌}
-use Rattle.std.specs.Vec.Iter.{into_iter_items}
-use Rattle.std.proofs.lemmas.List.Elements.{All-rest, All-head, All-tail}
-use Rattle.running.specs.Groups.{shows, IsGroupOf}
-use Rattle.drives.specs.Groups.{gathered, joined}
+use Rattle.drives.proofs.Common.{◌≡◌, ◌∷◌, sym, ap, subst, ◌∙◌, into_iter_items, All-rest, All-head, All-tail, shows, IsGroupOf, gathered, joined}
+use Rattle.std.proofs.Common.{All, IfOk}
 use Rattle.drives.proofs.parts.join_all.Goals as goal
 
 pub loop-group-init : goal.loop-group-init

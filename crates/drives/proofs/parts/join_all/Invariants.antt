@@ -1,8 +1,5 @@
-use Rattle.std.proofs.Common.{◌≡◌, All}
-use Rattle.std.specs.Prelude.{IfOk}
-use Rattle.std.specs.Vec.Iter.{into_iter_items}
-use Rattle.running.specs.Groups.{shows, IsGroupOf}
-use Rattle.drives.specs.Groups.{gathered, joined}
+use Rattle.drives.proofs.Common.{◌≡◌, IfOk, into_iter_items, shows, IsGroupOf, gathered, joined}
+use Rattle.std.proofs.Common.{All}
 use Rattle.drives.proofs.parts.join_all.Given as goal
 
 abbrev pub invariant-loop-group : goal.invariant-loop-group

@@ -1,8 +1,4 @@
-use Rattle.std.proofs.Common.{◌≡◌, ◌+◌, ◌-◌, length, vec_len, ap, ◌∙◌, arith}
-use Rattle.std.proofs.lemmas.List.Elements.{All-push}
-use Rattle.art_shared.specs.Views.{view}
-use Rattle.running.specs.Groups.{shows, opened_for}
-use Rattle.drives.specs.Groups.{IsReady}
+use Rattle.drives.proofs.Common.{◌≡◌, ◌+◌, ◌-◌, length, vec_len, ap, ◌∙◌, arith, All-push, view, shows, opened_for, IsReady}
 use Rattle.drives.proofs.PartLemmas.{first_idle, length-idle, kept-idle, given-idle}
 use Rattle.drives.proofs.parts.part_all.Goals as goal
 

@@ -1,8 +1,5 @@
-use Rattle.std.proofs.Common.{◌≡◌, ◌+◌, ◌-◌}
-use Rattle.std.specs.Prelude.{vec_len, All}
-use Rattle.art_shared.specs.Views.{view}
-use Rattle.running.specs.Groups.{shows, opened_for, IsGroupOf}
-use Rattle.drives.specs.Groups.{IsReady}
+use Rattle.drives.proofs.Common.{◌≡◌, ◌+◌, ◌-◌, All, view, shows, opened_for, IsGroupOf, IsReady}
+use Rattle.std.specs.Prelude.{vec_len}
 use Rattle.drives.proofs.PartLemmas.{first_idle}
 use Rattle.drives.proofs.parts.part_all.Given as goal
 

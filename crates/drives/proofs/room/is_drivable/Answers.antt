@@ -1,6 +1,4 @@
-use Rattle.std.proofs.Common.{◌≡◌, ◌*◌, length, refl, sym, ap, ◌∙◌, arith}
-use Rattle.std.proofs.lemmas.List.{length-map}
-use Rattle.drives.specs.Drives.{most_calls}
+use Rattle.drives.proofs.Common.{◌≡◌, ◌*◌, length, refl, sym, ap, ◌∙◌, arith, length-map, most_calls}
 use Rattle.drives.proofs.RoomLemmas.{room-within}
 use Rattle.drives.proofs.room.is_drivable.Goals as goal
 

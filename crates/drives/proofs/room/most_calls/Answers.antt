@@ -1,9 +1,8 @@
-use Rattle.std.proofs.Common.{length, ap, slice_index_or, arith}
-use Rattle.list_laws.proofs.NumberLemmas.{greatest_more}
-use Rattle.std.proofs.lemmas.List.{take_all}
+use Rattle.drives.proofs.Common.{length, ap, arith, greatest_more, take_all}
+use Rattle.std.proofs.Common.{slice_index_or}
 use Rattle.drives.proofs.RoomLemmas.{longest-found, longest-bound}
-use Rattle.drives.proofs.room.most_calls.Goals as goal
 use Rattle.drives.proofs.room.most_calls.Goals.{then-len-most, else-len-most}
+use Rattle.drives.proofs.room.most_calls.Goals as goal
 
 pub loop-script-preserved : goal.loop-script-preserved
 loop-script-preserved c =

@@ -1,5 +1,4 @@
-use Rattle.std.proofs.Common.{◌≡◌, map, take, length}
-use Rattle.list_laws.specs.Lists.{greatest}
+use Rattle.drives.proofs.Common.{◌≡◌, map, take, length, greatest}
 use Rattle.drives.proofs.room.most_calls.Given as goal
 
 abbrev pub invariant-loop-script : goal.invariant-loop-script

@@ -1,7 +1,4 @@
-use Rattle.std.proofs.Common.{◌≡◌, true, length, sym, ap, ◌∙◌, arith, subst}
-use Rattle.std.proofs.lemmas.List.{length-take, take_all}
-use Rattle.art_steps.specs.TreeCalls.{is_tree_call}
-use Rattle.recorder.specs.Passes.{events_by}
+use Rattle.drives.proofs.Common.{◌≡◌, true, length, sym, ap, ◌∙◌, arith, subst, length-take, take_all, is_tree_call, events_by}
 use Rattle.drives.proofs.ScriptLemmas.{tree-call-range, count-invoked, own-calls}
 use Rattle.drives.proofs.script.do_script.Goals as goal
 

@@ -1,8 +1,4 @@
-use Rattle.std.proofs.Common.{◌≡◌, false, take}
-use Rattle.recorder.specs.Passes.{process_number, calls_of, events_by, is_waiting}
-use Rattle.recorder.specs.Recorders.{IsPassOf}
-use Rattle.drives.specs.Drives.{invoked}
-use Rattle.drives.specs.Passes.{AreOwn, AnswersFit}
+use Rattle.drives.proofs.Common.{◌≡◌, false, take, process_number, calls_of, events_by, is_waiting, IsPassOf, invoked, AreOwn, AnswersFit}
 use Rattle.drives.proofs.script.do_script.Given as goal
 
 abbrev pub invariant-loop-call : goal.invariant-loop-call

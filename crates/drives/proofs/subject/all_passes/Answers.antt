@@ -1,6 +1,4 @@
-use Rattle.std.proofs.Common.{◌≡◌, [], ◌∷◌, ◌++◌, map, sym, ap, ◌∙◌, append_assoc, arith}
-use Rattle.std.proofs.lemmas.List.{append-nil, nil_from_length}
-use Rattle.std.specs.Vec.Iter.{into_iter_items}
+use Rattle.drives.proofs.Common.{◌≡◌, [], ◌∷◌, ◌++◌, map, sym, ap, ◌∙◌, append_assoc, arith, append-nil, nil_from_length, into_iter_items}
 use Rattle.drives.proofs.DriveLemmas.{Ok-pass}
 use Rattle.drives.proofs.subject.all_passes.Goals as goal
 

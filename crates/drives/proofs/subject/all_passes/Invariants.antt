@@ -1,5 +1,4 @@
-use Rattle.std.proofs.Common.{◌≡◌, ◌++◌, map, Ok}
-use Rattle.std.specs.Vec.Iter.{into_iter_items}
+use Rattle.drives.proofs.Common.{◌≡◌, ◌++◌, map, Ok, into_iter_items}
 use Rattle.drives.proofs.subject.all_passes.Given as goal
 
 abbrev pub invariant-loop-pass : goal.invariant-loop-pass

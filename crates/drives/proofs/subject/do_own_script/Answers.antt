@@ -1,8 +1,5 @@
-use Rattle.std.proofs.Common.{◌≡◌, ◌<◌, length, map, Some, sym, ap, ◌∙◌, arith}
-use Rattle.std.specs.Prelude.{All, IsTrue, slice_get}
-use Rattle.list_laws.proofs.Lists.{All-at}
-use Rattle.art_steps.specs.TreeCalls.{is_tree_call}
-use Rattle.recorder.specs.Passes.{process_number}
+use Rattle.drives.proofs.Common.{◌≡◌, ◌<◌, length, map, Some, sym, ap, ◌∙◌, arith, All, slice_get, All-at, is_tree_call, process_number}
+use Rattle.std.specs.Prelude.{IsTrue}
 use Rattle.drives.proofs.DriveLemmas.{at-mapped, after-script}
 use Rattle.drives.proofs.subject.do_own_script.Goals as goal
 

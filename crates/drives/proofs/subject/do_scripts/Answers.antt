@@ -1,10 +1,5 @@
-use Rattle.std.proofs.Common.{◌≡◌, ◌<◌, length, map, vec_len, ap, arith, rules, subst}
-use Rattle.std.specs.Prelude.{IfOk, slice_index_or}
-use Rattle.std.proofs.lemmas.List.{length-map}
-use Rattle.std.proofs.lemmas.List.FromFn.{length-range_with_len}
-use Rattle.std.proofs.lemmas.Result.{IfOk-weaker}
-use Rattle.recorder.specs.Passes.{process_number}
-use Rattle.drives.specs.Passes.{IsPassAfter, EachIsAfter}
+use Rattle.drives.proofs.Common.{◌≡◌, ◌<◌, length, map, vec_len, ap, arith, rules, subst, IfOk, slice_index_or, length-map, length-range_with_len}
+use Rattle.drives.proofs.Common.{IfOk-weaker, process_number, IsPassAfter, EachIsAfter}
 use Rattle.drives.proofs.DriveLemmas.{both-of, process-at}
 use Rattle.drives.proofs.subject.do_scripts.Goals as goal
 

@@ -1,11 +1,7 @@
-use Rattle.std.proofs.Common.{◌≡◌, length, map, sym, ◌∙◌, arith, subst}
-use Rattle.std.proofs.lemmas.List.{length-map}
-use Rattle.events.specs.HistoryView.{with_no_start}
-use Rattle.recorder.specs.Recorders.{history_of}
-use Rattle.drives.specs.Drives.{IsDriveOf}
+use Rattle.drives.proofs.Common.{◌≡◌, length, map, sym, ◌∙◌, arith, subst, length-map, with_no_start, history_of, IsDriveOf}
 use Rattle.drives.proofs.DriveLemmas.{are-own, one-of-each, drive-of}
-use Rattle.drives.proofs.subject.drive_subject.Goals as goal
 use Rattle.drives.proofs.subject.drive_subject.Goals.{In_ok-passes}
+use Rattle.drives.proofs.subject.drive_subject.Goals as goal
 
 -- there are as many passes as scripts
 passes-many : (g : _) (c : In_ok-passes g) → length c.in_ok-passes.passes.items ≡ length (map (λ script. script.items)

@@ -1,6 +1,4 @@
-use Rattle.std.proofs.Common.{◌≡◌, length, map, arith}
-use Rattle.std.proofs.lemmas.Result.{IfOk-weaker}
-use Rattle.drives.specs.Passes.{AreAfter}
+use Rattle.drives.proofs.Common.{◌≡◌, length, map, arith, IfOk-weaker, AreAfter}
 use Rattle.drives.proofs.DriveLemmas.{length-values, each-pass}
 use Rattle.drives.proofs.subject.passes_after.Goals as goal
 

@@ -1,5 +1,4 @@
-use Rattle.std.proofs.Common.{map, [], ◌∷◌, ◌++◌, sym, ap, ◌∙◌}
-use Rattle.std.proofs.lemmas.List.{map_push}
+use Rattle.drives.proofs.Common.{map, [], ◌∷◌, ◌++◌, sym, ap, ◌∙◌, map_push}
 use Rattle.drives.proofs.DriveLemmas.{Ok-pass}
 use Rattle.drives.proofs.subject.put.Goals as goal
 

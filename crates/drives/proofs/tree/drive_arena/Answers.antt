@@ -1,17 +1,9 @@
-use Rattle.std.proofs.Common.{◌≡◌, length, map, sym, ap, subst, ◌∙◌, arith}
-use Rattle.std.specs.Prelude.{All, EachIndex}
-use Rattle.std.proofs.lemmas.List.{length-map}
-use Rattle.art_shared.specs.Ends.{HasOwnEvents}
-use Rattle.drives.specs.Drives.{most_calls}
-use Rattle.running.specs.Groups.{shows, opened_for, setup_with}
-use Rattle.running.specs.Closing.{HoldsAll, IsHistoryOf}
-use Rattle.running.specs.Linearizable.{IsLinearizableIn}
-use Rattle.drives.specs.ArenaDrives.{IsArenaDriveOf}
-use Rattle.drives.specs.Groups.{HasDoneOwn}
+use Rattle.drives.proofs.Common.{◌≡◌, length, map, sym, ap, subst, ◌∙◌, arith, All, EachIndex, length-map, HasOwnEvents, most_calls, shows}
+use Rattle.drives.proofs.Common.{opened_for, setup_with, HoldsAll, IsHistoryOf, IsLinearizableIn, IsArenaDriveOf, HasDoneOwn}
 use Rattle.drives.proofs.JoinLemmas.{AreDone, joined-done}
 use Rattle.drives.proofs.ArenaDriveLemmas.{drive-of, memory-wanted, passed}
-use Rattle.drives.proofs.tree.drive_arena.Goals as goal
 use Rattle.drives.proofs.tree.drive_arena.Goals.{In_ok-group}
+use Rattle.drives.proofs.tree.drive_arena.Goals as goal
 
 -- what the arena was opened for
 opened : (g : _) (c : In_ok-group g) → opened_for c.in_ok-arena.arena

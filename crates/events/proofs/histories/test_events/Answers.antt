@@ -1,7 +1,4 @@
-use Rattle.std.proofs.Common.{◌≡◌, ◌+◌, length, take, drop, arith}
-use Rattle.std.proofs.lemmas.Result.{err_from_is_err_and}
-use Rattle.std.proofs.lemmas.List.{take_more, take_all, length-take-le}
-use Rattle.list_laws.proofs.Places.{parts_at}
+use Rattle.events.proofs.Common.{◌≡◌, ◌+◌, length, take, drop, arith, err_from_is_err_and, take_more, take_all, length-take-le, parts_at}
 use Rattle.events.proofs.HistoryLemmas.{AreHistoryEvents-none}
 use Rattle.events.proofs.histories.test_events.Goals as goal
 

@@ -1,6 +1,4 @@
-use Rattle.std.proofs.Common.{take}
-use Rattle.events.specs.Histories.{AreHistoryEvents}
-use Rattle.events.specs.OpenCalls.{AreOpenAfter}
+use Rattle.events.proofs.Common.{take, AreHistoryEvents, AreOpenAfter}
 use Rattle.events.proofs.histories.test_events.Given as goal
 
 abbrev pub invariant-loop-place : goal.invariant-loop-place

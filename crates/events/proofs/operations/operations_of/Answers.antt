@@ -1,8 +1,7 @@
-use Rattle.std.proofs.Common.{sym, append_assoc}
-use Rattle.std.proofs.lemmas.List.{append-nil, drop_all}
+use Rattle.events.proofs.Common.{sym, append_assoc, append-nil, drop_all}
 use Rattle.events.proofs.OperationLemmas.{operations_from-invocation, operations_from-response}
-use Rattle.events.proofs.operations.operations_of.Goals as goal
 use Rattle.events.proofs.operations.operations_of.Goals.{in-Invoke+in_ok-response+in_ok-push, in_default}
+use Rattle.events.proofs.operations.operations_of.Goals as goal
 
 pub loop-inv-preserved : goal.loop-inv-preserved
 loop-inv-preserved c =

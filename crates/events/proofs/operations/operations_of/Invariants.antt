@@ -1,5 +1,4 @@
-use Rattle.std.proofs.Common.{◌≡◌, ◌++◌, drop}
-use Rattle.events.specs.Operations.{operations, operations_from}
+use Rattle.events.proofs.Common.{◌≡◌, ◌++◌, drop, operations, operations_from}
 use Rattle.events.proofs.operations.operations_of.Given as goal
 
 abbrev pub invariant-loop-inv : goal.invariant-loop-inv

@@ -1,5 +1,4 @@
-use Rattle.std.proofs.Common.{◌≡◌, drop}
-use Rattle.events.specs.Operations.{response_from}
+use Rattle.events.proofs.Common.{◌≡◌, drop, response_from}
 use Rattle.events.proofs.operations.response_of.Given as goal
 
 abbrev pub invariant-loop-res : goal.invariant-loop-res

@@ -1,5 +1,4 @@
-use Rattle.std.proofs.Common.{take}
-use Rattle.events.specs.Starts.{IsStart}
+use Rattle.events.proofs.Common.{take, IsStart}
 use Rattle.events.proofs.starts.test_start.Given as goal
 
 abbrev pub invariant-loop-place : goal.invariant-loop-place

@@ -1,8 +1,6 @@
--- The report, and behind it what shows it.
-use Rattle.std.proofs.Common.{ℕ, List, ◌++◌, string_bytes, ap, ◌∙◌}
+-- The report, and after it what shows it.
+use Rattle.explain_engines.proofs.Common.{ℕ, List, ◌++◌, string_bytes, ap, ◌∙◌, line, compact_text}
 use Rattle.locating.specs.Reports.{location_data}
-use Rattle.outcomes.specs.Lines.{line}
-use Rattle.serde_json.specs.Written.{compact_text}
 use Rattle.explain_engines.proofs.explained.located_details.Goals as goal
 
 pub returns : goal.returns

@@ -1,7 +1,5 @@
 -- The lines of the values, and then those of the calls.
-use Rattle.std.proofs.Common.{◌≡◌, ℕ, List, ◌++◌, string_bytes, ap, ◌∙◌, subst, rules}
-use Rattle.map_object.specs.MapObject.{Contents}
-use Rattle.explain_engines.specs.Answers.{AreFewLines}
+use Rattle.explain_engines.proofs.Common.{◌≡◌, ℕ, List, ◌++◌, string_bytes, ap, ◌∙◌, subst, rules, Contents, AreFewLines}
 use Rattle.explain_engines.proofs.explained.part_lines.Goals as goal
 
 pub returns : goal.returns

@@ -1,9 +1,6 @@
-use Rattle.std.proofs.Common.{rules}
-use Rattle.history_text.specs.Limits.{text_limit}
+use Rattle.explain_engines.proofs.Common.{rules, text_limit, IsHistoryRefusal-whole, IsExplainAnswer}
 use Rattle.history_engines.specs.Answers.{IsHistoryRefusal}
 use Rattle.outcomes.proofs.ReadText.{IsRun-read}
-use Rattle.history_engines.proofs.WholeHistories.{IsHistoryRefusal-whole}
-use Rattle.explain_engines.specs.Answers.{IsExplainAnswer}
 use Rattle.explain_engines.proofs.OutcomeLemmas.{IsExplainAnswer-whole}
 use Rattle.explain_engines.proofs.explained.run_explain.Goals as goal
 

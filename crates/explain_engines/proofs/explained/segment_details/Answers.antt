@@ -1,5 +1,4 @@
-use Rattle.std.proofs.Common.{string_bytes, ◌∙◌}
-use Rattle.std.proofs.lemmas.Result.{IfOk-weaker}
+use Rattle.explain_engines.proofs.Common.{string_bytes, ◌∙◌, IfOk-weaker}
 use Rattle.explain_engines.proofs.LineLemmas.{few_of}
 use Rattle.explain_engines.proofs.explained.segment_details.Goals as goal
 

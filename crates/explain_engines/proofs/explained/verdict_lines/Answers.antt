@@ -1,8 +1,6 @@
--- The report, and behind it what shows the verdict.
-use Rattle.std.proofs.Common.{ℕ, List, ◌++◌, string_bytes, ap, ◌∙◌}
+-- The report, and after it what shows the verdict.
+use Rattle.explain_engines.proofs.Common.{ℕ, List, ◌++◌, string_bytes, ap, ◌∙◌, line, compact_text}
 use Rattle.judge.specs.Reports.{verdict_data}
-use Rattle.outcomes.specs.Lines.{line}
-use Rattle.serde_json.specs.Written.{compact_text}
 use Rattle.explain_engines.proofs.explained.verdict_lines.Goals as goal
 
 pub returns : goal.returns

@@ -1,14 +1,9 @@
-use Rattle.std.proofs.Common.{◌≡◌, ℕ, ◌+◌, ◌<◌, List, [], ◌∷◌, ◌++◌, length, take, Option, sym, ap, ◌∙◌, append-nil, Vec, Global}
-use Rattle.std.specs.List.{cons_option, slice_index_or}
-use Rattle.std.specs.Prelude.{slice_get}
-use Rattle.std.proofs.lemmas.List.{take_more, take_all}
-use Rattle.std.proofs.lemmas.List.Elements.{filter_map-append}
-use Rattle.events.specs.declared.operation.Operation.{Operation}
-use Rattle.orders.specs.Orders.{calls_at}
+use Rattle.explain_engines.proofs.Common.{◌≡◌, ℕ, ◌+◌, ◌<◌, List, [], ◌∷◌, ◌++◌, length, take, Option, sym, ap, ◌∙◌, append-nil, Vec, Global}
+use Rattle.explain_engines.proofs.Common.{cons_option, slice_index_or, slice_get, take_more, take_all, filter_map-append, Operation, calls_at}
 use Rattle.explain_engines.proofs.fronts.calls_at.Goals.{in-Some+in_ok-push, in_default}
 use Rattle.explain_engines.proofs.fronts.calls_at.Goals as goal
 
--- behind the calls of the numbers so far, that of the next, where there is one
+-- after the calls of the numbers so far, that of the next, where there is one
 next_call : (calls taken : List Operation) (front : List ℕ) (i : ℕ) (found : Option Operation) → i < length front
     → taken ≡ calls_at calls (take i front) → found ≡ slice_get calls (slice_index_or front i 0)
     → taken ++ cons_option found [] ≡ calls_at calls (take (i + 1) front)

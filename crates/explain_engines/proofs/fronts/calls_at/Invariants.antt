@@ -1,6 +1,5 @@
 -- The calls so far are those of the numbers so far.
-use Rattle.std.proofs.Common.{◌≡◌, take}
-use Rattle.orders.specs.Orders.{calls_at}
+use Rattle.explain_engines.proofs.Common.{◌≡◌, take, calls_at}
 use Rattle.explain_engines.proofs.fronts.calls_at.Given as goal
 
 abbrev pub invariant-loop-number : goal.invariant-loop-number

@@ -1,6 +1,5 @@
 -- The value has no float, so its text is the compact one.
-use Rattle.std.proofs.Common.{ap, ◌∙◌}
-use Rattle.serde_json.specs.Written.{has_float, compact_text}
+use Rattle.explain_engines.proofs.Common.{ap, ◌∙◌, has_float, compact_text}
 use Rattle.explain_engines.proofs.FrontLemmas.{has_float-front}
 use Rattle.explain_engines.proofs.fronts.front_line.Goals as goal
 

@@ -1,6 +1,5 @@
 -- Those so far do not precede the call.
-use Rattle.std.proofs.Common.{◌≡◌, drop}
-use Rattle.explain_engines.specs.Fronts.{is_preceded}
+use Rattle.explain_engines.proofs.Common.{◌≡◌, drop, is_preceded}
 use Rattle.explain_engines.proofs.fronts.is_preceded.Given as goal
 
 abbrev pub invariant-loop-other : goal.invariant-loop-other

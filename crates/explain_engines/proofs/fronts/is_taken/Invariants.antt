@@ -1,6 +1,5 @@
 -- Those so far are other calls.
-use Rattle.std.proofs.Common.{◌≡◌, drop}
-use Rattle.explain_engines.specs.Fronts.{is_taken}
+use Rattle.explain_engines.proofs.Common.{◌≡◌, drop, is_taken}
 use Rattle.explain_engines.proofs.fronts.is_taken.Given as goal
 
 abbrev pub invariant-loop-other : goal.invariant-loop-other

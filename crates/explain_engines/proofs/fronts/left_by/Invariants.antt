@@ -1,6 +1,5 @@
--- Those so far, with those to come.
-use Rattle.std.proofs.Common.{◌≡◌, ◌++◌, drop}
-use Rattle.explain_engines.specs.Fronts.{left_by}
+-- What was found so far, with what is to come, is all.
+use Rattle.explain_engines.proofs.Common.{◌≡◌, ◌++◌, drop, left_by}
 use Rattle.explain_engines.proofs.fronts.left_by.Given as goal
 
 abbrev pub invariant-loop-call : goal.invariant-loop-call

@@ -1,6 +1,5 @@
 -- What the calls to come leave is what all leave.
-use Rattle.std.proofs.Common.{◌≡◌, drop}
-use Rattle.orders.specs.Orders.{after_calls}
+use Rattle.explain_engines.proofs.Common.{◌≡◌, drop, after_calls}
 use Rattle.explain_engines.proofs.fronts.map_after.Given as goal
 
 abbrev pub invariant-loop-call : goal.invariant-loop-call

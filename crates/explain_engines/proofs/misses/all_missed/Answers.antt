@@ -1,8 +1,4 @@
-use Rattle.std.proofs.Common.{map, ap, ◌∙◌}
-use Rattle.std.proofs.lemmas.List.{take_all}
-use Rattle.serde_json.specs.View.{view}
-use Rattle.history_text.specs.Texts.{list_data}
-use Rattle.explain_engines.specs.Reports.{missed_data}
+use Rattle.explain_engines.proofs.Common.{map, ap, ◌∙◌, take_all, view, list_data, missed_data}
 use Rattle.explain_engines.proofs.ValueLemmas.{pushed_copy}
 use Rattle.explain_engines.proofs.misses.all_missed.Goals as goal
 

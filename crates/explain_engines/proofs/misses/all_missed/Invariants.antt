@@ -1,7 +1,5 @@
 -- The values so far are those of the calls.
-use Rattle.std.proofs.Common.{◌≡◌, map, take}
-use Rattle.serde_json.specs.View.{view}
-use Rattle.explain_engines.specs.Reports.{missed_data}
+use Rattle.explain_engines.proofs.Common.{◌≡◌, map, take, view, missed_data}
 use Rattle.explain_engines.proofs.misses.all_missed.Given as goal
 
 abbrev pub invariant-loop-call : goal.invariant-loop-call

@@ -1,6 +1,5 @@
 -- The lines so far and those of the values left are all lines.
-use Rattle.std.proofs.Common.{◌≡◌, ◌++◌, drop, string_bytes}
-use Rattle.explain_engines.specs.OwnParts.{key_lines}
+use Rattle.explain_engines.proofs.Common.{◌≡◌, ◌++◌, drop, string_bytes, key_lines}
 use Rattle.explain_engines.proofs.own_parts.key_lines.Given as goal
 
 abbrev pub invariant-loop-origin : goal.invariant-loop-origin

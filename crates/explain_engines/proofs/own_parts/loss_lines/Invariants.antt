@@ -1,6 +1,5 @@
 -- The lines so far and those of the keys left are all lines.
-use Rattle.std.proofs.Common.{◌≡◌, ◌++◌, drop, string_bytes}
-use Rattle.explain_engines.specs.OwnParts.{loss_lines}
+use Rattle.explain_engines.proofs.Common.{◌≡◌, ◌++◌, drop, string_bytes, loss_lines}
 use Rattle.explain_engines.proofs.own_parts.loss_lines.Given as goal
 
 abbrev pub invariant-loop-loss : goal.invariant-loop-loss

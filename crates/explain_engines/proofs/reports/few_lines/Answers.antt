@@ -1,11 +1,5 @@
-use Rattle.std.proofs.Common.{ℕ, List, ◌++◌, ◌≡◌, string_bytes, ap, ap₂, ◌∙◌, subst}
-use Rattle.events.specs.HistoryView.{HistoryView}
-use Rattle.events.specs.declared.operation.Operation.{Operation}
-use Rattle.explaining.specs.declared.explanation.Reason.{Reason}
-use Rattle.map_object.specs.MapObject.{Contents}
-use Rattle.orders.specs.Orders.{IsLinearizable}
-use Rattle.explain_engines.specs.Answers.{AreOriginLines, AreHistoryLines}
-use Rattle.explain_engines.specs.Reports.{rows}
+use Rattle.explain_engines.proofs.Common.{ℕ, List, ◌++◌, ◌≡◌, string_bytes, ap, ap₂, ◌∙◌, subst, HistoryView, Operation, Reason, Contents}
+use Rattle.explain_engines.proofs.Common.{IsLinearizable, AreOriginLines, AreHistoryLines, rows}
 use Rattle.explain_engines.proofs.LineLemmas.{few_from}
 use Rattle.explain_engines.proofs.reports.few_lines.Goals as goal
 

@@ -1,7 +1,4 @@
-use Rattle.std.proofs.Common.{inl, inr}
-use Rattle.std.proofs.lemmas.Result.{IfOk-weaker}
-use Rattle.events.specs.Operations.{operations}
-use Rattle.orders.specs.Orders.{IsLinearizable}
+use Rattle.explain_engines.proofs.Common.{inl, inr, IfOk-weaker, operations, IsLinearizable}
 use Rattle.explain_engines.proofs.reports.history_lines.Goals as goal
 
 pub returns-in-Some : goal.returns-in-Some

@@ -1,5 +1,4 @@
-use Rattle.std.proofs.Common.{inl, inr}
-use Rattle.std.proofs.lemmas.Result.{IfOk-weaker}
+use Rattle.explain_engines.proofs.Common.{inl, inr, IfOk-weaker}
 use Rattle.explain_engines.proofs.reports.lines_of.Goals as goal
 
 pub returns-in-Some : goal.returns-in-Some

@@ -1,10 +1,5 @@
 -- The value has no float, so its text is the compact one.
-use Rattle.std.proofs.Common.{List, map, ap, ◌∙◌}
-use Rattle.serde_json.specs.Written.{has_float, compact_text}
-use Rattle.events.specs.declared.operation.Operation.{Operation}
-use Rattle.origins.specs.Missed.{missed_by, missed_of}
-use Rattle.origins.specs.declared.missing.Missed.{Missed}
-use Rattle.explain_engines.specs.Reports.{missing_row_data}
+use Rattle.explain_engines.proofs.Common.{List, map, ap, ◌∙◌, has_float, compact_text, Operation, missed_by, missed_of, Missed, missing_row_data}
 use Rattle.explain_engines.proofs.RowLemmas.{has_float-row}
 use Rattle.explain_engines.proofs.reports.row_line.Goals as goal
 

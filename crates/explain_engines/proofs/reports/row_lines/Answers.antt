@@ -1,17 +1,10 @@
-use Rattle.std.proofs.Common.{◌≡◌, ℕ, ◌+◌, ◌<◌, ◌≤◌, List, [], ◌∷◌, ◌++◌, length, drop, refl, sym, ap, ◌∙◌}
-use Rattle.std.proofs.Common.{append_assoc, append-nil, string_bytes}
-use Rattle.std.specs.List.{slice_index_or}
-use Rattle.std.proofs.lemmas.List.{drop_more, drop_all}
-use Rattle.events.specs.declared.operation.Operation.{Operation}
-use Rattle.events.specs.HistoryView.{HistoryView}
-use Rattle.explaining.specs.declared.explanation.Reason.{Reason}
-use Rattle.serde_json.specs.Written.{compact_text}
-use Rattle.outcomes.specs.Lines.{line}
-use Rattle.explain_engines.specs.Reports.{row_data, rows}
+use Rattle.explain_engines.proofs.Common.{◌≡◌, ℕ, ◌+◌, ◌<◌, ◌≤◌, List, [], ◌∷◌, ◌++◌, length, drop, refl, sym, ap, ◌∙◌, append_assoc, append-nil}
+use Rattle.explain_engines.proofs.Common.{string_bytes, slice_index_or, drop_more, drop_all, Operation, HistoryView, Reason, compact_text, line}
+use Rattle.explain_engines.proofs.Common.{row_data, rows}
 use Rattle.explain_engines.proofs.reports.row_lines.Goals as goal
 
 module _ (history : HistoryView) (calls : List Operation) (reasons : List Reason) (i : ℕ) where
-  -- the lines to come begin with that of the next call, which goes behind the text
+  -- the lines to come begin with that of the next call, which goes after the text
   next_row : (a : Operation) (reason : Reason) (text row new all : List ℕ) → i < length calls → a ≡ slice_index_or calls i a
       → i < length reasons → reason ≡ slice_index_or reasons i reason → row ≡ line (compact_text (row_data history a reason))
       → new ≡ text ++ row → text ++ rows history (drop i calls) (drop i reasons) ≡ all
@@ -26,12 +19,12 @@ module _ (history : HistoryView) (calls : List Operation) (reasons : List Reason
       ∙ (append_assoc text (line (compact_text (row_data history a reason))) left
       ∙ (sym (λ j. text ++ rows history (calls_left j) (reasons_left j)) ∙ so_far))
 
-  -- behind the last call no line is to come
+  -- after the last call no line is to come
   no_call : (text all : List ℕ) → length calls ≤ i → text ++ rows history (drop i calls) (drop i reasons) ≡ all → text ≡ all
   no_call text all end so_far =
       sym (ap (λ l. text ++ rows history l (drop i reasons)) (drop_all i calls end) ∙ append-nil text) ∙ so_far
 
-  -- nor behind the last reason
+  -- after the last reason no line is to come
   no_rows : (l : List Operation) → rows history l [] ≡ []
   no_rows [] = refl
   no_rows (a ∷ l) = refl

@@ -1,6 +1,5 @@
 -- The lines so far and those of the calls left are all lines.
-use Rattle.std.proofs.Common.{◌≡◌, ◌++◌, drop, string_bytes}
-use Rattle.explain_engines.specs.Reports.{rows}
+use Rattle.explain_engines.proofs.Common.{◌≡◌, ◌++◌, drop, string_bytes, rows}
 use Rattle.explain_engines.proofs.reports.row_lines.Given as goal
 
 abbrev pub invariant-loop-number : goal.invariant-loop-number

@@ -1,7 +1,4 @@
-use Rattle.std.proofs.Common.{List, ℕ, ◌++◌, string_bytes, ap, ap₂, ◌∙◌}
-use Rattle.outcomes.specs.Lines.{line}
-use Rattle.serde_json.specs.Written.{compact_text}
-use Rattle.explain_engines.specs.Fronts.{front_data}
+use Rattle.explain_engines.proofs.Common.{List, ℕ, ◌++◌, string_bytes, ap, ap₂, ◌∙◌, line, compact_text, front_data}
 use Rattle.explain_engines.proofs.reports.two_lines.Goals as goal
 
 pub returns : goal.returns

@@ -1,6 +1,5 @@
 -- None of those so far is a call of the place with an answer.
-use Rattle.std.proofs.Common.{◌≡◌, drop}
-use Rattle.explain_engines.specs.Reports.{was_answered}
+use Rattle.explain_engines.proofs.Common.{◌≡◌, drop, was_answered}
 use Rattle.explain_engines.proofs.reports.was_answered.Given as goal
 
 abbrev pub invariant-loop-call : goal.invariant-loop-call

@@ -1,8 +1,4 @@
-use Rattle.std.proofs.Common.{map, ap, ◌∙◌}
-use Rattle.std.proofs.lemmas.List.{take_all}
-use Rattle.serde_json.specs.View.{view}
-use Rattle.history_text.specs.Texts.{list_data}
-use Rattle.explain_engines.specs.Origins.{writer_data}
+use Rattle.explain_engines.proofs.Common.{map, ap, ◌∙◌, take_all, view, list_data, writer_data}
 use Rattle.explain_engines.proofs.ValueLemmas.{pushed_number}
 use Rattle.explain_engines.proofs.writers.all_writers.Goals as goal
 

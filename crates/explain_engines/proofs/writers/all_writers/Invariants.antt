@@ -1,7 +1,5 @@
 -- The values so far are those of the places.
-use Rattle.std.proofs.Common.{◌≡◌, map, take}
-use Rattle.serde_json.specs.View.{view}
-use Rattle.explain_engines.specs.Origins.{writer_data}
+use Rattle.explain_engines.proofs.Common.{◌≡◌, map, take, view, writer_data}
 use Rattle.explain_engines.proofs.writers.all_writers.Given as goal
 
 abbrev pub invariant-loop-place : goal.invariant-loop-place

@@ -1,7 +1,5 @@
 -- The value has no float, so its text is the compact one.
-use Rattle.std.proofs.Common.{ℕ, List, ap, ◌∙◌}
-use Rattle.serde_json.specs.Written.{has_float, compact_text}
-use Rattle.explain_engines.specs.Origins.{pair_origin_data}
+use Rattle.explain_engines.proofs.Common.{ℕ, List, ap, ◌∙◌, has_float, compact_text, pair_origin_data}
 use Rattle.explain_engines.proofs.OriginLemmas.{has_float-origin}
 use Rattle.explain_engines.proofs.writers.origin_line.Goals as goal
 

@@ -1,6 +1,5 @@
 -- The lines so far and those of the pairs left are all lines.
-use Rattle.std.proofs.Common.{◌≡◌, ◌++◌, drop, string_bytes}
-use Rattle.explain_engines.specs.Origins.{origin_lines}
+use Rattle.explain_engines.proofs.Common.{◌≡◌, ◌++◌, drop, string_bytes, origin_lines}
 use Rattle.explain_engines.proofs.writers.origin_lines.Given as goal
 
 abbrev pub invariant-loop-pair : goal.invariant-loop-pair

@@ -1,16 +1,9 @@
-use Rattle.std.proofs.Common.{◌≡◌, ℕ, List, string_bytes, ◌∙◌}
-use Rattle.std.proofs.lemmas.Result.{IfOk-weaker}
-use Rattle.events.specs.declared.event.Event.{Event}
-use Rattle.events.specs.declared.operation.Operation.{Operation}
-use Rattle.events.specs.HistoryView.{HistoryView}
-use Rattle.events.specs.Operations.{operations}
-use Rattle.map_object.specs.MapObject.{Contents}
+use Rattle.explain_engines.proofs.Common.{◌≡◌, ℕ, List, string_bytes, ◌∙◌, IfOk-weaker, Event, Operation, HistoryView, operations, Contents}
+use Rattle.explain_engines.proofs.Common.{origin_lines, AreOriginLines}
 use Rattle.origins.specs.External.{AreExternal}
-use Rattle.explain_engines.specs.Origins.{origin_lines}
-use Rattle.explain_engines.specs.Answers.{AreOriginLines}
 use Rattle.explain_engines.proofs.writers.outside_lines.Goals as goal
 
--- the lines of these pairs, told of a map, events and calls that are those of the history
+-- the lines of these pairs, given a map, events and calls that are those of the history
 lines_from : (history : HistoryView) (here start whole : Contents) (few calls : List Operation) (events : List Event)
     (pairs those : List (ℕ × ℕ)) (bytes : List ℕ) → here ≡ start → whole ≡ history.start → events ≡ history.events
     → calls ≡ operations history.events → those ≡ pairs → AreExternal here few pairs → bytes ≡ origin_lines whole events calls those

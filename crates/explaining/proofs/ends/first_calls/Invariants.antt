@@ -1,8 +1,7 @@
-use Rattle.std.proofs.Common.{◌≤◌, ◌-◌, length}
-use Rattle.explaining.specs.Explained.{AreEnough}
+use Rattle.explaining.proofs.Common.{◌≤◌, ◌-◌, length, AreEnough}
 use Rattle.explaining.proofs.ends.first_calls.Given as goal
 
--- those kept so far are enough, and the halving is among the calls
+-- the calls kept so far are enough, and the halving is among the calls
 abbrev pub invariant-loop-low : goal.invariant-loop-low
 invariant-loop-low l = record { enough : AreEnough l.map l.calls l.kept.items; within : l.high ≤ length l.calls }
 

@@ -1,7 +1,7 @@
 use Rattle.explaining.specs.Explained.{AreEnough}
 use Rattle.explaining.proofs.explaining.by_halves.Given as goal
 
--- those kept so far are enough
+-- the calls kept so far are enough
 abbrev pub invariant-loop-size : goal.invariant-loop-size
 invariant-loop-size l = AreEnough l.map l.calls l.kept.items
 

@@ -1,8 +1,7 @@
-use Rattle.std.proofs.Common.{length}
-use Rattle.explaining.specs.Explained.{AreEnough}
+use Rattle.explaining.proofs.Common.{length, AreEnough}
 use Rattle.explaining.proofs.explaining.least_of.Given as goal
 
--- those kept so far are enough
+-- the calls kept so far are enough
 abbrev pub invariant-loop-kept : goal.invariant-loop-kept
 invariant-loop-kept l = AreEnough l.map l.calls l.kept.items
 

@@ -1,14 +1,7 @@
-use Rattle.std.proofs.Common.{◌≡◌, ◌∙◌, ◌&&◌, false, sym, subst, List}
-use Rattle.std.specs.List.{list_any}
-use Rattle.events.specs.declared.operation.Operation.{Operation}
-use Rattle.events.specs.Precedence.{NonePrecedesItself}
-use Rattle.list_laws.specs.Lists.{has_number}
-use Rattle.map_object.specs.MapObject.{Contents}
-use Rattle.orders.specs.Orders.{IsLinearizable}
-use Rattle.quiet_cuts.specs.TimeCuts.{InvocationsRise}
+use Rattle.explaining.proofs.Common.{◌≡◌, ◌∙◌, ◌&&◌, false, sym, subst, List, list_any, Operation, NonePrecedesItself, has_number, Contents}
+use Rattle.explaining.proofs.Common.{IsLinearizable, InvocationsRise, gone_of, is_held, are_held}
 use Rattle.call_search.specs.declared.found.SearchEnd.{SearchEnd}
 use Rattle.call_search.specs.Found.{IsFound}
-use Rattle.explaining.specs.Rest.{gone_of, is_held, are_held}
 use Rattle.explaining.proofs.RestLemmas.{rest_rises, rest_apart}
 use Rattle.explaining.proofs.EnoughLemmas.{rest_enough}
 use Rattle.explaining.proofs.leaving.leave_out.Goals as goal

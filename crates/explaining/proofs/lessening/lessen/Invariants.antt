@@ -1,7 +1,7 @@
 use Rattle.explaining.specs.Explained.{AreEnough}
 use Rattle.explaining.proofs.lessening.lessen.Given as goal
 
--- those kept so far are enough
+-- the calls kept so far are enough
 abbrev pub invariant-loop-at : goal.invariant-loop-at
 invariant-loop-at l = AreEnough l.map l.calls l.kept.items
 

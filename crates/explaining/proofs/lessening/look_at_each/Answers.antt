@@ -1,8 +1,6 @@
-use Rattle.std.proofs.Common.{List, ℕ, ◌≡◌, ◌≤◌, ◌+◌, ◌∙◌, [], ◌∷◌, ◌++◌, length, take, sym, ap, subst, arith}
-use Rattle.std.specs.List.{AllZip}
-use Rattle.std.proofs.lemmas.List.{take_more}
+use Rattle.explaining.proofs.Common.{List, ℕ, ◌≡◌, ◌≤◌, ◌+◌, ◌∙◌, [], ◌∷◌, ◌++◌, length, take, sym, ap, subst, arith, AllZip, take_more, IsWithout}
+use Rattle.explaining.proofs.Common.{IsReasonFor, IsReasonForOne, others_than}
 use Rattle.explaining.specs.declared.explanation.Without.{Without}
-use Rattle.explaining.specs.Explained.{IsWithout, IsReasonFor, IsReasonForOne, others_than}
 use Rattle.explaining.proofs.EnoughLemmas.{others_fewer}
 use Rattle.explaining.proofs.lessening.look_at_each.Goals as goal
 

@@ -1,6 +1,4 @@
-use Rattle.std.proofs.Common.{take}
-use Rattle.std.specs.List.{AllZip}
-use Rattle.explaining.specs.Explained.{IsReasonForOne}
+use Rattle.explaining.proofs.Common.{take, AllZip, IsReasonForOne}
 use Rattle.explaining.proofs.lessening.look_at_each.Given as goal
 
 -- a reason for each call so far

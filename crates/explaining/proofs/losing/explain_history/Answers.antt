@@ -1,7 +1,5 @@
-use Rattle.std.proofs.Common.{sym, subst}
-use Rattle.events.specs.Precedence.{NonePrecedesItself}
+use Rattle.explaining.proofs.Common.{sym, subst, NonePrecedesItself, InvocationsRise}
 use Rattle.events.proofs.TimeLemmas.{inv_rises, NonePrecedesItself-operations}
-use Rattle.quiet_cuts.specs.TimeCuts.{InvocationsRise}
 use Rattle.explaining.proofs.losing.explain_history.Goals as goal
 
 pub explanation_at-requires-clause-rising : goal.explanation_at-requires-clause-rising

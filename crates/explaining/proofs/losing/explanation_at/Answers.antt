@@ -1,6 +1,4 @@
-use Rattle.std.proofs.Common.{ℕ, subst}
-use Rattle.std.specs.Prelude.{All}
-use Rattle.explaining.specs.Explained.{IsUnshown, sizes_tried}
+use Rattle.explaining.proofs.Common.{ℕ, subst, All, IsUnshown, sizes_tried}
 use Rattle.explaining.proofs.losing.explanation_at.Goals as goal
 
 pub returns : goal.returns

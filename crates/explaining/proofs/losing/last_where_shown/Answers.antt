@@ -1,7 +1,5 @@
-use Rattle.std.proofs.Common.{◌≡◌, ℕ, ◌-◌, List, length, map, take, drop, ap, ◌∙◌, subst, arith, IfOk, MatchOption}
-use Rattle.std.proofs.lemmas.List.{take_all, length-drop}
-use Rattle.events.specs.declared.operation.Operation.{Operation}
-use Rattle.explaining.specs.Explained.{AreEnough, IsReasonFor}
+use Rattle.explaining.proofs.Common.{◌≡◌, ℕ, ◌-◌, List, length, map, take, drop, ap, ◌∙◌, subst, arith, IfOk, MatchOption, take_all, length-drop}
+use Rattle.explaining.proofs.Common.{Operation, AreEnough, IsReasonFor}
 use Rattle.explaining.specs.declared.explanation.Reason.{Reason}
 use Rattle.explaining.proofs.losing.last_where_shown.Goals as goal
 

@@ -1,8 +1,4 @@
-use Rattle.std.proofs.Common.{subst, arith}
-use Rattle.std.specs.Prelude.{All}
-use Rattle.std.proofs.lemmas.List.{take_all}
-use Rattle.std.proofs.lemmas.List.Elements.{All-more}
-use Rattle.explaining.specs.Explained.{IsUnshown}
+use Rattle.explaining.proofs.Common.{subst, arith, All, take_all, All-more, IsUnshown}
 use Rattle.explaining.proofs.losing.shown_calls.Goals as goal
 
 pub loop-count-preserved : goal.loop-count-preserved

@@ -1,5 +1,4 @@
-use Rattle.std.proofs.Common.{◌≡◌, drop}
-use Rattle.explaining.specs.Rest.{is_overwritten}
+use Rattle.explaining.proofs.Common.{◌≡◌, drop, is_overwritten}
 use Rattle.explaining.proofs.rests.is_overwritten.Given as goal
 
 -- none of those so far does

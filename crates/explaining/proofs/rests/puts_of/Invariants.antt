@@ -1,7 +1,6 @@
-use Rattle.std.proofs.Common.{◌≡◌, ◌++◌, drop}
-use Rattle.explaining.specs.Rest.{puts_of}
+use Rattle.explaining.proofs.Common.{◌≡◌, ◌++◌, drop, puts_of}
 use Rattle.explaining.proofs.rests.puts_of.Given as goal
 
--- those so far, with those to come
+-- what was found so far, with what is to come, is all
 abbrev pub invariant-loop-call : goal.invariant-loop-call
 invariant-loop-call l = l.puts.items ++ puts_of l.places (drop l.call-index l.calls) ≡ puts_of l.places l.calls

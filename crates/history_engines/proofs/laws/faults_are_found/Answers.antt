@@ -20,7 +20,7 @@ use Rattle.history_engines.specs.Refusals.{item_of, item_in, found_in}
 use Rattle.history_engines.specs.RefusalLaws.{NamesPlace}
 use Rattle.history_engines.proofs.laws.faults_are_found.Goals as goal
 
--- ---- the item at the place behind some
+-- ---- the item at the place after some
 
 item_there : (before rest : List Data) (next : Data) → get_item (length before) (items_of (before ++ next ∷ rest)) ≡ Some next
 item_there [] rest next = refl
@@ -42,14 +42,14 @@ there text name place n d next value same is =
 
 -- ---- the place that a fault names
 
--- a fault of an event behind so many
+-- a fault of the event after the first n
 abbrev IsEventAt : ℕ → HistoryFault → Type 0
 IsEventAt n (faults.Shape event) = event ≡ n
 IsEventAt n (faults.NotWellFormed event) = event ≡ n
 IsEventAt n faults.TooMany = ⊤
 IsEventAt n fault = ⊥
 
--- a fault of a pair behind so many
+-- a fault of the pair after the first n
 abbrev IsPairAt : ℕ → HistoryFault → Type 0
 IsPairAt n (faults.Start pair) = pair ≡ n
 IsPairAt n faults.TooMany = ⊤
@@ -80,7 +80,7 @@ pair_at : (before : List (ℕ × ℕ)) (next : Data) (fault : HistoryFault) → 
 pair_at before next fault (inl h) = subst (IsPairAt (length before)) (sym h.0) tt
 pair_at before next fault (inr h) = subst (IsPairAt (length before)) (sym h.0) refl
 
--- ---- what stands there
+-- ---- what is there
 
 event_found : (text : List ℕ) (place : ℕ) (fault : HistoryFault) (d : Data) (h : ShowsEventFault d fault) → read text ≡ Some d
     → place ≡ length h.before

@@ -1,6 +1,4 @@
-use Rattle.std.proofs.Common.{map, refl, arith, ap, sym, ◌∙◌}
-use Rattle.serde_json.specs.View.{view}
-use Rattle.history_text.specs.Texts.{list_data}
+use Rattle.history_text.proofs.Common.{map, refl, arith, ap, sym, ◌∙◌, view, list_data}
 use Rattle.history_text.proofs.DataLemmas.{length_of_call, three_items, four_items, IfNone-mapped}
 use Rattle.history_text.proofs.read_event.call_of.Goals as goal
 

@@ -1,8 +1,5 @@
 -- The value at hand spells no pair, so the values together spell no pairs.
-use Rattle.std.proofs.Common.{[], ◌∷◌, ◌++◌, ◌∙◌, ap, ap₂, sym, map}
-use Rattle.std.proofs.lemmas.List.{map-append, map_more, take_all}
-use Rattle.history_text.specs.Texts.{pair_data}
-use Rattle.serde_json.specs.View.{view}
+use Rattle.history_text.proofs.Common.{[], ◌∷◌, ◌++◌, ◌∙◌, ap, ap₂, sym, map, map-append, map_more, take_all, pair_data, view}
 use Rattle.history_text.proofs.DataLemmas.{mapped_at}
 use Rattle.history_text.proofs.read_event.pairs_of.Goals as goal
 

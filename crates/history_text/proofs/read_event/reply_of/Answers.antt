@@ -1,5 +1,4 @@
-use Rattle.std.proofs.Common.{map, sym, ap, ◌∙◌}
-use Rattle.serde_json.specs.View.{view}
+use Rattle.history_text.proofs.Common.{map, sym, ap, ◌∙◌, view}
 use Rattle.serde_json.proofs.Views.{view-Array}
 use Rattle.history_text.proofs.DataLemmas.{no_reply, IfNone-mapped}
 use Rattle.history_text.proofs.read_event.reply_of.Goals as goal

@@ -1,5 +1,4 @@
-use Rattle.std.proofs.lemmas.Option.{MatchOption-at_some}
-use Rattle.std.proofs.lemmas.Result.{err_from_is_err_and}
+use Rattle.history_text.proofs.Common.{MatchOption-at_some, err_from_is_err_and}
 use Rattle.history_text.proofs.DataLemmas.{number_found}
 use Rattle.history_text.proofs.EventLemmas.{too_many-response}
 use Rattle.history_text.proofs.read_event.response_of.Goals as goal

@@ -1,12 +1,9 @@
 -- The values before the one at hand spell the events so far.
-use Rattle.std.proofs.Common.{◌≡◌, ◌+◌, ◌∷◌, ◌++◌, ◌∙◌, length, map, take, drop, ap, subst}
-use Rattle.std.proofs.lemmas.Result.{err_from_is_err_and}
-use Rattle.serde_json.specs.View.{view}
-use Rattle.events.specs.HistoryView.{HistoryView}
-use Rattle.events.specs.Histories.{AreHistoryEvents}
+use Rattle.history_text.proofs.Common.{◌≡◌, ◌+◌, ◌∷◌, ◌++◌, ◌∙◌, length, map, take, drop, ap, subst, err_from_is_err_and, view, HistoryView}
+use Rattle.history_text.proofs.Common.{AreHistoryEvents}
 use Rattle.history_text.proofs.ValueFaultLemmas.{events_before, events_more, stands_more, split_at, fault_alone, fault_on_taking}
-use Rattle.history_text.proofs.read_text.events_of.Goals as goal
 use Rattle.history_text.proofs.read_text.events_of.Goals.{After-event_of}
+use Rattle.history_text.proofs.read_text.events_of.Goals as goal
 
 module _ (c : After-event_of) where
   size : length c.loop-place.turns.events ≡ c.loop-place.place

@@ -1,9 +1,5 @@
 -- The values read so far spell the events, which are those of a history.
-use Rattle.std.proofs.Common.{◌≡◌, map, take}
-use Rattle.serde_json.specs.View.{view}
-use Rattle.events.specs.Histories.{IsHistory}
-use Rattle.history_text.specs.Texts.{SpellEvents}
-use Rattle.history_text.specs.TextFaults.{AreEventsOfText}
+use Rattle.history_text.proofs.Common.{◌≡◌, map, take, view, IsHistory, SpellEvents, AreEventsOfText}
 use Rattle.history_text.proofs.read_text.events_of.Given as goal
 
 abbrev pub invariant-loop-place : goal.invariant-loop-place

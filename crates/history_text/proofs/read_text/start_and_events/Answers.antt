@@ -1,5 +1,4 @@
-use Rattle.history_text.specs.Texts.{list_data, number_data}
-use Rattle.history_text.specs.Versions.{version_number}
+use Rattle.history_text.proofs.Common.{list_data, number_data, version_number}
 use Rattle.history_text.proofs.read_text.start_and_events.Goals as goal
 
 pub returns-in_err-events-clause-none : goal.returns-in_err-events-clause-none

@@ -1,11 +1,8 @@
 -- The values before the one at hand spell the pairs so far.
-use Rattle.std.proofs.Common.{◌≡◌, ◌+◌, ◌∷◌, ◌++◌, length, map, drop}
-use Rattle.std.proofs.lemmas.Result.{err_from_is_err_and}
-use Rattle.serde_json.specs.View.{view}
-use Rattle.history_text.specs.Texts.{pair_data}
+use Rattle.history_text.proofs.Common.{◌≡◌, ◌+◌, ◌∷◌, ◌++◌, length, map, drop, err_from_is_err_and, view, pair_data}
 use Rattle.history_text.proofs.ValueFaultLemmas.{pairs_before, pairs_and_value, pair_fault_alone, pair_fault_on_taking}
-use Rattle.history_text.proofs.read_text.start_of.Goals as goal
 use Rattle.history_text.proofs.read_text.start_of.Goals.{After-starting_pair}
+use Rattle.history_text.proofs.read_text.start_of.Goals as goal
 
 module _ (c : After-starting_pair) where
   size : length c.loop-place.turns.start ≡ c.loop-place.place

@@ -1,8 +1,5 @@
 -- The values read so far spell the pairs, which a history may start with.
-use Rattle.std.proofs.Common.{◌≡◌, map, take, []}
-use Rattle.serde_json.specs.View.{view}
-use Rattle.events.specs.Histories.{IsHistory}
-use Rattle.history_text.specs.Texts.{pair_data}
+use Rattle.history_text.proofs.Common.{◌≡◌, map, take, [], view, IsHistory, pair_data}
 use Rattle.history_text.proofs.read_text.start_of.Given as goal
 
 abbrev pub invariant-loop-place : goal.invariant-loop-place

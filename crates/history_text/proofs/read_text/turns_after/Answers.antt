@@ -1,10 +1,8 @@
-use Rattle.std.proofs.Common.{Some, map, ap, sym}
-use Rattle.serde_json.specs.View.{view}
-use Rattle.history_text.specs.Texts.{document, IsDocument, start_data}
+use Rattle.history_text.proofs.Common.{Some, map, ap, sym, view, document, IsDocument, start_data}
 use Rattle.history_text.proofs.SpelledLemmas.{spelled_with}
 use Rattle.history_text.proofs.TextFaultLemmas.{refused_with}
-use Rattle.history_text.proofs.read_text.turns_after.Goals as goal
 use Rattle.history_text.proofs.read_text.turns_after.Goals.{After-events_of}
+use Rattle.history_text.proofs.read_text.turns_after.Goals as goal
 
 module _ (c : After-events_of) where
   -- the values of the start are those of its pairs

@@ -1,10 +1,5 @@
--- Without a start nothing stands before the events.
-use Rattle.history_text.specs.declared.version.TextVersion.TheVariants.{One}
-use Rattle.std.proofs.Common.{◌≡◌, None, map, subst}
-use Rattle.std.specs.Prelude.{IfOk}
-use Rattle.serde_json.specs.View.{view}
-use Rattle.events.specs.HistoryView.{HistoryView}
-use Rattle.events.specs.Starts.{IsStart}
+-- Without a start nothing comes before the events.
+use Rattle.history_text.proofs.Common.{One, ◌≡◌, None, map, subst, IfOk, view, HistoryView, IsStart}
 use Rattle.history_text.proofs.SpelledLemmas.{spelled_with}
 use Rattle.history_text.proofs.TextFaultLemmas.{refused_with}
 use Rattle.history_text.proofs.read_text.turns_of.Goals as goal

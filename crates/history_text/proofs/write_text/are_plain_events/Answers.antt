@@ -1,6 +1,4 @@
-use Rattle.std.proofs.Common.{◌≡◌, true, false, get_or, refl, ap, sym, ◌∙◌}
-use Rattle.std.proofs.lemmas.List.Folds.{list_all_at, list_all_more}
-use Rattle.events.specs.PlainHistories.{is_plain_event}
+use Rattle.history_text.proofs.Common.{◌≡◌, true, false, get_or, refl, ap, sym, ◌∙◌, list_all_at, list_all_more, is_plain_event}
 use Rattle.history_text.proofs.write_text.are_plain_events.Goals as goal
 
 pub loop-event-preserved : goal.loop-event-preserved

@@ -1,6 +1,5 @@
--- All answers so far tell all.
-use Rattle.std.proofs.Common.{◌≡◌, take, true}
-use Rattle.events.specs.Told.{are_told}
+-- All answers so far are complete.
+use Rattle.history_text.proofs.Common.{◌≡◌, take, true, are_told}
 use Rattle.history_text.proofs.write_text.are_told.Given as goal
 
 abbrev pub invariant-loop-event : goal.invariant-loop-event

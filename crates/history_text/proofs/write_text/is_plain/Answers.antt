@@ -1,6 +1,4 @@
-use Rattle.std.proofs.Common.{◌≡◌, ℕ, ◌==◌, true, false, List, [], ◌∷◌, length, refl, sym, ap, ◌∙◌, arith}
-use Rattle.std.proofs.lemmas.Bool.Decides.{nat_tests}
-use Rattle.events.specs.PlainHistories.{has_no_pairs}
+use Rattle.history_text.proofs.Common.{◌≡◌, ℕ, ◌==◌, true, false, List, [], ◌∷◌, length, refl, sym, ap, ◌∙◌, arith, nat_tests, has_no_pairs}
 use Rattle.history_text.proofs.write_text.is_plain.Goals as goal
 
 -- there are no pairs where they are none

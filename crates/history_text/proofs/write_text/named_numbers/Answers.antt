@@ -1,8 +1,4 @@
-use Rattle.std.proofs.Common.{[], ◌∷◌, ◌++◌, sym, ap, ap₂, map, ◌∙◌}
-use Rattle.std.proofs.lemmas.List.{map-append, map_more, take_all}
-use Rattle.serde_json.specs.Data.{string}
-use Rattle.serde_json.specs.View.{view}
-use Rattle.history_text.specs.Texts.{number_data, list_data}
+use Rattle.history_text.proofs.Common.{[], ◌∷◌, ◌++◌, sym, ap, ap₂, map, ◌∙◌, map-append, map_more, take_all, string, view, number_data, list_data}
 use Rattle.history_text.proofs.write_text.named_numbers.Goals as goal
 
 pub loop-number-preserved : goal.loop-number-preserved

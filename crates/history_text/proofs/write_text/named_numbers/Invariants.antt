@@ -1,8 +1,5 @@
 -- The values so far are that of the name and those of the numbers.
-use Rattle.std.proofs.Common.{◌≡◌, ◌∷◌, map, take}
-use Rattle.serde_json.specs.Data.{string}
-use Rattle.serde_json.specs.View.{view}
-use Rattle.history_text.specs.Texts.{number_data}
+use Rattle.history_text.proofs.Common.{◌≡◌, ◌∷◌, map, take, string, view, number_data}
 use Rattle.history_text.proofs.write_text.named_numbers.Given as goal
 
 abbrev pub invariant-loop-number : goal.invariant-loop-number

@@ -1,15 +1,10 @@
 -- The value has no float and nests five deep, so it has a text that reads as it.
-use Rattle.std.proofs.Common.{◌≡◌, ◌≤◌, Some, ap, ◌∙◌, arith}
+use Rattle.history_text.proofs.Common.{◌≡◌, ◌≤◌, Some, ap, ◌∙◌, arith, depth, view, max_depth, has_float, compact_text, history_data}
 use Rattle.std.proofs.lemmas.Str.{IsUtf8-string_bytes}
-use Rattle.serde_json.specs.Data.{depth}
-use Rattle.serde_json.specs.View.{view}
-use Rattle.serde_json.specs.Read.{max_depth}
-use Rattle.serde_json.specs.Written.{has_float, compact_text}
-use Rattle.history_text.specs.Texts.{history_data}
 use Rattle.history_text.proofs.SpelledLemmas.{Spells-written}
 use Rattle.history_text.proofs.WrittenLemmas.{has_float-history, depth-history}
-use Rattle.history_text.proofs.write_text.write_history.Goals as goal
 use Rattle.history_text.proofs.write_text.write_history.Goals.{After-to_string}
+use Rattle.history_text.proofs.write_text.write_history.Goals as goal
 
 module _ (c : After-to_string) where
   same : view c.in_ok-value.value ≡ history_data c.args.history.now

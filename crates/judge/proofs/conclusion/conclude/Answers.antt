@@ -1,20 +1,8 @@
 -- The lowest segment whose answer is sought is the one named; where there is none, all segments have their orders.
-use Rattle.std.proofs.Common.{ℕ, List, ◌∷◌, ◌++◌, sym, subst, ◌∙◌}
-use Rattle.std.specs.Prelude.{◌≡◌, ◌≢◌, Some, All, slice_get}
-use Rattle.std.specs.List.{AllZip}
-use Rattle.std.proofs.lemmas.Option.{same_Some, slice_get_within}
-use Rattle.events.specs.declared.operation.Operation.{Operation}
-use Rattle.events.specs.Operations.{operations}
-use Rattle.map_object.specs.MapObject.{Contents}
-use Rattle.orders.specs.Orders.{IsLinearizable}
-use Rattle.segments.specs.SegmentView.{SegmentView}
-use Rattle.segments.specs.SegmentOrders.{HasNoOrder}
-use Rattle.segments.specs.Segments.{AreSegments}
-use Rattle.search.specs.declared.found.Found.{Found}
-use Rattle.search.specs.declared.found.Found.TheVariants.{NoOrder, Spent}
-use Rattle.search.specs.Exact.{IsExactAnswer}
-use Rattle.judge.specs.Answers.{IsFirstAt, orders_in}
-use Rattle.judge.specs.Exact.{IsOrderedOrSpent, IsExactNo, IsExactUndecided}
+use Rattle.judge.proofs.Common.{ℕ, List, ◌∷◌, ◌++◌, sym, subst, ◌∙◌, ◌≢◌, All, slice_get, AllZip, same_Some, slice_get_within, Operation, operations}
+use Rattle.judge.proofs.Common.{Contents, IsLinearizable, SegmentView, HasNoOrder, AreSegments, Found, NoOrder, Spent, IsExactAnswer, IsFirstAt}
+use Rattle.judge.proofs.Common.{orders_in, IsOrderedOrSpent, IsExactNo, IsExactUndecided}
+use Rattle.std.specs.Prelude.{◌≡◌, Some}
 use Rattle.judge.proofs.AnswerLemmas.{refuted_at, spent_at, unrefuted, all_ordered}
 use Rattle.judge.proofs.VerdictLemmas.{found_orders, shows_yes, shows_no, shows_undecided, All-here, All-above}
 use Rattle.judge.proofs.conclusion.conclude.Goals as goal

@@ -1,6 +1,4 @@
-use Rattle.std.proofs.Common.{◌≡◌, ◌<◌, ℕ, Some}
-use Rattle.std.specs.Prelude.{slice_get}
-use Rattle.search.specs.declared.found.Found.TheVariants.{NoOrder}
+use Rattle.judge.proofs.Common.{◌≡◌, ◌<◌, ℕ, Some, slice_get, NoOrder}
 use Rattle.judge.proofs.conclusion.first_without_order.Given as goal
 
 -- none so far is so

@@ -1,7 +1,6 @@
 -- The orders so far, and those among the answers that are left.
-use Rattle.std.proofs.Common.{◌≡◌, ◌++◌, map}
+use Rattle.judge.proofs.Common.{◌≡◌, ◌++◌, map, orders_in}
 use Rattle.std.specs.Vec.Iter.{into_iter_items}
-use Rattle.judge.specs.Answers.{orders_in}
 use Rattle.judge.proofs.conclusion.orders_of.Given as goal
 
 abbrev pub invariant-loop-answer : goal.invariant-loop-answer

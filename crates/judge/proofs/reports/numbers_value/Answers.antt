@@ -1,7 +1,5 @@
-use Rattle.std.proofs.Common.{[], ◌∷◌, ◌++◌, sym, ap, ap₂, map, ◌∙◌}
+use Rattle.judge.proofs.Common.{[], ◌∷◌, ◌++◌, sym, ap, ap₂, map, ◌∙◌, view, number_data, list_data}
 use Rattle.std.proofs.lemmas.List.{map-append, map_more, take_all}
-use Rattle.serde_json.specs.View.{view}
-use Rattle.history_text.specs.Texts.{number_data, list_data}
 use Rattle.judge.proofs.reports.numbers_value.Goals as goal
 
 pub loop-number-preserved : goal.loop-number-preserved

@@ -1,6 +1,5 @@
 -- The value has no float, so its text is the compact one.
-use Rattle.std.proofs.Common.{ap, ◌∙◌}
-use Rattle.serde_json.specs.Written.{has_float, compact_text}
+use Rattle.judge.proofs.Common.{ap, ◌∙◌, has_float, compact_text}
 use Rattle.judge.proofs.ReportLemmas.{has_float-verdict}
 use Rattle.judge.proofs.reports.report.Goals as goal
 

@@ -1,5 +1,4 @@
-use Rattle.std.proofs.Common.{rules}
-use Rattle.std.proofs.lemmas.Result.{on_ok_weaker}
+use Rattle.judge.proofs.Common.{rules, on_ok_weaker}
 use Rattle.judge.proofs.texts.judge_text.Goals as goal
 
 -- the verdict that the closure answered is one for which `judge` had the gate passed

@@ -1,5 +1,4 @@
-use Rattle.std.proofs.lemmas.Result.{IfOk-weaker}
-use Rattle.events.specs.Operations.{operations}
+use Rattle.judge.proofs.Common.{IfOk-weaker, operations}
 use Rattle.judge.specs.Gates.{WasPassedForEach}
 use Rattle.judge.specs.Shown.{IsShown}
 use Rattle.judge.proofs.workers.judge.Goals as goal

@@ -13,21 +13,21 @@ use Rattle.judge_lines.proofs.OutcomeLemmas.{judged-words}
 use Rattle.judge_bench.specs.Outcomes.{IsJudgeWordsOutcome}
 use Rattle.judge_bench.proofs.command.run.Goals as goal
 
--- of a line that asks for neither a plan nor a tree
+-- the outcome of a line that asks for neither a plan nor a tree
 here-words : (line : Line) (words : List Text) (source : Change) (outcome : RunOutcome) → IsAccepted words → IsLineOf words line
     → ¬ (AsksForTrees line) → IsJudgeLineOutcome line source outcome → IsJudgeWordsOutcome words source outcome
 here-words line words source outcome accepted asked here comes = inl (judged-words IsJudgeLineOutcome line words source outcome here
     (λ comes. record { line = line; accepted = accepted; asked = asked; comes = comes }) comes)
 
--- of any line
+-- the outcome of any line
 asked-words : (line : Line) (words : List Text) (source : Change) (outcome : RunOutcome) → IsAccepted words → IsLineOf words line
     → IsJudgeLineOutcome line source outcome → IsJudgeWordsOutcome words source outcome
 asked-words (Check order) words source outcome accepted asked comes =
     here-words (Check order) words source outcome accepted asked (λ other. other) comes
 asked-words (Judge budget workers) words source outcome accepted asked comes =
     here-words (Judge budget workers) words source outcome accepted asked (λ other. other) comes
-asked-words (Locate budget) words source outcome accepted asked comes =
-    here-words (Locate budget) words source outcome accepted asked (λ other. other) comes
+asked-words (Locate budget order) words source outcome accepted asked comes =
+    here-words (Locate budget order) words source outcome accepted asked (λ other. other) comes
 asked-words (Explain budget) words source outcome accepted asked comes =
     here-words (Explain budget) words source outcome accepted asked (λ other. other) comes
 asked-words (Draw budget workers around calls) words source outcome accepted asked comes =

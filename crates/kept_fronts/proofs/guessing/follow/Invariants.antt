@@ -1,5 +1,4 @@
-use Rattle.std.proofs.Common.{◌≡◌}
-use Rattle.kept_fronts.specs.Standing.{Stands}
+use Rattle.kept_fronts.proofs.Common.{◌≡◌, Stands}
 use Rattle.kept_fronts.proofs.guessing.follow.Given as goal
 
 abbrev pub invariant-loop-place : goal.invariant-loop-place

@@ -1,9 +1,5 @@
-use Rattle.std.proofs.Common.{◌≡◌, Some, length, refl, sym, ap, ◌∙◌, arith}
-use Rattle.std.specs.Prelude.{slice_get}
-use Rattle.std.proofs.lemmas.Bool.{both_ways}
-use Rattle.std.proofs.lemmas.Option.{slice_get_read, same_Some}
-use Rattle.events.specs.declared.operation.Operation.{Operation}
-use Rattle.events.specs.Precedence.{is_before, precedes}
+use Rattle.kept_fronts.proofs.Common.{◌≡◌, Some, length, refl, sym, ap, ◌∙◌, arith, slice_get, both_ways, slice_get_read, same_Some, Operation}
+use Rattle.kept_fronts.proofs.Common.{is_before, precedes}
 use Rattle.kept_fronts.proofs.guessing.is_left_before.Goals as goal
 
 pub has-requires : goal.has-requires

@@ -1,8 +1,5 @@
-use Rattle.std.proofs.Common.{◌≡◌, Some, true, length, refl, sym, ◌∙◌, subst, arith}
-use Rattle.std.specs.Prelude.{slice_get, IsSomeAnd, IsTrue}
-use Rattle.std.proofs.lemmas.Bool.{both_ways}
-use Rattle.std.proofs.lemmas.Option.{slice_get_read}
-use Rattle.events.specs.Precedence.{is_completed}
+use Rattle.kept_fronts.proofs.Common.{◌≡◌, Some, true, length, refl, sym, ◌∙◌, subst, arith, slice_get, IsSomeAnd, IsTrue, both_ways, slice_get_read}
+use Rattle.kept_fronts.proofs.Common.{is_completed}
 use Rattle.kept_fronts.proofs.guessing.is_missing.Goals as goal
 
 pub has-requires : goal.has-requires

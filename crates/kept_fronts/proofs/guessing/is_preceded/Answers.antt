@@ -1,11 +1,10 @@
-use Rattle.std.proofs.Common.{⊎_elim, arith}
-use Rattle.std.proofs.lemmas.Bool.{cases_lt}
+use Rattle.kept_fronts.proofs.Common.{⊎_elim, arith, cases_lt}
 use borrow.Author.Count.{below_more}
-use Rattle.kept_fronts.proofs.GuessLemmas.{none_later}
+use Rattle.kept_fronts.proofs.GuessLemmas.{completed_before, none_later}
 use Rattle.kept_fronts.proofs.guessing.is_preceded.Goals as goal
 
 pub loop-earlier-init : goal.loop-earlier-init
-loop-earlier-init c = λ m lt before. c.requires.stands.marked.below m lt
+loop-earlier-init c = λ m lt before. c.requires.below m lt (completed_before c.args.calls.now m c.args.place before)
 
 pub loop-earlier-preserved : goal.loop-earlier-preserved
 loop-earlier-preserved c = below_more _ _ c.loop-earlier.invariant (c.is_left_before.ensures c.if-is_left_before.false)

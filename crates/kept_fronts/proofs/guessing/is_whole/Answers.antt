@@ -1,8 +1,5 @@
-use Rattle.std.proofs.Common.{refl, arith}
+use Rattle.kept_fronts.proofs.Common.{refl, arith, IsCompletedAt-below, IsOrder-from_front, places}
 use borrow.Author.Count.{below_more}
-use Rattle.orders.proofs.OrderLemmas.{IsCompletedAt-below}
-use Rattle.configurations.proofs.FrontLemmas.{IsOrder-from_front}
-use Rattle.kept_fronts.specs.Standing.{places}
 use Rattle.kept_fronts.proofs.guessing.is_whole.Goals as goal
 
 pub loop-place-init : goal.loop-place-init

@@ -1,8 +1,4 @@
-use Rattle.std.proofs.Common.{◌≡◌, ◌<◌, Some, length, refl, subst, arith}
-use Rattle.std.specs.Prelude.{slice_get}
-use Rattle.std.proofs.lemmas.Bool.{both_ways}
-use Rattle.std.proofs.lemmas.Option.{slice_get_read}
-use Rattle.orders.specs.Orders.{IsLegalCall}
+use Rattle.kept_fronts.proofs.Common.{◌≡◌, ◌<◌, Some, length, refl, subst, arith, slice_get, both_ways, slice_get_read, IsLegalCall}
 use Rattle.kept_fronts.proofs.guessing.may_be_next.Goals as goal
 
 pub has-requires : goal.has-requires

@@ -1,12 +1,5 @@
-use Rattle.std.proofs.Common.{◌≡◌, ◌-◌, ◌<◌, Some, List, length, refl, sym, ap, ◌∙◌, subst}
-use Rattle.std.specs.Prelude.{slice_get}
-use Rattle.std.proofs.lemmas.Bool.{both_ways}
-use Rattle.std.proofs.lemmas.Option.{slice_get_read, same_Some}
-use Rattle.events.specs.declared.operation.Operation.{Operation}
-use Rattle.events.specs.Precedence.{is_before, precedes}
-use Rattle.list_laws.proofs.Lists.{All-at}
-use Rattle.kept_fronts.specs.Standing.{places}
-use Rattle.kept_fronts.specs.declared.front.Level.{Level}
+use Rattle.kept_fronts.proofs.Common.{◌≡◌, ◌-◌, ◌<◌, Some, List, length, refl, sym, ap, ◌∙◌, subst, slice_get, both_ways, slice_get_read, same_Some}
+use Rattle.kept_fronts.proofs.Common.{Operation, is_before, precedes, All-at, places, Level}
 use Rattle.kept_fronts.proofs.MendLemmas.{last-place}
 use Rattle.kept_fronts.proofs.mending.is_after_last.Goals as goal
 

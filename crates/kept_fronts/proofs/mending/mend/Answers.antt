@@ -1,6 +1,4 @@
-use Rattle.std.proofs.Common.{◌++◌, reverse, sym, subst}
-use Rattle.kept_fronts.specs.Closed.{IsClosed}
-use Rattle.kept_fronts.specs.Standing.{places}
+use Rattle.kept_fronts.proofs.Common.{◌++◌, reverse, sym, subst, IsClosed, places}
 use Rattle.kept_fronts.proofs.ClosedLemmas.{IsClosed-from_front}
 use Rattle.kept_fronts.proofs.mending.mend.Goals as goal
 

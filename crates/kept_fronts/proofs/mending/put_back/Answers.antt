@@ -1,7 +1,4 @@
-use Rattle.std.proofs.Common.{◌≡◌, [], ◌∷◌, ◌++◌, length, reverse, ap, sym, ◌∙◌, arith}
-use Rattle.std.proofs.lemmas.List.{length-map}
-use Rattle.kept_fronts.specs.Standing.{places}
-use Rattle.kept_fronts.specs.declared.front.Level.{Level}
+use Rattle.kept_fronts.proofs.Common.{◌≡◌, [], ◌∷◌, ◌++◌, length, reverse, ap, sym, ◌∙◌, arith, length-map, places, Level}
 use Rattle.kept_fronts.proofs.ClosedLemmas.{below-closed}
 use Rattle.kept_fronts.proofs.MendLemmas.{cut-longer, room-more, whole-mended}
 use Rattle.kept_fronts.proofs.mending.put_back.Goals as goal

@@ -1,9 +1,5 @@
-use Rattle.std.proofs.Common.{◌≡◌, Some, [], ◌∷◌, ◌++◌, length, reverse, refl, ap, ◌∙◌, subst}
-use Rattle.std.specs.Prelude.{slice_get}
-use Rattle.std.proofs.lemmas.List.{append_assoc}
-use Rattle.std.proofs.lemmas.Option.{slice_get_read}
-use Rattle.orders.specs.Orders.{IsLegalCall}
-use Rattle.kept_fronts.specs.Standing.{places}
+use Rattle.kept_fronts.proofs.Common.{◌≡◌, Some, [], ◌∷◌, ◌++◌, length, reverse, refl, ap, ◌∙◌, subst, slice_get, append_assoc, slice_get_read}
+use Rattle.kept_fronts.proofs.Common.{IsLegalCall, places}
 use Rattle.kept_fronts.proofs.ClosedLemmas.{below-closed, IsNext-from_closed}
 use Rattle.kept_fronts.proofs.mending.try_here.Goals as goal
 

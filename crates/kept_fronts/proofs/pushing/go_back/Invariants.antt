@@ -1,5 +1,4 @@
-use Rattle.std.proofs.Common.{◌≡◌, length, take}
-use Rattle.kept_fronts.specs.Standing.{places, Stands}
+use Rattle.kept_fronts.proofs.Common.{◌≡◌, length, take, places, Stands}
 use Rattle.kept_fronts.proofs.pushing.go_back.Given as goal
 
 -- the calls that are to be left are there

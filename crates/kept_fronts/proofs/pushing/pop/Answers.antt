@@ -1,6 +1,4 @@
-use Rattle.std.proofs.Common.{List, subst, arith}
-use Rattle.kept_fronts.specs.Standing.{StandsWith}
-use Rattle.kept_fronts.specs.declared.front.Level.{Level}
+use Rattle.kept_fronts.proofs.Common.{List, subst, arith, StandsWith, Level}
 use Rattle.kept_fronts.proofs.StandingLemmas.{stands-pop}
 use Rattle.kept_fronts.proofs.pushing.pop.Goals as goal
 

@@ -1,11 +1,6 @@
-use Rattle.std.proofs.Common.{◌≡◌, ℕ, ◌<◌, ◌≤◌, true, false, Some, [], ◌∷◌, ◌++◌, length, set, get_or, refl, sym, ap, ◌∙◌, subst, arith}
-use Rattle.std.specs.Prelude.{◌⊎◌, slice_get}
-use Rattle.std.proofs.lemmas.Option.{slice_get_read, slice_get_within, same_Some}
-use Rattle.events.specs.declared.operation.Operation.{Operation}
-use Rattle.map_object.specs.MapObject.{Contents}
-use Rattle.orders.specs.Orders.{after_call}
-use Rattle.kept_fronts.specs.Standing.{places, StandsWith}
-use Rattle.kept_fronts.specs.declared.front.Level.{Level}
+use Rattle.kept_fronts.proofs.Common.{◌≡◌, ℕ, ◌<◌, ◌≤◌, true, false, Some, [], ◌∷◌, ◌++◌, length, set, get_or, refl, sym, ap, ◌∙◌, subst, arith, ◌⊎◌}
+use Rattle.kept_fronts.proofs.Common.{slice_get, slice_get_read, slice_get_within, same_Some, Operation, Contents, after_call, places, StandsWith}
+use Rattle.kept_fronts.proofs.Common.{Level}
 use Rattle.kept_fronts.proofs.StandingLemmas.{stands-push, stands-same, places-push}
 use Rattle.kept_fronts.proofs.pushing.push.Goals as goal
 

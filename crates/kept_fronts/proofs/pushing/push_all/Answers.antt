@@ -1,9 +1,5 @@
-use Rattle.std.proofs.Common.{◌≡◌, ◌++◌, Some, length, get_or, refl, sym, ap, ◌∙◌, arith}
-use Rattle.std.specs.Prelude.{slice_get}
-use Rattle.std.proofs.lemmas.Bool.{both_ways}
-use Rattle.std.proofs.lemmas.List.{append-nil, take_all}
-use Rattle.std.proofs.lemmas.Option.{slice_get_read}
-use Rattle.kept_fronts.specs.Standing.{places}
+use Rattle.kept_fronts.proofs.Common.{◌≡◌, ◌++◌, Some, length, get_or, refl, sym, ap, ◌∙◌, arith, slice_get, both_ways, append-nil, take_all}
+use Rattle.kept_fronts.proofs.Common.{slice_get_read, places}
 use Rattle.kept_fronts.proofs.ClosedLemmas.{known_at, next_at, legal_at, more_at}
 use Rattle.kept_fronts.proofs.pushing.push_all.Goals as goal
 

@@ -1,5 +1,4 @@
-use Rattle.std.proofs.Common.{◌≡◌, ◌++◌, take}
-use Rattle.kept_fronts.specs.Standing.{places, Stands}
+use Rattle.kept_fronts.proofs.Common.{◌≡◌, ◌++◌, take, places, Stands}
 use Rattle.kept_fronts.proofs.pushing.push_all.Given as goal
 
 -- the calls so far are pushed

@@ -1,7 +1,4 @@
-use Rattle.std.proofs.Common.{◌≡◌, ◌-◌, ◌<◌, Some, length, get_or, refl, ◌∙◌}
-use Rattle.std.specs.Prelude.{slice_get}
-use Rattle.std.proofs.lemmas.Option.{slice_get_read}
-use Rattle.kept_fronts.specs.Standing.{places}
+use Rattle.kept_fronts.proofs.Common.{◌≡◌, ◌-◌, ◌<◌, Some, length, get_or, refl, ◌∙◌, slice_get, slice_get_read, places}
 use Rattle.kept_fronts.proofs.MendLemmas.{known-reversed, next-reversed, more-reversed}
 use Rattle.kept_fronts.proofs.pushing.push_reversed.Goals as goal
 

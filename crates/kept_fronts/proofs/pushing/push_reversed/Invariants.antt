@@ -1,5 +1,4 @@
-use Rattle.std.proofs.Common.{◌≡◌, ◌-◌, ◌++◌, length, take, reverse}
-use Rattle.kept_fronts.specs.Standing.{places, Stands}
+use Rattle.kept_fronts.proofs.Common.{◌≡◌, ◌-◌, ◌++◌, length, take, reverse, places, Stands}
 use Rattle.kept_fronts.proofs.pushing.push_reversed.Given as goal
 
 -- the last calls so far are pushed

@@ -1,9 +1,5 @@
-use Rattle.std.proofs.Common.{◌∷◌, ◌++◌, [], length, ap, sym, ◌∙◌, subst, arith}
-use Rattle.std.specs.Prelude.{Contains}
-use Rattle.std.proofs.lemmas.Bool.{both_ways}
-use Rattle.std.proofs.lemmas.List.{length-append}
-use Rattle.list_laws.proofs.Lists.{Contains-nil}
-use Rattle.kept_fronts.specs.Standing.{places, IsFromOn}
+use Rattle.kept_fronts.proofs.Common.{◌∷◌, ◌++◌, [], length, ap, sym, ◌∙◌, subst, arith, Contains, both_ways, length-append, Contains-nil, places}
+use Rattle.kept_fronts.proofs.Common.{IsFromOn}
 use Rattle.kept_fronts.proofs.TakeLemmas.{back-none, back-more}
 use Rattle.kept_fronts.proofs.pushing.take_back.Goals as goal
 

@@ -1,5 +1,4 @@
-use Rattle.std.proofs.Common.{length}
-use Rattle.kept_fronts.specs.Standing.{places}
+use Rattle.kept_fronts.proofs.Common.{length, places}
 use Rattle.kept_fronts.proofs.TakeLemmas.{IsBackTo}
 use Rattle.kept_fronts.proofs.pushing.take_back.Given as goal
 

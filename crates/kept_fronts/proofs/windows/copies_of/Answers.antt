@@ -1,8 +1,5 @@
-use Rattle.std.proofs.Common.{◌≡◌, ◌<◌, ◌∙◌, ◌++◌, ◌∷◌, [], List, Some, length, get_or, refl, sym, ap₂}
-use Rattle.std.specs.Prelude.{slice_get}
-use Rattle.std.proofs.lemmas.Option.{slice_get_read}
-use Rattle.events.specs.declared.operation.Operation.{Operation}
-use Rattle.orders.proofs.OrderLemmas.{calls_at-more}
+use Rattle.kept_fronts.proofs.Common.{◌≡◌, ◌<◌, ◌∙◌, ◌++◌, ◌∷◌, [], List, Some, length, get_or, refl, sym, ap₂, slice_get, slice_get_read, Operation}
+use Rattle.kept_fronts.proofs.Common.{calls_at-more}
 use Rattle.kept_fronts.proofs.windows.copies_of.Goals as goal
 
 pub loop-place-preserved : goal.loop-place-preserved

@@ -1,9 +1,5 @@
-use Rattle.std.proofs.Common.{◌<◌, ◌++◌, ℕ, List, length, ap, sym, ◌∙◌, subst}
-use Rattle.std.specs.Prelude.{All, AllPairs, map, slice_index}
-use Rattle.events.specs.declared.operation.Operation.{Operation}
-use Rattle.events.specs.Precedence.{NonePrecedesItself}
-use Rattle.orders.specs.Orders.{calls_at, IsOrder}
-use Rattle.kept_fronts.specs.Standing.{places}
+use Rattle.kept_fronts.proofs.Common.{◌<◌, ◌++◌, ℕ, List, length, ap, sym, ◌∙◌, subst, All, AllPairs, map, slice_index, Operation, NonePrecedesItself}
+use Rattle.kept_fronts.proofs.Common.{calls_at, IsOrder, places}
 use Rattle.kept_fronts.proofs.JoinLemmas.{left_known, left_rises, left_apart, order_of_left, joined, order_known}
 use Rattle.kept_fronts.proofs.windows.order_left.Goals as goal
 

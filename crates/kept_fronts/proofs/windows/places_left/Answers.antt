@@ -1,9 +1,7 @@
-use Rattle.std.proofs.Common.{ap, ◌∙◌, arith}
-use Rattle.std.proofs.lemmas.Bool.{both_ways}
-use Rattle.kept_fronts.specs.Standing.{places}
+use Rattle.kept_fronts.proofs.Common.{ap, ◌∙◌, arith, both_ways, places}
 use Rattle.kept_fronts.proofs.LeftLemmas.{left-none, left-more, left-skip, left-all}
-use Rattle.kept_fronts.proofs.windows.places_left.Goals as goal
 use Rattle.kept_fronts.proofs.windows.places_left.Goals.{then-not-has+in_ok-push, else-not-has}
+use Rattle.kept_fronts.proofs.windows.places_left.Goals as goal
 
 pub has-requires : goal.has-requires
 has-requires c =

@@ -1,7 +1,6 @@
-use Rattle.std.proofs.Common.{◌≡◌, take}
-use Rattle.std.specs.Prelude.{map, slice_index}
+use Rattle.kept_fronts.proofs.Common.{◌≡◌, take, map, slice_index}
 use Rattle.kept_fronts.proofs.windows.places_of.Given as goal
 
--- of the order so far
+-- the result is right for the order so far
 abbrev pub invariant-loop-place : goal.invariant-loop-place
 invariant-loop-place l = l.more.items ≡ map (slice_index l.left) (take l.place-index l.order)

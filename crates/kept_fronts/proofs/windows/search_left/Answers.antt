@@ -1,8 +1,4 @@
-use Rattle.std.proofs.Common.{◌++◌, sym, ◌∙◌, ap, subst}
-use Rattle.orders.specs.Orders.{IsOrder}
-use Rattle.configurations.proofs.FrontLemmas.{IsFront-from_order}
-use Rattle.kept_fronts.specs.Closed.{IsClosed}
-use Rattle.kept_fronts.specs.Standing.{places}
+use Rattle.kept_fronts.proofs.Common.{◌++◌, sym, ◌∙◌, ap, subst, IsOrder, IsFront-from_order, IsClosed, places}
 use Rattle.kept_fronts.proofs.ClosedLemmas.{IsClosed-from_front}
 use Rattle.kept_fronts.proofs.windows.search_left.Goals as goal
 

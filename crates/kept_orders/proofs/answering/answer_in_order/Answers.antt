@@ -1,10 +1,5 @@
-use Rattle.std.proofs.Common.{◌++◌, List, set, sym, ◌∙◌, subst}
-use Rattle.events.specs.declared.operation.Operation.{Operation}
-use Rattle.kept_orders.specs.Views.{answered_call}
-use Rattle.kept_fronts.specs.Closed.{IsClosed}
-use Rattle.kept_fronts.specs.Mending.{HasCompleted}
-use Rattle.kept_fronts.specs.Standing.{places, Stands, AreCalls, again_or}
-use Rattle.kept_fronts.proofs.ClosedLemmas.{IsClosed-from_front}
+use Rattle.kept_orders.proofs.Common.{◌++◌, List, set, sym, ◌∙◌, subst, Operation, answered_call, IsClosed, HasCompleted, places, Stands, AreCalls}
+use Rattle.kept_orders.proofs.Common.{again_or, IsClosed-from_front}
 use Rattle.kept_orders.proofs.AnswerLemmas.{answered_is, stands_after, closed_again, complete_again, are_calls_after}
 use Rattle.kept_orders.proofs.answering.answer_in_order.Goals as goal
 

@@ -1,7 +1,4 @@
-use Rattle.std.proofs.Common.{◌++◌, ap, sym, ◌∙◌, subst}
-use Rattle.std.specs.Prelude.{Contains}
-use Rattle.configurations.proofs.FrontLemmas.{IsOrder-from_front}
-use Rattle.kept_fronts.specs.Standing.{places}
+use Rattle.kept_orders.proofs.Common.{◌++◌, ap, sym, ◌∙◌, subst, Contains, IsOrder-from_front, places}
 use Rattle.kept_orders.proofs.AnswerLemmas.{again_or-some}
 use Rattle.kept_orders.proofs.answering.push_again.Goals as goal
 

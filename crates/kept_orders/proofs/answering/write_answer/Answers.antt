@@ -1,8 +1,4 @@
-use Rattle.std.proofs.Common.{◌≡◌, Some, length, set, refl, sym, ap, ◌∙◌}
-use Rattle.std.specs.Prelude.{slice_get}
-use Rattle.std.proofs.lemmas.Option.{slice_get_read}
-use Rattle.events.specs.declared.operation.Operation.{Operation}
-use Rattle.kept_orders.specs.Views.{answered_call, set_answer}
+use Rattle.kept_orders.proofs.Common.{◌≡◌, Some, length, set, refl, sym, ap, ◌∙◌, slice_get, slice_get_read, Operation, answered_call, set_answer}
 use Rattle.kept_orders.proofs.answering.write_answer.Goals as goal
 
 pub returns : goal.returns

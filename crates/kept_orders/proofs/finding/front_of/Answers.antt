@@ -1,8 +1,4 @@
-use Rattle.std.proofs.Common.{◌++◌, ap, sym, ◌∙◌, subst}
-use Rattle.configurations.specs.Fronts.{IsFront}
-use Rattle.configurations.proofs.FrontLemmas.{IsFront-from_order}
-use Rattle.kept_fronts.specs.Closed.{IsClosed}
-use Rattle.kept_fronts.proofs.ClosedLemmas.{IsClosed-from_front}
+use Rattle.kept_orders.proofs.Common.{◌++◌, ap, sym, ◌∙◌, subst, IsFront, IsFront-from_order, IsClosed, IsClosed-from_front}
 use Rattle.kept_orders.proofs.finding.front_of.Goals as goal
 
 pub push_all-requires-clause-closed : goal.push_all-requires-clause-closed

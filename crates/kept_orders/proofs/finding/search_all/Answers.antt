@@ -1,10 +1,5 @@
-use Rattle.std.proofs.Common.{◌<◌, List, refl, sym, ◌∙◌, subst}
-use Rattle.std.specs.Prelude.{AllPairs}
-use Rattle.events.specs.declared.operation.Operation.{Operation}
-use Rattle.events.specs.Precedence.{NonePrecedesItself}
-use Rattle.orders.specs.Orders.{IsOrder, IsLinearizable}
+use Rattle.kept_orders.proofs.Common.{◌<◌, List, refl, sym, ◌∙◌, subst, AllPairs, Operation, NonePrecedesItself, IsOrder, IsLinearizable, Stands}
 use Rattle.configurations.specs.Counts.{ReachesMoreThan}
-use Rattle.kept_fronts.specs.Standing.{Stands}
 use Rattle.kept_orders.proofs.FindLemmas.{over, keeps}
 use Rattle.kept_orders.proofs.finding.search_all.Goals as goal
 

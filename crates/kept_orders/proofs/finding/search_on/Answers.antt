@@ -1,9 +1,4 @@
-use Rattle.std.proofs.Common.{List, sym, ◌∙◌, subst}
-use Rattle.std.specs.Prelude.{IfOk}
-use Rattle.events.specs.declared.operation.Operation.{Operation}
-use Rattle.map_object.specs.MapObject.{Contents}
-use Rattle.kept_fronts.specs.Standing.{Stands, AreCalls, IsWhole}
-use Rattle.kept_orders.specs.Answers.{IsAnswer}
+use Rattle.kept_orders.proofs.Common.{List, sym, ◌∙◌, subst, IfOk, Operation, Contents, Stands, AreCalls, IsWhole, IsAnswer}
 use Rattle.kept_orders.proofs.FindLemmas.{keeps}
 use Rattle.kept_orders.proofs.finding.search_on.Goals as goal
 

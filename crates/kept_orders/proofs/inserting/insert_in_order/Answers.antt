@@ -1,12 +1,5 @@
-use Rattle.std.proofs.Common.{◌≤◌, ◌<◌, ◌++◌, ◌∷◌, [], false, List, length, map, take, drop, min, sym, ap, ◌∙◌, subst}
-use Rattle.std.specs.Prelude.{All}
-use Rattle.std.specs.List.{insert}
-use Rattle.events.specs.declared.operation.Operation.{Operation}
-use Rattle.kept_fronts.specs.Closed.{IsClosed}
-use Rattle.kept_fronts.specs.Mending.{HasCompleted}
-use Rattle.kept_orders.specs.Moving.{moved}
-use Rattle.kept_fronts.specs.Standing.{places, Stands, AreCalls}
-use Rattle.kept_fronts.proofs.ClosedLemmas.{IsClosed-from_front}
+use Rattle.kept_orders.proofs.Common.{◌≤◌, ◌<◌, ◌++◌, ◌∷◌, [], false, List, length, map, take, drop, min, sym, ap, ◌∙◌, subst, All, insert, Operation}
+use Rattle.kept_orders.proofs.Common.{IsClosed, HasCompleted, moved, places, Stands, AreCalls, IsClosed-from_front}
 use Rattle.kept_orders.proofs.MoveLemmas.{places_moved, stands_moved, closed_last, complete_last}
 use Rattle.kept_orders.proofs.InsertLemmas.{few_places, came, are_calls_with}
 use Rattle.kept_fronts.proofs.StandingLemmas.{stands-as}

@@ -1,6 +1,4 @@
-use Rattle.std.proofs.Common.{ap, ◌∙◌, arith}
-use Rattle.std.proofs.lemmas.List.{take_all}
-use Rattle.kept_fronts.specs.Standing.{places}
+use Rattle.kept_orders.proofs.Common.{ap, ◌∙◌, arith, take_all, places}
 use Rattle.kept_orders.proofs.kept_order.order_of.Goals as goal
 
 pub returns : goal.returns

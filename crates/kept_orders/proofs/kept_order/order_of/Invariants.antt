@@ -1,5 +1,4 @@
-use Rattle.std.proofs.Common.{◌≡◌, take}
-use Rattle.kept_fronts.specs.Standing.{places}
+use Rattle.kept_orders.proofs.Common.{◌≡◌, take, places}
 use Rattle.kept_orders.proofs.kept_order.order_of.Given as goal
 
 -- the places of the levels so far

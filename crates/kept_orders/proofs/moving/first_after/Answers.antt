@@ -1,9 +1,5 @@
-use Rattle.std.proofs.Common.{◌≡◌, ◌-◌, ◌<◌, Some, None, List, length, get_or, take, refl, sym, ap, ◌∙◌, subst, arith}
-use Rattle.std.specs.Prelude.{slice_get, All}
-use Rattle.std.proofs.lemmas.Option.{slice_get_read, slice_get-get_or}
-use Rattle.list_laws.proofs.Lists.{All-at}
-use Rattle.kept_fronts.specs.Standing.{places}
-use Rattle.kept_fronts.specs.declared.front.Level.{Level}
+use Rattle.kept_orders.proofs.Common.{◌≡◌, ◌-◌, ◌<◌, Some, None, List, length, get_or, take, refl, sym, ap, ◌∙◌, subst, arith, slice_get, All}
+use Rattle.kept_orders.proofs.Common.{slice_get_read, slice_get-get_or, All-at, places, Level}
 use Rattle.kept_orders.proofs.RoomLemmas.{below_ended, levels_below, place_at}
 use Rattle.kept_orders.proofs.moving.first_after.Goals as goal
 

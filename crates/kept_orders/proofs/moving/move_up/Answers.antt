@@ -1,8 +1,5 @@
-use Rattle.std.proofs.Common.{◌≡◌, ◌++◌, ◌+◌, ◌<◌, ◌∙◌, ℕ, None, List, length, map, take, drop, get_or, set, ap, arith}
-use Rattle.std.proofs.lemmas.List.{get_or_default}
-use Rattle.std.proofs.lemmas.List.Edits.{map_over_more}
-use Rattle.kept_orders.specs.Moving.{moved}
-use Rattle.kept_fronts.specs.declared.front.Level.{Level}
+use Rattle.kept_orders.proofs.Common.{◌≡◌, ◌++◌, ◌+◌, ◌<◌, ◌∙◌, ℕ, None, List, length, map, take, drop, get_or, set, ap, arith, get_or_default}
+use Rattle.kept_orders.proofs.Common.{map_over_more, moved, Level}
 use Rattle.kept_orders.proofs.RoomLemmas.{moved_from}
 use Rattle.kept_orders.proofs.moving.move_up.Goals as goal
 

@@ -1,5 +1,4 @@
-use Rattle.std.proofs.Common.{◌≡◌, ◌++◌, map, take, drop}
-use Rattle.kept_orders.specs.Moving.{moved}
+use Rattle.kept_orders.proofs.Common.{◌≡◌, ◌++◌, map, take, drop, moved}
 use Rattle.kept_orders.proofs.moving.move_up.Given as goal
 
 -- the calls so far have moved

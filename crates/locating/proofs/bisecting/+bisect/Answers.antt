@@ -1,6 +1,4 @@
-use Rattle.std.proofs.Common.{arith, sym, subst}
-use Rattle.std.proofs.lemmas.Result.{IfOk-weaker}
-use Rattle.locating.specs.Bisections.{IsYes, IsNo, IsUndecided, found, spent, upper, lower}
+use Rattle.locating.proofs.Common.{arith, sym, subst, IfOk-weaker, IsYes, IsNo, IsUndecided, found, spent, upper, lower}
 use Rattle.locating.proofs.bisecting.+bisect.Goals as goal
 
 pub returns-then-high-low-eq1-clause-bisected : goal.returns-then-high-low-eq1-clause-bisected

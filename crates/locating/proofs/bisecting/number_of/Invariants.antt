@@ -1,5 +1,4 @@
-use Rattle.std.proofs.Common.{ℕ, ◌<◌}
-use Rattle.prefixes.specs.Prefixes.{IsAnswerOf}
+use Rattle.locating.proofs.Common.{ℕ, ◌<◌, IsAnswerOf}
 use Rattle.locating.proofs.bisecting.number_of.Given as goal
 
 -- the event is the answer of none of the calls so far

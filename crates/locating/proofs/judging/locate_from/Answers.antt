@@ -1,6 +1,4 @@
-use Rattle.std.proofs.Common.{sym, subst, inl}
-use Rattle.events.specs.Operations.{operations}
-use Rattle.locating.specs.Bisections.{IsYes, IsNo, IsUndecided}
+use Rattle.locating.proofs.Common.{sym, subst, inl, operations, IsYes, IsNo, IsUndecided}
 use Rattle.locating.proofs.BisectionLemmas.{judged_whole, shown_no, shown_yes}
 use Rattle.locating.proofs.judging.locate_from.Goals as goal
 

@@ -1,6 +1,4 @@
-use Rattle.std.proofs.Common.{List, length, sym, subst}
-use Rattle.events.specs.declared.event.Event.{Event}
-use Rattle.locating.specs.Bisections.{IsLostBetween}
+use Rattle.locating.proofs.Common.{List, length, sym, subst, Event, IsLostBetween}
 use Rattle.locating.proofs.BisectionLemmas.{lost_in_whole}
 use Rattle.locating.proofs.judging.locate_refuted.Goals as goal
 

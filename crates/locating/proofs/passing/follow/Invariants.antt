@@ -1,6 +1,5 @@
 -- The monitor has taken the events so far.
-use Rattle.std.proofs.Common.{take}
-use Rattle.monitor.specs.Following.{IsFollowing}
+use Rattle.locating.proofs.Common.{take, IsFollowing}
 use Rattle.locating.proofs.passing.follow.Given as goal
 
 abbrev pub invariant-loop-place : goal.invariant-loop-place

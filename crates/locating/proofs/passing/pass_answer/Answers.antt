@@ -1,8 +1,4 @@
-use Rattle.std.proofs.Common.{◌∙◌, take, sym, subst}
-use Rattle.std.proofs.lemmas.Option.{none-some}
-use Rattle.events.specs.declared.event.Event.TheVariants.{Answer}
-use Rattle.monitor.specs.Following.{IsFollowing}
-use Rattle.monitor.specs.Outcomes.{IsAnswered}
+use Rattle.locating.proofs.Common.{◌∙◌, take, sym, subst, none-some, Answer, IsFollowing, IsAnswered}
 use Rattle.locating.proofs.PassLemmas.{fine_answer, lost, next, spent}
 use Rattle.locating.proofs.passing.pass_answer.Goals as goal
 

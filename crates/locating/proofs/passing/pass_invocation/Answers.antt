@@ -1,6 +1,4 @@
-use Rattle.std.proofs.Common.{◌∙◌, take, sym, subst}
-use Rattle.events.specs.declared.event.Event.TheVariants.{Invoke}
-use Rattle.monitor.specs.Following.{IsFollowing}
+use Rattle.locating.proofs.Common.{◌∙◌, take, sym, subst, Invoke, IsFollowing}
 use Rattle.locating.proofs.PassLemmas.{fine_call, next}
 use Rattle.locating.proofs.passing.pass_invocation.Goals as goal
 

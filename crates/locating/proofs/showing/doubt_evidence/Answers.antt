@@ -1,7 +1,4 @@
-use Rattle.std.proofs.Common.{subst, None}
-use Rattle.events.specs.HistoryView.{HistoryView}
-use Rattle.events.specs.Operations.{operations}
-use Rattle.explaining.specs.Explained.{IsExplained}
+use Rattle.locating.proofs.Common.{subst, None, HistoryView, operations, IsExplained}
 use Rattle.locating.proofs.showing.doubt_evidence.Goals as goal
 
 pub returns-clause-shows : goal.returns-clause-shows

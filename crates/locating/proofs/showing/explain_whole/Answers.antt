@@ -1,8 +1,4 @@
-use Rattle.std.proofs.Common.{◌<◌, List, sym, subst}
-use Rattle.std.specs.Prelude.{AllPairs}
-use Rattle.events.specs.declared.operation.Operation.{Operation}
-use Rattle.events.specs.Precedence.{NonePrecedesItself}
-use Rattle.events.proofs.TimeLemmas.{inv_rises, NonePrecedesItself-operations}
+use Rattle.locating.proofs.Common.{◌<◌, List, sym, subst, AllPairs, Operation, NonePrecedesItself, inv_rises, NonePrecedesItself-operations}
 use Rattle.locating.proofs.showing.explain_whole.Goals as goal
 
 pub explain_calls-requires-clause-rising : goal.explain_calls-requires-clause-rising

@@ -1,9 +1,4 @@
-use Rattle.std.proofs.Common.{subst, None}
-use Rattle.std.proofs.lemmas.Result.{IfOk-weaker}
-use Rattle.events.specs.HistoryView.{HistoryView}
-use Rattle.events.specs.Operations.{operations}
-use Rattle.explaining.specs.Explained.{IsExplained}
-use Rattle.locating.specs.Evidences.{ShowsNoneUpTo}
+use Rattle.locating.proofs.Common.{subst, None, IfOk-weaker, HistoryView, operations, IsExplained, ShowsNoneUpTo}
 use Rattle.locating.proofs.EvidenceLemmas.{of_loss}
 use Rattle.locating.proofs.showing.loss_evidence.Goals as goal
 

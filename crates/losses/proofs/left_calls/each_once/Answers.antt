@@ -1,6 +1,5 @@
 -- What is sorted and deduplicated has the same calls.
-use Rattle.std.proofs.lemmas.List.Filters.{dedup_is}
-use Rattle.std.proofs.lemmas.List.Sorted.{Contains-permutation, IsPermutation-sym}
+use Rattle.losses.proofs.Common.{dedup_is, Contains-permutation, IsPermutation-sym}
 use Rattle.losses.proofs.NameLemmas.{same_spans}
 use Rattle.losses.proofs.left_calls.each_once.Goals as goal
 

@@ -1,8 +1,6 @@
 -- What is sorted and deduplicated rises, and has the same events.
-use Rattle.std.proofs.lemmas.List.Filters.{dedup_is}
-use Rattle.std.proofs.lemmas.List.Kept.{AllPairs-from_increasing, Contains-dedup_nat, Contains-from_dedup}
-use Rattle.std.proofs.lemmas.List.Sorted.{Contains-permutation, IsPermutation-sym}
-use Rattle.std.proofs.lemmas.Map.Keys.{IsStrictlyIncreasing-dedup}
+use Rattle.losses.proofs.Common.{dedup_is, AllPairs-from_increasing, Contains-dedup_nat, Contains-from_dedup, Contains-permutation, IsPermutation-sym}
+use Rattle.losses.proofs.Common.{IsStrictlyIncreasing-dedup}
 use Rattle.losses.proofs.left_calls.in_order.Goals as goal
 
 pub returns-clause-rising : goal.returns-clause-rising

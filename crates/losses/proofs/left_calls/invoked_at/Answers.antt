@@ -1,6 +1,4 @@
-use Rattle.std.proofs.Common.{[], inr, ⊎_elim}
-use Rattle.list_laws.proofs.Lists.{Contains-nil}
-use Rattle.losses.specs.Collecting.{IsSpanAt}
+use Rattle.losses.proofs.Common.{[], inr, ⊎_elim, Contains-nil, IsSpanAt}
 use Rattle.losses.proofs.AnyLemmas.{added_all, added_at}
 use Rattle.losses.proofs.left_calls.invoked_at.Goals as goal
 

@@ -1,5 +1,4 @@
-use Rattle.std.proofs.Common.{[], take}
-use Rattle.losses.specs.Collecting.{AreAdded, IsSpanAt}
+use Rattle.losses.proofs.Common.{[], take, AreAdded, IsSpanAt}
 use Rattle.losses.proofs.left_calls.invoked_at.Given as goal
 
 -- the events of the calls so far that have the key

@@ -1,6 +1,4 @@
-use Rattle.std.proofs.Common.{◌≡◌, ◌∙◌, ℕ, List, [], ◌∷◌, ◌++◌, ap, refl, subst, sym}
-use Rattle.events.specs.Keys.{low_key}
-use Rattle.losses.specs.Collecting.{AreAddedOf, IsSpanOf, span_of}
+use Rattle.losses.proofs.Common.{◌≡◌, ◌∙◌, ℕ, List, [], ◌∷◌, ◌++◌, ap, refl, subst, sym, low_key, AreAddedOf, IsSpanOf, span_of}
 use Rattle.losses.proofs.AnyLemmas.{added_all, added_more, added_one}
 use Rattle.losses.proofs.left_calls.note_spans.Goals as goal
 

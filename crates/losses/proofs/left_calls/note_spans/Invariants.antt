@@ -1,5 +1,4 @@
-use Rattle.std.proofs.Common.{take}
-use Rattle.losses.specs.Collecting.{AreAdded, IsSpanOf}
+use Rattle.losses.proofs.Common.{take, AreAdded, IsSpanOf}
 use Rattle.losses.proofs.left_calls.note_spans.Given as goal
 
 -- the calls so far

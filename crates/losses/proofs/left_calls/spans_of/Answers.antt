@@ -1,7 +1,4 @@
-use Rattle.std.proofs.Common.{List, [], subst}
-use Rattle.events.specs.declared.operation.Operation.{Operation}
-use Rattle.part_cuts.specs.PartCuts.{kept_of}
-use Rattle.losses.specs.Collecting.{AreAdded, IsSpanIn, IsSpanOf}
+use Rattle.losses.proofs.Common.{List, [], subst, Operation, kept_of, AreAdded, IsSpanIn, IsSpanOf}
 use Rattle.losses.proofs.AnyLemmas.{added_all, added_more, added_same}
 use Rattle.losses.proofs.NameLemmas.{all_spans}
 use Rattle.losses.proofs.left_calls.spans_of.Goals as goal

@@ -1,6 +1,4 @@
-use Rattle.std.proofs.Common.{[], take}
-use Rattle.part_cuts.specs.PartCuts.{kept_of}
-use Rattle.losses.specs.Collecting.{AreAdded, IsSpanIn}
+use Rattle.losses.proofs.Common.{[], take, kept_of, AreAdded, IsSpanIn}
 use Rattle.losses.proofs.left_calls.spans_of.Given as goal
 
 -- the calls that are left in the pasts so far

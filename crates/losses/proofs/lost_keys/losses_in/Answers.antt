@@ -1,6 +1,4 @@
-use Rattle.std.proofs.Common.{◌∙◌, ℕ, List, map, subst, sym}
-use Rattle.part_cuts.specs.PartCuts.{kept_of}
-use Rattle.losses.specs.Collecting.{AreSpansOf}
+use Rattle.losses.proofs.Common.{◌∙◌, ℕ, List, map, subst, sym, kept_of, AreSpansOf}
 use Rattle.losses.proofs.LossLemmas.{all_losses}
 use Rattle.losses.proofs.lost_keys.losses_in.Goals as goal
 

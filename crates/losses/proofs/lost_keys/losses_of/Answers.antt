@@ -1,6 +1,4 @@
-use Rattle.std.proofs.Common.{map}
-use Rattle.part_cuts.specs.PartCuts.{kept_of}
-use Rattle.losses.specs.KeyLosses.{IsKeyLoss}
+use Rattle.losses.proofs.Common.{map, kept_of, IsKeyLoss}
 use Rattle.losses.proofs.LossLemmas.{losses_more}
 use Rattle.losses.proofs.lost_keys.losses_of.Goals as goal
 

@@ -1,7 +1,4 @@
-use Rattle.std.proofs.Common.{◌≡◌, map, take}
-use Rattle.std.specs.Prelude.{All}
-use Rattle.part_cuts.specs.PartCuts.{kept_of}
-use Rattle.losses.specs.KeyLosses.{IsKeyLoss}
+use Rattle.losses.proofs.Common.{◌≡◌, map, take, All, kept_of, IsKeyLoss}
 use Rattle.losses.proofs.lost_keys.losses_of.Given as goal
 
 -- what is said of the keys so far

@@ -1,8 +1,4 @@
-use Rattle.std.proofs.Common.{◌≡◌, ◌∙◌, ℕ, sym, subst}
-use Rattle.std.specs.Prelude.{◌↔◌}
-use Rattle.std.proofs.lemmas.Result.{on_ok_weaker}
-use Rattle.events.specs.Keys.{low_key, high_key}
-use Rattle.losses.specs.Collecting.{ListsOther, Names}
+use Rattle.losses.proofs.Common.{◌≡◌, ◌∙◌, ℕ, sym, subst, ◌↔◌, on_ok_weaker, low_key, high_key, ListsOther, Names}
 use Rattle.losses.proofs.NameLemmas.{added_as, lists_names}
 use Rattle.losses.proofs.named_keys.note_call.Goals as goal
 

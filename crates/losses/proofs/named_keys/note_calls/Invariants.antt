@@ -1,5 +1,4 @@
-use Rattle.std.proofs.Common.{take}
-use Rattle.losses.specs.Collecting.{AreAdded, Names}
+use Rattle.losses.proofs.Common.{take, AreAdded, Names}
 use Rattle.losses.proofs.named_keys.note_calls.Given as goal
 
 -- the keys that the calls so far name

@@ -1,7 +1,4 @@
-use Rattle.std.proofs.Common.{subst}
-use Rattle.std.proofs.lemmas.Result.{on_ok_weaker}
-use Rattle.map_object.specs.MapObject.{Contents}
-use Rattle.losses.specs.Collecting.{AreAdded, GivesDiffering}
+use Rattle.losses.proofs.Common.{subst, on_ok_weaker, Contents, AreAdded, GivesDiffering}
 use Rattle.losses.proofs.NameLemmas.{differing_added}
 use Rattle.losses.proofs.named_keys.note_differing.Goals as goal
 

@@ -1,5 +1,4 @@
-use Rattle.std.proofs.Common.{take}
-use Rattle.losses.specs.Collecting.{AreAdded, GivesDiffering}
+use Rattle.losses.proofs.Common.{take, AreAdded, GivesDiffering}
 use Rattle.losses.proofs.named_keys.note_pairs.Given as goal
 
 -- the keys of the pairs so far at which the maps differ

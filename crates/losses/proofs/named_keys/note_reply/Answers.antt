@@ -1,8 +1,4 @@
-use Rattle.std.proofs.Common.{◌∙◌, ap}
-use Rattle.std.proofs.lemmas.Result.{on_ok_weaker}
-use Rattle.map_object.specs.MapObject.{Contents, value_at}
-use Rattle.losses.specs.KeyLosses.{pairs_in}
-use Rattle.losses.specs.Collecting.{DiffersWithin, ListsOther}
+use Rattle.losses.proofs.Common.{◌∙◌, ap, on_ok_weaker, Contents, value_at, pairs_in, DiffersWithin, ListsOther}
 use Rattle.losses.proofs.NameLemmas.{added_as, pairs_listed}
 use Rattle.losses.proofs.named_keys.note_reply.Goals as goal
 

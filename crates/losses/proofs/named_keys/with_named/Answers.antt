@@ -1,7 +1,4 @@
-use Rattle.std.proofs.Common.{List, subst}
-use Rattle.events.specs.declared.operation.Operation.{Operation}
-use Rattle.part_cuts.specs.PartCuts.{kept_of}
-use Rattle.losses.specs.Collecting.{AreAdded, Names, NamesIn}
+use Rattle.losses.proofs.Common.{List, subst, Operation, kept_of, AreAdded, Names, NamesIn}
 use Rattle.losses.proofs.AnyLemmas.{added_all, added_more, added_same}
 use Rattle.losses.proofs.NameLemmas.{all_named}
 use Rattle.losses.proofs.named_keys.with_named.Goals as goal

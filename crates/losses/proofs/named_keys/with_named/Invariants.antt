@@ -1,7 +1,4 @@
-use Rattle.std.proofs.Common.{◌<◌, take}
-use Rattle.std.specs.Prelude.{AllPairs}
-use Rattle.part_cuts.specs.PartCuts.{kept_of}
-use Rattle.losses.specs.Collecting.{AreAdded, NamesIn}
+use Rattle.losses.proofs.Common.{◌<◌, take, AllPairs, kept_of, AreAdded, NamesIn}
 use Rattle.losses.proofs.named_keys.with_named.Given as goal
 
 -- the keys that are named in the pasts so far

@@ -1,8 +1,4 @@
-use Rattle.std.proofs.Common.{◌≡◌, ◌∙◌, [], ◌∷◌, ◌++◌, List, None, map, ap, subst}
-use Rattle.std.proofs.lemmas.Result.{IfOk-weaker}
-use Rattle.part_cuts.specs.PartCuts.{kept_of}
-use Rattle.part_cuts.specs.declared.past.Past.{Past}
-use Rattle.losses.specs.KeyLosses.{AreKeyLosses}
+use Rattle.losses.proofs.Common.{◌≡◌, ◌∙◌, [], ◌∷◌, ◌++◌, List, None, map, ap, subst, IfOk-weaker, kept_of, Past, AreKeyLosses}
 use Rattle.losses.proofs.LossLemmas.{few_losses}
 use Rattle.losses.proofs.own_parts.losses_of_few.Goals as goal
 

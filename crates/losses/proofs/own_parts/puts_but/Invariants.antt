@@ -1,5 +1,4 @@
-use Rattle.std.proofs.Common.{◌≡◌, ◌++◌, ◌==◌, drop, filter, not}
-use Rattle.std.specs.List.{list_any}
+use Rattle.losses.proofs.Common.{◌≡◌, ◌++◌, ◌==◌, drop, filter, not, list_any}
 use Rattle.losses.proofs.own_parts.puts_but.Given as goal
 
 -- those so far, with those to come

@@ -1,5 +1,4 @@
-use Rattle.std.proofs.Common.{◌≡◌, ℕ, ◌≤◌, length, drop}
-use Rattle.map_object.specs.MapObject.{value_at}
+use Rattle.losses.proofs.Common.{◌≡◌, ℕ, ◌≤◌, length, drop, value_at}
 use Rattle.losses.proofs.reported.map_of_each.Given as goal
 
 -- the map holds the pairs from here on

@@ -1,5 +1,4 @@
-use Rattle.std.proofs.Common.{take}
-use Rattle.map_object.specs.MapObject.{IsRising}
+use Rattle.losses.proofs.Common.{take, IsRising}
 use Rattle.losses.proofs.reported.rises.Given as goal
 
 -- the keys so far rise

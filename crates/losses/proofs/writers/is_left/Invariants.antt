@@ -1,5 +1,4 @@
-use Rattle.std.proofs.Common.{◌≡◌, ◌==◌, drop}
-use Rattle.std.specs.List.{list_any}
+use Rattle.losses.proofs.Common.{◌≡◌, ◌==◌, drop, list_any}
 use Rattle.losses.proofs.writers.is_left.Given as goal
 
 -- none so far was invoked there

@@ -1,5 +1,4 @@
-use Rattle.std.proofs.Common.{◌∙◌, arith, sym}
-use Rattle.part_cuts.specs.PartCuts.{kept_of}
+use Rattle.losses.proofs.Common.{◌∙◌, arith, sym, kept_of}
 use Rattle.losses.proofs.WriterLemmas.{last_found, last_passed}
 use Rattle.losses.proofs.writers.last_put.Goals as goal
 

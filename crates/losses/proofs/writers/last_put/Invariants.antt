@@ -1,6 +1,4 @@
-use Rattle.std.proofs.Common.{◌≡◌, ◌≤◌, None, length, take}
-use Rattle.part_cuts.specs.PartCuts.{kept_of}
-use Rattle.losses.specs.KeyLosses.{last_put}
+use Rattle.losses.proofs.Common.{◌≡◌, ◌≤◌, None, length, take, kept_of, last_put}
 use Rattle.losses.proofs.writers.last_put.Given as goal
 
 -- no later put is of the value

@@ -1,10 +1,4 @@
-use Rattle.std.proofs.Common.{◌≡◌, ◌∙◌, List, ap, map, subst}
-use Rattle.std.specs.Prelude.{◌↔◌, Contains}
-use Rattle.std.proofs.lemmas.Result.{IfOk-weaker}
-use Rattle.part_cuts.specs.PartCuts.{kept_of}
-use Rattle.losses.specs.KeyLosses.{origin_in}
-use Rattle.losses.specs.declared.lost_keys.Origin.{Origin}
-use Rattle.losses.specs.declared.puts.Put.{Put}
+use Rattle.losses.proofs.Common.{◌≡◌, ◌∙◌, List, ap, map, subst, ◌↔◌, Contains, IfOk-weaker, kept_of, origin_in, Origin, Put}
 use Rattle.losses.proofs.WriterLemmas.{all_origins}
 use Rattle.losses.proofs.writers.origins_at.Goals as goal
 

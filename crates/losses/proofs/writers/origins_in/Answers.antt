@@ -1,8 +1,4 @@
-use Rattle.std.proofs.Common.{subst}
-use Rattle.part_cuts.specs.PartCuts.{kept_of}
-use Rattle.losses.specs.KeyLosses.{origin_in}
-use Rattle.losses.specs.Collecting.{IsNotedOnce}
-use Rattle.losses.specs.declared.lost_keys.Origin.{Origin}
+use Rattle.losses.proofs.Common.{subst, kept_of, origin_in, IsNotedOnce, Origin}
 use Rattle.losses.proofs.WriterLemmas.{once_all, once_more}
 use Rattle.losses.proofs.writers.origins_in.Goals as goal
 

@@ -1,6 +1,4 @@
-use Rattle.std.proofs.Common.{take}
-use Rattle.part_cuts.specs.PartCuts.{kept_of}
-use Rattle.losses.specs.KeyLosses.{origin_in}
+use Rattle.losses.proofs.Common.{take, kept_of, origin_in}
 use Rattle.losses.proofs.WriterLemmas.{AreEachOnce}
 use Rattle.losses.proofs.writers.origins_in.Given as goal
 

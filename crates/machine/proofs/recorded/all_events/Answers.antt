@@ -1,7 +1,4 @@
-use Rattle.std.proofs.Common.{[], ◌∷◌, ◌++◌, take, sym, ap, ◌∙◌}
-use Rattle.std.specs.Prelude.{flat_map}
-use Rattle.std.proofs.lemmas.List.{take_more, take_all, flat_map_more}
-use Rattle.machine.specs.declared.runner.Runner.{Runner}
+use Rattle.machine.proofs.Common.{[], ◌∷◌, ◌++◌, take, sym, ap, ◌∙◌, flat_map, take_more, take_all, flat_map_more, Runner}
 use Rattle.machine.proofs.recorded.all_events.Goals as goal
 
 pub loop-runner-preserved : goal.loop-runner-preserved

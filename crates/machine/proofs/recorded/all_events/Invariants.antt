@@ -1,5 +1,4 @@
-use Rattle.std.proofs.Common.{◌≡◌, take}
-use Rattle.std.specs.Prelude.{flat_map}
+use Rattle.machine.proofs.Common.{◌≡◌, take, flat_map}
 use Rattle.machine.proofs.recorded.all_events.Given as goal
 
 abbrev pub invariant-loop-runner : goal.invariant-loop-runner

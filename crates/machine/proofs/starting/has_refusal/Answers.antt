@@ -1,9 +1,6 @@
-use Rattle.std.proofs.Common.{refl, subst, sym, true, ◌≡◌}
-use Rattle.std.specs.Prelude.{filter_map, Contains}
-use Rattle.std.proofs.lemmas.List.{take_all}
-use Rattle.events.specs.declared.event.Reply.TheVariants as replies
-use Rattle.art_core.specs.Core.{answered}
+use Rattle.machine.proofs.Common.{refl, subst, sym, true, ◌≡◌, filter_map, Contains, take_all, answered}
 use Rattle.machine.proofs.StartingLemmas.{refusal-found, no-refusal-yet}
+use Rattle.events.specs.declared.event.Reply.TheVariants as replies
 use Rattle.machine.proofs.starting.has_refusal.Goals as goal
 
 pub returns-then-is_refusal : goal.returns-then-is_refusal

@@ -1,11 +1,6 @@
-use Rattle.std.proofs.Common.{◌≡◌, true, [], ◌∷◌, IsTrue, refl, All, arith}
-use Rattle.std.proofs.lemmas.List.{length-map}
-use Rattle.list_laws.proofs.Lists.{All-at}
-use Rattle.events.specs.declared.event.Call.TheVariants.{Insert}
-use Rattle.art_steps.specs.TreeCalls.{is_tree_call}
-use Rattle.art_core.specs.Core.{opened}
-use Rattle.art_core.specs.Starts.{inserts, start_plan}
-use Rattle.machine.specs.Machines.{turns_left}
+use Rattle.machine.proofs.Common.{◌≡◌, true, [], ◌∷◌, IsTrue, refl, arith, length-map, All-at, Insert, is_tree_call, opened, inserts, start_plan}
+use Rattle.machine.proofs.Common.{turns_left}
+use Rattle.std.proofs.Common.{All}
 use Rattle.machine.proofs.StartingLemmas.{opens, not-made, all-inserted, not-opened}
 use Rattle.machine.proofs.starting.insert_pairs.Goals as goal
 

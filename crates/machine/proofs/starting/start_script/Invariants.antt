@@ -1,5 +1,4 @@
-use Rattle.std.proofs.Common.{◌≡◌, take}
-use Rattle.art_core.specs.Starts.{inserts}
+use Rattle.machine.proofs.Common.{◌≡◌, take, inserts}
 use Rattle.machine.proofs.starting.start_script.Given as goal
 
 abbrev pub invariant-loop-key : goal.invariant-loop-key

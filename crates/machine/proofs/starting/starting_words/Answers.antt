@@ -1,9 +1,5 @@
-use Rattle.std.proofs.Common.{◌≡◌, true, subst}
-use Rattle.list_laws.proofs.Lists.{All-from_contains}
-use Rattle.std.specs.Prelude.{◌≢◌, Contains}
+use Rattle.machine.proofs.Common.{◌≡◌, true, subst, All-from_contains, ◌≢◌, Contains, finished, start_plan}
 use Rattle.events.specs.declared.event.Reply.TheVariants as replies
-use Rattle.art_core.specs.Core.{finished}
-use Rattle.art_core.specs.Starts.{start_plan}
 use Rattle.machine.proofs.starting.starting_words.Goals as goal
 
 pub returns-then-has_refused-clause-refused : goal.returns-then-has_refused-clause-refused

@@ -1,5 +1,4 @@
-use Rattle.std.proofs.Common.{◌≡◌, ◌<◌, ℕ, get_or}
-use Rattle.map_object.specs.MapObject.{value_at}
+use Rattle.memo.proofs.Common.{◌≡◌, ◌<◌, ℕ, get_or, value_at}
 use Rattle.memo.proofs.config.agree.Given as goal
 
 -- the values at the keys so far are the same

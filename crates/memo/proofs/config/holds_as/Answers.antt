@@ -1,8 +1,4 @@
-use Rattle.std.proofs.Common.{◌≡◌, ◌∙◌, ℕ, get_or, refl, sym, ap, subst}
-use Rattle.std.specs.Prelude.{All}
-use Rattle.map_object.specs.MapObject.{Contents, value_at}
-use Rattle.configurations.specs.Configurations.{Configuration}
-use Rattle.memo.specs.Kept.{configuration_from}
+use Rattle.memo.proofs.Common.{◌≡◌, ◌∙◌, ℕ, get_or, refl, sym, ap, subst, All, Contents, value_at, Configuration, configuration_from}
 use Rattle.memo.proofs.DifferenceLemmas.{same_from_values}
 use Rattle.memo.proofs.config.holds_as.Goals as goal
 

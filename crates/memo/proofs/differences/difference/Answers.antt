@@ -1,7 +1,4 @@
-use Rattle.std.proofs.Common.{sym, subst}
-use Rattle.std.specs.Prelude.{filter}
-use Rattle.map_object.specs.MapObject.{Contents}
-use Rattle.memo.specs.Differences.{differs, IsDifference}
+use Rattle.memo.proofs.Common.{sym, subst, filter, Contents, differs, IsDifference}
 use Rattle.memo.proofs.DifferenceLemmas.{IsDifference-made}
 use Rattle.memo.proofs.differences.difference.Goals as goal
 

@@ -1,8 +1,6 @@
-use Rattle.std.proofs.Common.{◌≡◌, ◌∙◌, ◌<◌, ◌-◌, ℕ, Some, length, drop, get_or, refl, filter, is_none, sym, ap, subst, arith}
-use Rattle.std.proofs.lemmas.List.Kept.{AllPairs-filter}
-use Rattle.std.proofs.lemmas.List.{drop_all}
-use Rattle.map_object.specs.MapObject.{Contents, IsRising, value_at}
-use Rattle.memo.specs.Differences.{with_value, put_all, pairs_from}
+use Rattle.memo.proofs.Common.{◌≡◌, ◌∙◌, ◌<◌, ◌-◌, ℕ, Some, length, drop, get_or, refl, is_none, sym, ap, subst, arith, AllPairs-filter, drop_all}
+use Rattle.memo.proofs.Common.{Contents, IsRising, value_at, with_value, put_all, pairs_from}
+use Rattle.std.proofs.Common.{filter}
 use Rattle.memo.proofs.ValueLemmas.{with_value-rises}
 use Rattle.memo.proofs.DifferenceLemmas.{put_next}
 use Rattle.memo.proofs.differences.pairs_from.Goals as goal

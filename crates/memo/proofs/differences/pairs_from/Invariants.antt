@@ -1,6 +1,5 @@
-use Rattle.std.proofs.Common.{◌≡◌, ◌≤◌, length, drop, filter, is_none}
-use Rattle.map_object.specs.MapObject.{IsRising, value_at}
-use Rattle.memo.specs.Differences.{put_all}
+use Rattle.memo.proofs.Common.{◌≡◌, ◌≤◌, length, drop, is_none, IsRising, value_at, put_all}
+use Rattle.std.proofs.Common.{filter}
 use Rattle.memo.proofs.differences.pairs_from.Given as goal
 
 -- the pairs from the place on are put

@@ -1,5 +1,4 @@
-use Rattle.std.proofs.Common.{refl}
-use Rattle.memo.specs.Digest.{mix}
+use Rattle.memo.proofs.Common.{refl, mix}
 use Rattle.memo.proofs.digests.mix.Goals as goal
 
 pub returns : goal.returns

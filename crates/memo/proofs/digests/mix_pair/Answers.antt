@@ -1,5 +1,4 @@
-use Rattle.std.proofs.Common.{◌∙◌, ◌+◌, ℕ, ap}
-use Rattle.memo.specs.Digest.{mix}
+use Rattle.memo.proofs.Common.{◌∙◌, ◌+◌, ℕ, ap, mix}
 use Rattle.memo.proofs.DigestLemmas.{mix-mod}
 use Rattle.memo.proofs.digests.mix_pair.Goals as goal
 

@@ -1,6 +1,4 @@
-use Rattle.std.proofs.Common.{◌≡◌, ◌%◌, ◌^◌, take}
-use Rattle.std.specs.List.{sum_by}
-use Rattle.memo.specs.Digest.{mix_pair}
+use Rattle.memo.proofs.Common.{◌≡◌, ◌%◌, ◌^◌, take, sum_by, mix_pair}
 use Rattle.memo.proofs.digests.sum_of.Given as goal
 
 -- the pairs passed are summed

@@ -1,6 +1,4 @@
-use Rattle.std.specs.List.{list_any}
-use Rattle.std.proofs.lemmas.Bool.Decides.{Decides-at}
-use Rattle.memo.specs.Kept.{is_kept_same}
+use Rattle.memo.proofs.Common.{list_any, Decides-at, is_kept_same}
 use Rattle.memo.proofs.VisitedLemmas.{Decides-visited}
 use Rattle.memo.proofs.memo.contains.Goals as goal
 

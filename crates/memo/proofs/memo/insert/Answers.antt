@@ -1,7 +1,4 @@
-use Rattle.std.proofs.Common.{not}
-use Rattle.std.specs.List.{list_any}
-use Rattle.std.proofs.lemmas.Bool.Decides.{Decides-at, Decides-not}
-use Rattle.memo.specs.Kept.{is_kept_same}
+use Rattle.memo.proofs.Common.{not, list_any, Decides-at, Decides-not, is_kept_same}
 use Rattle.memo.proofs.VisitedLemmas.{Decides-visited}
 use Rattle.memo.proofs.memo.insert.Goals as goal
 

@@ -1,8 +1,7 @@
-use Rattle.std.proofs.Common.{◌<◌, ◌+◌, ◌^◌, arith}
-use Rattle.std.proofs.lemmas.List.{get_or_past}
+use Rattle.memo.proofs.Common.{◌<◌, ◌+◌, ◌^◌, arith, get_or_past}
 use Rattle.memo.proofs.BitLemmas.{ones_more, ones_few, ones_zero, ones_below}
-use Rattle.memo.proofs.words.ones_of.Goals as goal
 use Rattle.memo.proofs.words.ones_of.Goals.{then-loop-full-test+else-words-full, else-loop-full-test}
+use Rattle.memo.proofs.words.ones_of.Goals as goal
 
 -- the word where the loop ends is not of ones alone
 not_all : (c : goal.After-trailing_ones) → c.word_at.result + 1 < 2 ^ 64

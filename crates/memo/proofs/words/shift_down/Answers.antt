@@ -1,7 +1,5 @@
-use Rattle.std.proofs.Common.{◌*◌, ◌/◌, ◌%◌, ◌^◌, ◌-◌, ◌∙◌, ◌++◌, ◌∷◌, [], ℕ, List, get_or, sym, ap₂, arith}
-use Rattle.std.specs.Prelude.{bit_or}
-use Rattle.std.proofs.lemmas.List.FromFn.{map-range_with_len_more}
-use Rattle.memo.specs.Words.{shifted_word}
+use Rattle.memo.proofs.Common.{◌*◌, ◌/◌, ◌%◌, ◌^◌, ◌-◌, ◌∙◌, ◌++◌, ◌∷◌, [], ℕ, List, get_or, sym, ap₂, arith, bit_or, map-range_with_len_more}
+use Rattle.memo.proofs.Common.{shifted_word}
 use Rattle.memo.proofs.words.shift_down.Goals as goal
 
 -- a word and the one above it

@@ -1,6 +1,4 @@
-use Rattle.std.proofs.Common.{◌≡◌, map}
-use Rattle.std.specs.List.{range_with_len}
-use Rattle.memo.specs.Words.{shifted_word}
+use Rattle.memo.proofs.Common.{◌≡◌, map, range_with_len, shifted_word}
 use Rattle.memo.proofs.words.shift_down.Given as goal
 
 -- the words below were moved

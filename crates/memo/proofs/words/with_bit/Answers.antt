@@ -1,8 +1,5 @@
-use Rattle.std.proofs.Common.{◌≡◌, ◌/◌, ◌%◌, ◌*◌, ◌^◌, ◌+◌, ◌-◌, ◌++◌, ◌∙◌, ℕ, List, length, take, replicate, get_or, set, max, ap, arith}
-use Rattle.std.specs.Prelude.{bit_or}
-use Rattle.std.specs.Vec.{vec_len}
-use Rattle.std.proofs.lemmas.List.{get_or_read}
-use Rattle.memo.specs.Words.{bit_of}
+use Rattle.memo.proofs.Common.{◌≡◌, ◌/◌, ◌%◌, ◌*◌, ◌^◌, ◌+◌, ◌-◌, ◌++◌, ◌∙◌, ℕ, List, length, take, replicate, get_or, set, max, ap, arith, bit_or}
+use Rattle.memo.proofs.Common.{vec_len, get_or_read, bit_of}
 use Rattle.memo.proofs.BitLemmas.{grown_alike, length-grown, set_same, set_other, set_trimmed, set_each}
 use Rattle.memo.proofs.words.with_bit.Goals as goal
 
@@ -10,14 +7,14 @@ use Rattle.memo.proofs.words.with_bit.Goals as goal
 copied : (c : goal.After-set-5-1) → vec_len c.extend_from_slice.new.self ≡ length c.args.words.now
 copied c = omega (arith, c.in_ok-extend_from_slice.ensures.len, c.in_ok-set.ensures.len)
 
--- and zeros put behind them
+-- zeros are put after the words
 padded : (c : goal.After-set-5-1) → c.resize.new.self.items ≡ take c.max-count.result (c.in_ok-set.set.items ++ c.args.words.now)
     ++ replicate (c.max-count.result - vec_len c.extend_from_slice.new.self) 0
 padded c = c.in_ok-resize.ensures.items
     ∙ ap (λ (xs : List ℕ). take c.max-count.result xs ++ replicate (c.max-count.result - vec_len c.extend_from_slice.new.self) 0)
     c.in_ok-extend_from_slice.ensures.items
 
--- so they read as the words
+-- they read as the words
 alike : (c : goal.After-set-5-1) → (k : ℕ) → get_or c.resize.new.self.items k 0 ≡ get_or c.args.words.now k 0
 alike c =
     grown_alike c.resize.new.self.items c.args.words.now c.in_ok-set.set.items c.max-count.result (vec_len c.extend_from_slice.new.self)

@@ -1,5 +1,4 @@
-use Rattle.std.proofs.Common.{◌∙◌, ℕ, List, ap, arith}
-use Rattle.memo.specs.Words.{bit_of}
+use Rattle.memo.proofs.Common.{◌∙◌, ℕ, List, ap, arith, bit_of}
 use Rattle.memo.proofs.BitLemmas.{bit_of-moved}
 use Rattle.memo.proofs.words.without_lowest.Goals as goal
 

@@ -1,9 +1,6 @@
-use Rattle.std.proofs.Common.{◌≡◌, ◌∙◌, ◌-◌, ◌++◌, ℕ, List, Option, Some, length, get_or, sym, ap, arith}
-use Rattle.std.specs.Prelude.{slice_get}
-use Rattle.std.specs.Vec.{vec_len}
+use Rattle.memo.proofs.Common.{◌≡◌, ◌∙◌, ◌-◌, ◌++◌, ℕ, List, Option, Some, length, get_or, sym, ap, arith, slice_get, vec_len, slice_get_within}
+use Rattle.memo.proofs.Common.{get_or_from_slice_get, bit_of}
 use Rattle.std.specs.Option.{option_to_list}
-use Rattle.std.proofs.lemmas.Option.{slice_get_within, get_or_from_slice_get}
-use Rattle.memo.specs.Words.{bit_of}
 use Rattle.memo.proofs.BitLemmas.{bit_of-push_zero}
 use Rattle.memo.proofs.words.without_zeros.Goals as goal
 

@@ -1,5 +1,4 @@
-use Rattle.std.proofs.Common.{◌≡◌, ℕ, length}
-use Rattle.memo.specs.Words.{bit_of}
+use Rattle.memo.proofs.Common.{◌≡◌, ℕ, length, bit_of}
 use Rattle.memo.proofs.words.without_zeros.Given as goal
 
 -- each bit is as it was

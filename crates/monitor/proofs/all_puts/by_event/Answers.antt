@@ -1,6 +1,4 @@
-use Rattle.std.proofs.Common.{arith, rules}
-use Rattle.std.proofs.lemmas.List.Sorted.{IsNonDecreasingBy-from_sort_by_key}
-use Rattle.losses.specs.declared.puts.Put.{Put}
+use Rattle.monitor.proofs.Common.{arith, rules, IsNonDecreasingBy-from_sort_by_key, Put}
 use Rattle.monitor.proofs.all_puts.by_event.Goals as goal
 
 pub returns-clause-rising : goal.returns-clause-rising

@@ -1,8 +1,4 @@
-use Rattle.std.proofs.Common.{◌++◌, ◌∷◌, sym, subst}
-use Rattle.circular_buffer.specs.Buffer.{Buffer}
-use Rattle.losses.specs.declared.puts.Put.{Put}
-use Rattle.parts.specs.Keeping.{begun, is_reported}
-use Rattle.monitor.specs.Puts.{AreLastPuts}
+use Rattle.monitor.proofs.Common.{◌++◌, ◌∷◌, sym, subst, Buffer, Put, begun, is_reported, AreLastPuts}
 use Rattle.monitor.proofs.PutLemmas.{puts_answered, puts_answered_none}
 use Rattle.monitor.proofs.all_puts.note_answer.Goals as goal
 

@@ -1,11 +1,8 @@
-use Rattle.std.proofs.Common.{◌≡◌, ◌∷◌, [], map, rules, subst, sym}
-use Rattle.std.specs.Map.Iter.{deref_pair}
+use Rattle.monitor.proofs.Common.{◌≡◌, ◌∷◌, [], map, rules, subst, sym, deref_pair, map-append, ArePutsOfEntries}
 use Rattle.std.proofs.lemmas.Cmp.{nat_cmp_total}
-use Rattle.std.proofs.lemmas.List.{map-append}
 use Rattle.std.proofs.lemmas.Map.Iter.{iter_end}
 use Rattle.std.proofs.lemmas.Map.Lookups.{exact_unsigned}
 use Rattle.std.proofs.lemmas.Map.Views.{btree_map_get_iff}
-use Rattle.monitor.specs.OpenPuts.{ArePutsOfEntries}
 use Rattle.monitor.proofs.OpenPutLemmas.{ok_both, open_of_entries}
 use Rattle.monitor.proofs.all_puts.open_puts.Goals as goal
 

@@ -1,6 +1,4 @@
-use Rattle.std.proofs.Common.{map}
-use Rattle.std.specs.Map.Iter.{deref_pair}
-use Rattle.monitor.specs.OpenPuts.{ArePutsOfEntries}
+use Rattle.monitor.proofs.Common.{map, deref_pair, ArePutsOfEntries}
 use Rattle.monitor.proofs.all_puts.open_puts.Given as goal
 
 abbrev pub invariant-loop-known : goal.invariant-loop-known

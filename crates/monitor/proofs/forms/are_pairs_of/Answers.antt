@@ -1,11 +1,10 @@
-use Rattle.std.proofs.Common.{◌≡◌, ◌+◌, ◌∷◌, ◌++◌, take, drop, get_or, arith, subst, sym, ◌∙◌}
-use Rattle.std.proofs.lemmas.List.{take_more, get_or_default}
+use Rattle.monitor.proofs.Common.{◌≡◌, ◌+◌, ◌∷◌, ◌++◌, take, drop, get_or, arith, subst, sym, ◌∙◌, take_more, get_or_default, ArePairsOf}
 use Rattle.list_laws.proofs.Places.{parts_at}
 use Rattle.events.proofs.StartLemmas.{is_above-true, is_above-All}
-use Rattle.key_effects.specs.Forms.{ArePairsOf}
 use Rattle.monitor.proofs.PairLemmas.{pairs_push, pairs_next}
+use Rattle.monitor.proofs.forms.are_pairs_of.Goals.{then-pair-low-via-then-pair-low, then-pair-low-via-else-pair-low+then-high-pair}
+use Rattle.monitor.proofs.forms.are_pairs_of.Goals.{then-pair-low-via-else-pair-low+else-high-pair+then-not-is_above}
 use Rattle.monitor.proofs.forms.are_pairs_of.Goals as goal
-use Rattle.monitor.proofs.forms.are_pairs_of.Goals.{then-pair-low-via-then-pair-low, then-pair-low-via-else-pair-low+then-high-pair, then-pair-low-via-else-pair-low+else-high-pair+then-not-is_above}
 
 pub loop-place-preserved : goal.loop-place-preserved
 loop-place-preserved c =

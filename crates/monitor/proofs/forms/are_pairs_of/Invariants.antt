@@ -1,5 +1,4 @@
-use Rattle.std.proofs.Common.{take}
-use Rattle.key_effects.specs.Forms.{ArePairsOf}
+use Rattle.monitor.proofs.Common.{take, ArePairsOf}
 use Rattle.monitor.proofs.forms.are_pairs_of.Given as goal
 
 -- the pairs so far are some that the scan may report

@@ -3,7 +3,7 @@ use Rattle.events.specs.declared.operation.Operation.{Operation}
 use Rattle.origins.specs.Writers.{writers_of}
 use Rattle.origins.proofs.writing.writers_of.Given as goal
 
--- those so far, with those to come
+-- what was found so far, with what is to come, is all
 abbrev pub invariant-loop-call : goal.invariant-loop-call
 invariant-loop-call l =
     l.places.items ++ map (λ (a : Operation). a.inv) (writers_of l.pair (drop l.call-index l.calls))

@@ -1,6 +1,5 @@
 -- The leaf that goes has no entry.
-use Rattle.std.proofs.Common.{sym, ◌∙◌}
-use Rattle.std.proofs.lemmas.Bool.{eqb-true}
+use Rattle.packed_map.proofs.Common.{sym, ◌∙◌, eqb-true}
 use Rattle.packed_map.proofs.LeafLemmas.{drop_at}
 use Rattle.packed_map.proofs.leaves.drop_empty.Goals as goal
 

@@ -1,4 +1,4 @@
--- What the leaf of the key tells.
+-- What the leaf of the key has.
 use Rattle.std.specs.Option.{option_copied}
 use Rattle.packed_map.proofs.LeafLemmas.{read_at, rises_at}
 use Rattle.packed_map.proofs.leaves.get_in.Goals as goal

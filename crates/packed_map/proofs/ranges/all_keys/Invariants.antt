@@ -1,5 +1,4 @@
-use Rattle.std.proofs.Common.{◌≡◌, map, take}
-use Rattle.packed_map.specs.Leaves.{entries_of}
+use Rattle.packed_map.proofs.Common.{◌≡◌, map, take, entries_of}
 use Rattle.packed_map.proofs.ranges.all_keys.Given as goal
 
 -- the keys of the leaves so far

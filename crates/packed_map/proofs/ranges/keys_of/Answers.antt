@@ -1,7 +1,5 @@
 -- The leaves between the ends are those that have keys of the range.
-use Rattle.std.proofs.Common.{ap, refl, take_all, ◌∙◌}
-use Rattle.packed_map.specs.Leaves.{entries_of}
-use Rattle.packed_map.specs.Ranges.{keys_between}
+use Rattle.packed_map.proofs.Common.{ap, refl, take_all, ◌∙◌, entries_of, keys_between}
 use Rattle.packed_map.proofs.RangeLemmas.{keys_of_middle}
 use Rattle.packed_map.proofs.ranges.keys_of.Goals as goal
 

@@ -1,6 +1,4 @@
-use Rattle.std.proofs.Common.{◌≡◌, take}
-use Rattle.packed_map.specs.Leaves.{entries_of}
-use Rattle.packed_map.specs.Ranges.{keys_between}
+use Rattle.packed_map.proofs.Common.{◌≡◌, take, entries_of, keys_between}
 use Rattle.packed_map.proofs.ranges.keys_of.Given as goal
 
 -- the keys of the leaves so far

@@ -1,5 +1,4 @@
-use Rattle.std.proofs.Common.{◌≡◌, ◌++◌, take}
-use Rattle.packed_map.specs.Ranges.{keys_between}
+use Rattle.packed_map.proofs.Common.{◌≡◌, ◌++◌, take, keys_between}
 use Rattle.packed_map.proofs.ranges.push_within.Given as goal
 
 -- the keys of the entries so far

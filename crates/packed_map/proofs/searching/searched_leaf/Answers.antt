@@ -1,4 +1,4 @@
--- The closure tells whether a leaf's least key is not above the key.
+-- The closure says whether a leaf's least key is not above the key.
 use Rattle.std.proofs.Common.{nat_le, rules}
 use Rattle.std.proofs.lemmas.List.Sorted.{IsPartitionPoint-from_clause}
 use Rattle.packed_map.proofs.LeafLemmas.{leaf_at, leaf_before, leaves_part}

@@ -1,9 +1,5 @@
 -- Making room leaves the entries as they were.
-use Rattle.std.proofs.Common.{Some, is_ok, sym, subst}
-use Rattle.std.specs.Prelude.{if◌then◌else◌}
-use Rattle.packed_map.specs.Edits.{IsEdit}
-use Rattle.packed_map.specs.Entries.{value_at}
-use Rattle.packed_map.specs.Leaves.{entries_of}
+use Rattle.packed_map.proofs.Common.{Some, is_ok, sym, subst, if◌then◌else◌, IsEdit, value_at, entries_of}
 use Rattle.packed_map.proofs.EditLemmas.{edit_nothing}
 use Rattle.packed_map.proofs.splitting.insert_in.Goals as goal
 

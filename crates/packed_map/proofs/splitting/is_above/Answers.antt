@@ -1,4 +1,4 @@
--- The last entry tells.
+-- The last entry decides.
 use Rattle.packed_map.proofs.CutLemmas.{above_last}
 use Rattle.packed_map.proofs.splitting.is_above.Goals as goal
 

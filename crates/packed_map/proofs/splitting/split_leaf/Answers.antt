@@ -1,6 +1,5 @@
--- The leaf is cut, or stays where memory is wanting.
-use Rattle.std.proofs.Common.{ap, subst, sym, ◌∙◌}
-use Rattle.packed_map.specs.Leaves.{AreLeaves, IsLeafOf, entries_of}
+-- The leaf is cut, or stays if memory runs out.
+use Rattle.packed_map.proofs.Common.{ap, subst, sym, ◌∙◌, AreLeaves, IsLeafOf, entries_of}
 use Rattle.packed_map.proofs.LeafLemmas.{rises_at, split_at, unchanged_at}
 use Rattle.packed_map.proofs.splitting.split_leaf.Goals as goal
 

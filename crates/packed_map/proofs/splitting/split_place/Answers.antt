@@ -1,4 +1,4 @@
--- Behind all entries, or at the one in the middle.
+-- After all entries, or at the one in the middle.
 use Rattle.std.proofs.Common.{◌/◌, length, arith}
 use Rattle.packed_map.proofs.CutLemmas.{cut_end, cut_within}
 use Rattle.packed_map.proofs.splitting.split_place.Goals as goal

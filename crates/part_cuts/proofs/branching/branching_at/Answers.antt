@@ -1,5 +1,4 @@
-use Rattle.std.proofs.Common.{length, refl}
-use Rattle.std.proofs.lemmas.Option.{slice_get_read, slice_get_within}
+use Rattle.part_cuts.proofs.Common.{length, refl, slice_get_read, slice_get_within}
 use Rattle.part_cuts.proofs.EndLemmas.{branches_there}
 use Rattle.part_cuts.proofs.branching.branching_at.Goals as goal
 

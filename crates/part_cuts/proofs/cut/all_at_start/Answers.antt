@@ -1,6 +1,4 @@
-use Rattle.std.proofs.Common.{◌≡◌, Some, length, refl, sym, subst, arith}
-use Rattle.std.specs.Prelude.{slice_get}
-use Rattle.std.proofs.lemmas.Option.{slice_get_read}
+use Rattle.part_cuts.proofs.Common.{◌≡◌, Some, length, refl, sym, subst, arith, slice_get, slice_get_read}
 use Rattle.part_cuts.proofs.MadeLemmas.{AreStarts, starts_none, starts_more, starts_all}
 use Rattle.part_cuts.proofs.cut.all_at_start.Goals as goal
 

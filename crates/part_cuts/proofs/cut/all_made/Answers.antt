@@ -1,16 +1,9 @@
-use Rattle.std.proofs.Common.{◌≡◌, List, Some, length, refl, sym, ap, ◌∙◌, subst}
-use Rattle.std.specs.Prelude.{Contains, slice_get}
-use Rattle.std.proofs.lemmas.Option.{slice_get_read}
-use Rattle.list_laws.proofs.Lists.{All-at}
-use Rattle.events.specs.declared.operation.Operation.{Operation}
-use Rattle.kept_pasts.specs.Pasts.{AreKeptAlike}
-use Rattle.part_cuts.specs.PartCuts.{kept_of}
-use Rattle.part_cuts.specs.Positions.{IsFrom, IsPastAt}
-use Rattle.part_cuts.specs.declared.past.Past.{Past}
+use Rattle.part_cuts.proofs.Common.{◌≡◌, List, Some, length, refl, sym, ap, ◌∙◌, subst, Contains, slice_get, slice_get_read, All-at, Operation}
+use Rattle.part_cuts.proofs.Common.{AreKeptAlike, kept_of, IsFrom, IsPastAt, Past}
 use Rattle.part_cuts.proofs.MadeLemmas.{made_push, made_skip}
 use Rattle.part_cuts.proofs.WalkLemmas.{past_there}
-use Rattle.part_cuts.proofs.cut.all_made.Goals as goal
 use Rattle.part_cuts.proofs.cut.all_made.Goals.{then-not-is_among+in_ok-push, else-not-is_among}
+use Rattle.part_cuts.proofs.cut.all_made.Goals as goal
 
 pub loop-position-preserved : goal.loop-position-preserved
 loop-position-preserved c =

@@ -1,7 +1,4 @@
-use Rattle.std.proofs.Common.{List, map, ap, sym, ◌∙◌, subst}
-use Rattle.std.specs.Prelude.{Contains}
-use Rattle.events.specs.declared.operation.Operation.{Operation}
-use Rattle.part_cuts.specs.declared.past.Found.{Found}
+use Rattle.part_cuts.proofs.Common.{List, map, ap, sym, ◌∙◌, subst, Contains, Operation, Found}
 use Rattle.part_cuts.proofs.MadeLemmas.{kept_alike}
 use Rattle.part_cuts.proofs.cut.are_kept_alike.Goals as goal
 

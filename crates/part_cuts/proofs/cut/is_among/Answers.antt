@@ -1,7 +1,4 @@
-use Rattle.std.proofs.Common.{◌≡◌, Some, length, refl}
-use Rattle.std.specs.Prelude.{slice_get}
-use Rattle.std.proofs.lemmas.Option.{slice_get_read}
-use Rattle.list_laws.proofs.Lists.{Contains-at}
+use Rattle.part_cuts.proofs.Common.{◌≡◌, Some, length, refl, slice_get, slice_get_read, Contains-at}
 use Rattle.part_cuts.proofs.cut.is_among.Goals as goal
 
 pub returns-then-are_kept_alike : goal.returns-then-are_kept_alike

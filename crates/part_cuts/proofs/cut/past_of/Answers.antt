@@ -1,9 +1,7 @@
-use Rattle.std.proofs.Common.{◌<◌, ◌∙◌, [], ◌∷◌, ◌++◌, false, length, ap, refl, sym, arith}
-use Rattle.std.proofs.lemmas.List.{get_or_read}
-use Rattle.std.proofs.lemmas.Option.{slice_get_read}
+use Rattle.part_cuts.proofs.Common.{◌<◌, ◌∙◌, [], ◌∷◌, ◌++◌, false, length, ap, refl, sym, arith, get_or_read, slice_get_read}
 use Rattle.part_cuts.proofs.MadeLemmas.{left_skip, left_push}
-use Rattle.part_cuts.proofs.cut.past_of.Goals as goal
 use Rattle.part_cuts.proofs.cut.past_of.Goals.{then-not-index+in_ok-copy+in_ok-push, else-not-index}
+use Rattle.part_cuts.proofs.cut.past_of.Goals as goal
 
 pub loop-place-preserved : goal.loop-place-preserved
 loop-place-preserved c =

@@ -1,30 +1,12 @@
-use Rattle.std.proofs.Common.{◌≡◌, List, [], map, sym, ◌∙◌, subst, eqb-true}
-use Rattle.std.proofs.lemmas.List.{nil_from_length}
-use Rattle.std.proofs.lemmas.Result.{IfOk-weaker}
-use Rattle.part_cuts.specs.PartCuts.{IsMade, kept_of}
-use Rattle.part_cuts.specs.Positions.{AreMadeOf}
-use Rattle.part_cuts.specs.declared.position.Position.{Position}
-use Rattle.part_cuts.proofs.WalkLemmas.{walks_begin}
-use Rattle.part_cuts.proofs.MadeLemmas.{gone_further, made_is}
+use Rattle.part_cuts.proofs.Common.{[], ◌∷◌, Option, arith, sym, subst, IfSome, AreCut, Past}
+use Rattle.part_cuts.proofs.AloneLemmas.{more_allowed}
 use Rattle.part_cuts.proofs.cut.pasts_at.Goals as goal
 
-pub returns-then-is_empty : goal.returns-then-is_empty
-returns-then-is_empty c =
+pub returns-in_ok-vec-in-Some : goal.returns-in_ok-vec-in-Some
+returns-in_ok-vec-in-Some c =
     let pasts = c.args.pasts.now in
-    let most = c.args.limits.pasts in
-    let next = c.loop.next.items in
-    let ended = c.loop.ended.items in
-    let none : next ≡ [] = nil_from_length next (sym c.loop.next.ok.0 ∙ eqb-true _ 0 (sym c.if-is_empty.ensures)) in
-    IfOk-weaker c.made.result (AreMadeOf pasts c.deref.result.now most) (IsMade c.args.moment most pasts) (λ cut are.
-    made_is pasts c.args.moment most next ended cut c.loop.invariant none
-    (subst (λ (l : List Position). AreMadeOf pasts l most cut) c.deref.ensures.value are)) c.made.ensures
-
-pub loop-init : goal.loop-init
-loop-init c =
-    walks_begin c.args.pasts.now c.args.moment c.in_ok-next.next.items c.new-ended.result.items c.in_ok-next.ensures.kept
-    c.new-ended.ensures.items c.in_ok-next.ensures.from_past
-
-pub loop-preserved : goal.loop-preserved
-loop-preserved c =
-    gone_further c.args.pasts.now c.args.moment (map kept_of c.args.pasts.now) c.loop.next.items c.loop.ended.items c.in_ok-next-2.next.items
-    c.next_level.new.ended.items c.loop.invariant c.in_ok-next-2.ensures
+    let moment = c.args.moment in
+    let one : AreCut moment 1 pasts (c.in-Some.past ∷ []) =
+    subst (λ (r : Option Past). IfSome r (λ past. AreCut moment 1 pasts (past ∷ []))) c.in-Some.is c.in_ok-past.ensures in
+    more_allowed moment c.args.limits.pasts pasts c.in_ok-vec-in-Some.field-0.items (omega (arith, c.if-limits-eq0.false))
+    (subst (AreCut moment 1 pasts) (sym c.in_ok-vec-in-Some.ensures.items) one)

@@ -1,8 +1,4 @@
-use Rattle.std.proofs.Common.{◌≡◌, List, Some, inr, length, refl, subst}
-use Rattle.std.specs.Prelude.{slice_get, Contains}
-use Rattle.std.proofs.lemmas.Option.{slice_get_read}
-use Rattle.list_laws.proofs.Lists.{Contains-at}
-use Rattle.part_cuts.specs.declared.position.Position.{Position}
+use Rattle.part_cuts.proofs.Common.{◌≡◌, List, Some, inr, length, refl, subst, slice_get, Contains, slice_get_read, Contains-at, Position}
 use Rattle.part_cuts.proofs.levels.add_new.Goals as goal
 
 pub returns-then-are_alike : goal.returns-then-are_alike

@@ -1,18 +1,12 @@
-use Rattle.std.proofs.Common.{◌≡◌, ◌<◌, Bool, false, Some, List, length, refl, sym, ap, ◌∙◌, subst, arith}
-use Rattle.std.specs.Prelude.{slice_get, All, AllPairs}
-use Rattle.std.proofs.lemmas.Option.{slice_get_read, slice_get_within}
-use Rattle.std.proofs.lemmas.Result.{on_ok_weaker}
-use Rattle.list_laws.proofs.Lists.{All-at}
-use Rattle.events.specs.declared.operation.Operation.{Operation}
-use Rattle.events.specs.Precedence.{is_before, NonePrecedesItself}
-use Rattle.part_cuts.specs.declared.past.Past.{Past}
-use Rattle.part_cuts.specs.declared.position.Position.{Position}
-use Rattle.part_cuts.specs.Positions.{left_of, IsAdded, AreAdded}
+use Rattle.part_cuts.proofs.Common.{◌≡◌, ◌<◌, Bool, false, Some, List, length, refl, sym, ap, ◌∙◌, subst, arith, slice_get, All, AllPairs}
+use Rattle.part_cuts.proofs.Common.{slice_get_read, slice_get_within, on_ok_weaker, All-at, Operation, is_before, NonePrecedesItself, Past, Position}
+use Rattle.part_cuts.proofs.Common.{left_of, IsAdded, AreAdded}
 use Rattle.part_cuts.proofs.MadeLemmas.{IsShaped}
 use Rattle.part_cuts.proofs.WalkLemmas.{IsOnTheWay, past_there, way_marks, way_on, gone_to_end, gone_to_next, gone_by_branches, first_in}
 use Rattle.part_cuts.proofs.EndLemmas.{cut_left}
+use Rattle.part_cuts.proofs.levels.go_on.Goals.{else-loop-test}
+use Rattle.part_cuts.proofs.levels.go_on.Goals.{then-loop-test+in-Some+in-Some-next_read+in_ok-take-in-Some-next_read+else-counter-end}
 use Rattle.part_cuts.proofs.levels.go_on.Goals as goal
-use Rattle.part_cuts.proofs.levels.go_on.Goals.{else-loop-test, then-loop-test+in-Some+in-Some-next_read+in_ok-take-in-Some-next_read+else-counter-end}
 
 pub first_ended-requires-clause-rising : goal.first_ended-requires-clause-rising
 first_ended-requires-clause-rising c =

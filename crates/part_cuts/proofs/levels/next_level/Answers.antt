@@ -1,7 +1,4 @@
-use Rattle.std.proofs.Common.{◌++◌, map, length, ap, ◌∙◌, arith}
-use Rattle.std.specs.Vec.Iter.{into_iter_items}
-use Rattle.std.proofs.lemmas.List.{nil_from_length}
-use Rattle.part_cuts.specs.Positions.{kept_in}
+use Rattle.part_cuts.proofs.Common.{◌++◌, map, length, ap, ◌∙◌, arith, into_iter_items, nil_from_length, kept_in}
 use Rattle.part_cuts.proofs.WalkLemmas.{level_all, level_begins, level_more}
 use Rattle.part_cuts.proofs.levels.next_level.Goals as goal
 

@@ -1,6 +1,4 @@
-use Rattle.std.proofs.Common.{List, sym, ◌∙◌, subst, arith}
-use Rattle.std.specs.Prelude.{Contains}
-use Rattle.part_cuts.specs.declared.past.Found.{Found}
+use Rattle.part_cuts.proofs.Common.{List, sym, ◌∙◌, subst, arith, Contains, Found}
 use Rattle.part_cuts.proofs.position.are_alike.Goals as goal
 
 pub returns : goal.returns

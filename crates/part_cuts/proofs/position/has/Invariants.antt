@@ -1,6 +1,4 @@
-use Rattle.std.proofs.Common.{◌≡◌, ℕ, ◌<◌, Some}
-use Rattle.std.specs.Prelude.{slice_get}
-use Rattle.part_cuts.specs.declared.past.Found.{Found}
+use Rattle.part_cuts.proofs.Common.{◌≡◌, ℕ, ◌<◌, Some, slice_get, Found}
 use Rattle.part_cuts.proofs.position.has.Given as goal
 
 -- none of those so far

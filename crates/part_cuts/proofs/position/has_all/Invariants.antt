@@ -1,6 +1,4 @@
-use Rattle.std.proofs.Common.{◌≡◌, ℕ, ◌<◌, Some}
-use Rattle.std.specs.Prelude.{slice_get, Contains}
-use Rattle.part_cuts.specs.declared.past.Found.{Found}
+use Rattle.part_cuts.proofs.Common.{◌≡◌, ℕ, ◌<◌, Some, slice_get, Contains, Found}
 use Rattle.part_cuts.proofs.position.has_all.Given as goal
 
 -- all of those so far

@@ -1,11 +1,5 @@
-use Rattle.std.proofs.Common.{◌≡◌, ◌<◌, List, Some, length, refl, sym, ap, ◌∙◌, subst}
-use Rattle.std.specs.Prelude.{slice_get, AllPairs}
-use Rattle.std.proofs.lemmas.Option.{slice_get_read}
-use Rattle.std.proofs.lemmas.Result.{on_ok_weaker}
-use Rattle.list_laws.proofs.Lists.{All-at}
-use Rattle.events.specs.declared.operation.Operation.{Operation}
-use Rattle.part_cuts.specs.declared.past.Past.{Past}
-use Rattle.part_cuts.specs.Positions.{IsFirstEnded, IsBranching, kept_at, calls_of}
+use Rattle.part_cuts.proofs.Common.{◌≡◌, ◌<◌, List, Some, length, refl, sym, ap, ◌∙◌, subst, slice_get, AllPairs, slice_get_read, on_ok_weaker}
+use Rattle.part_cuts.proofs.Common.{All-at, Operation, Past, IsFirstEnded, IsBranching, kept_at, calls_of}
 use Rattle.part_cuts.proofs.MadeLemmas.{IsShaped}
 use Rattle.part_cuts.proofs.WalkLemmas.{past_there, marks_here, branches_become}
 use Rattle.part_cuts.proofs.stepping.branch.Goals as goal

@@ -1,15 +1,10 @@
-use Rattle.std.proofs.Common.{◌≡◌, ◌<◌, ◌≤◌, Some, List, length, refl, sym, ap, ◌∙◌, subst, arith}
-use Rattle.std.specs.Prelude.{slice_get}
-use Rattle.std.proofs.lemmas.Bool.{both_ways}
-use Rattle.std.proofs.lemmas.Option.{slice_get_read, slice_get_within}
-use Rattle.list_laws.proofs.Lists.{All-at}
-use Rattle.events.specs.declared.operation.Operation.{Operation}
-use Rattle.part_cuts.specs.declared.past.Past.{Past}
+use Rattle.part_cuts.proofs.Common.{◌≡◌, ◌<◌, ◌≤◌, Some, List, false, get_or, length, refl, sym, ap, ◌∙◌, subst, arith, slice_get, both_ways}
+use Rattle.part_cuts.proofs.Common.{slice_get_read, slice_get_within, get_or_from_slice_get, All-at, Operation, Past}
 use Rattle.part_cuts.proofs.EndLemmas.{begins_later}
 use Rattle.part_cuts.proofs.MadeLemmas.{IsShaped}
 use Rattle.part_cuts.proofs.WalkLemmas.{IsBranchedBelow, branched_none, branched_skip, branched_more, branched_all, marks_here, past_there}
-use Rattle.part_cuts.proofs.stepping.branch_by.Goals as goal
 use Rattle.part_cuts.proofs.stepping.branch_by.Goals.{then-is_branch+in_ok-after+in_ok-take+in_ok-add_new, else-is_branch}
+use Rattle.part_cuts.proofs.stepping.branch_by.Goals as goal
 
 pub loop-place-init : goal.loop-place-init
 loop-place-init c =
@@ -23,6 +18,37 @@ is_branch-requires-clause-marks c =
     let here : slice_get pasts base ≡ Some past =
     slice_get_read pasts (length pasts) base past refl (past_there pasts c.args.position.now c.requires.from_past) c.index-pasts-position.is in
     marks_here pasts past c.args.position.now here c.requires.from_past ∙ ap length (sym (c.as_slice-calls.ensures.value ∙ ap (λ (p : Past). p.calls.items) (sym c.index-pasts-position.is)))
+
+pub loop-place-preserved-then-index : goal.loop-place-preserved-then-index
+loop-place-preserved-then-index c =
+    let pasts = c.args.pasts.now in
+    let past = c.index-pasts-position.result in
+    let position = c.args.position.now in
+    let calls = c.as_slice-calls.result.now in
+    let n = c.loop-place.place in
+    let taken = position.taken.items in
+    let mark = c.index.result.now in
+    let here : slice_get pasts position.base ≡ Some past =
+    slice_get_read pasts (length pasts) position.base past refl (past_there pasts position c.requires.from_past) c.index-pasts-position.is in
+    let same : calls ≡ past.calls.items = c.as_slice-calls.ensures.value ∙ ap (λ (p : Past). p.calls.items) (sym c.index-pasts-position.is) in
+    let marks : length taken ≡ length calls = marks_here pasts past position here c.requires.from_past ∙ ap length (sym same) in
+    let marked : slice_get taken n ≡ Some mark =
+    slice_get_read taken (length taken) n mark refl (omega (arith, c.loop-place-test.true, marks)) c.index.ensures in
+    branched_skip pasts c.args.branching.now calls position n c.args.next.now.items c.loop-place.next.items
+    (λ may. both_ways (get_or taken n false) may.may.is_left.free (get_or_from_slice_get taken n mark false marked ∙ c.if-index.true))
+    c.loop-place.invariant
+
+pub take-requires : goal.take-requires
+take-requires c =
+    let pasts = c.args.pasts.now in
+    let past = c.index-pasts-position.result in
+    let position = c.args.position.now in
+    let calls = c.as_slice-calls.result.now in
+    let here : slice_get pasts position.base ≡ Some past =
+    slice_get_read pasts (length pasts) position.base past refl (past_there pasts position c.requires.from_past) c.index-pasts-position.is in
+    let same : calls ≡ past.calls.items = c.as_slice-calls.ensures.value ∙ ap (λ (p : Past). p.calls.items) (sym c.index-pasts-position.is) in
+    let marks : length position.taken.items ≡ length calls = marks_here pasts past position here c.requires.from_past ∙ ap length (sym same) in
+    omega (arith, c.loop-place-test.true, marks, ap length c.in_ok-after.ensures.taken)
 
 pub returns-then-branching-calls : goal.returns-then-branching-calls
 returns-then-branching-calls c =

@@ -1,14 +1,8 @@
-use Rattle.std.proofs.Common.{◌≡◌, ◌≤◌, Some, false, get_or, length, refl, sym, ◌∙◌, subst, arith}
-use Rattle.std.specs.Prelude.{slice_get}
-use Rattle.std.proofs.lemmas.Bool.{both_ways}
-use Rattle.std.proofs.lemmas.Option.{slice_get_read, same_Some}
-use Rattle.events.specs.declared.operation.Operation.{Operation}
-use Rattle.events.specs.Precedence.{is_before}
+use Rattle.part_cuts.proofs.Common.{◌≡◌, ◌≤◌, Some, false, get_or, length, refl, sym, ◌∙◌, subst, arith, slice_get, both_ways, slice_get_read}
+use Rattle.part_cuts.proofs.Common.{same_Some, Operation, is_before}
 use Rattle.part_cuts.proofs.EndLemmas.{ends_skip, ends_take, ends_here, ends_all}
+use Rattle.part_cuts.proofs.stepping.first_ended.Goals.{then-answered-earliest, else-answered-earliest}
 use Rattle.part_cuts.proofs.stepping.first_ended.Goals as goal
-use Rattle.part_cuts.proofs.stepping.first_ended.Goals.{then-not-taken-place+then-answered-earliest, else-not-taken-place}
-use Rattle.part_cuts.proofs.stepping.first_ended.Goals.{else-not-taken-place-via-then-not-taken-place+else-answered-earliest}
-use Rattle.part_cuts.proofs.stepping.first_ended.Goals.{else-not-taken-place-via-else-not-taken-place}
 
 pub returns-then-earliest-calls : goal.returns-then-earliest-calls
 returns-then-earliest-calls c =
@@ -19,6 +13,13 @@ returns-then-earliest-calls c =
     (slice_get_read calls (length calls) n a refl c.loop-place-test.true c.index-calls-place.is)
     (subst (λ (p : Operation). c.loop-place.earliest ≤ p.inv) (sym c.index-calls-place.is) c.if-earliest-calls.true) c.loop-place.invariant
 
+pub loop-place-preserved-then-taken-place : goal.loop-place-preserved-then-taken-place
+loop-place-preserved-then-taken-place c =
+    let taken = c.args.taken.now in
+    let n = c.loop-place.place in
+    ends_skip c.args.calls.now taken c.args.moment n c.loop-place.earliest c.loop-place.first
+    (λ o is_left. absurd (both_ways (get_or taken n false) is_left.free c.if-taken-place.true)) c.loop-place.invariant
+
 pub loop-place-preserved : goal.loop-place-preserved
 loop-place-preserved c =
     let calls = c.args.calls.now in
@@ -28,21 +29,18 @@ loop-place-preserved c =
     let here : slice_get calls n ≡ Some a =
     slice_get_read calls (length calls) n a refl c.loop-place-test.true c.index-calls-place-in-loop-place.is in
     let earliest = c.loop-place.earliest in
-    elim c.if-not-taken-place.branch [
-      | then-not-taken-place+then-answered-earliest w ↦ rw (w.first-is, w.earliest-is)
+    elim c.if-answered-earliest.branch [
+      | then-answered-earliest w ↦ rw (w.first-is, w.earliest-is)
           (ends_take calls taken c.args.moment n earliest c.loop-place.first a c.answer_before-answered.result
-          (record { here = here; free = w.if-not-taken-place.true }) (c.answer_before-answered.ensures.answer w.if-answered-earliest.true)
+          (record { here = here; free = c.if-taken-place.false }) (c.answer_before-answered.ensures.answer w.if-answered-earliest.true)
           w.if-answered-earliest.true c.loop-place.invariant)
-      | else-not-taken-place w ↦ rw (w.first-is, w.earliest-is) (elim w.else-not-taken-place.branch [
-        | else-not-taken-place-via-then-not-taken-place+else-answered-earliest v ↦ ends_skip calls taken c.args.moment n earliest c.loop-place.first
-            (λ o is_left.
-            let one : a ≡ o = same_Some a o (sym here ∙ is_left.here) in
-            subst (λ (p : Operation). is_before p.response earliest ≡ false) one
-            (c.answer_before-answered.ensures.late v.if-answered-earliest.false))
-            c.loop-place.invariant
-        | else-not-taken-place-via-else-not-taken-place v ↦ ends_skip calls taken c.args.moment n earliest c.loop-place.first
-            (λ o is_left. absurd (both_ways (get_or taken n false) is_left.free v.if-not-taken-place.false)) c.loop-place.invariant
-      ])
+      | else-answered-earliest w ↦ rw (w.first-is, w.earliest-is)
+          (ends_skip calls taken c.args.moment n earliest c.loop-place.first
+          (λ o is_left.
+          let one : a ≡ o = same_Some a o (sym here ∙ is_left.here) in
+          subst (λ (p : Operation). is_before p.response earliest ≡ false) one
+          (c.answer_before-answered.ensures.late w.if-answered-earliest.false))
+          c.loop-place.invariant)
     ]
 
 pub returns : goal.returns

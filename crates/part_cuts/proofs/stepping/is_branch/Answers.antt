@@ -1,6 +1,4 @@
-use Rattle.std.proofs.Common.{length, refl}
-use Rattle.std.proofs.lemmas.Bool.{both_ways}
-use Rattle.std.proofs.lemmas.Option.{slice_get_read}
+use Rattle.part_cuts.proofs.Common.{length, refl, both_ways, slice_get_read}
 use Rattle.part_cuts.proofs.EndLemmas.{branch_at, branch_key_at}
 use Rattle.part_cuts.proofs.stepping.is_branch.Goals as goal
 

@@ -1,5 +1,4 @@
-use Rattle.std.proofs.Common.{length, refl}
-use Rattle.std.proofs.lemmas.Option.{slice_get_read}
+use Rattle.part_cuts.proofs.Common.{length, refl, slice_get_read}
 use Rattle.part_cuts.proofs.EndLemmas.{read_at}
 use Rattle.part_cuts.proofs.stepping.next_read.Goals as goal
 

@@ -1,6 +1,4 @@
-use Rattle.std.proofs.Common.{take}
-use Rattle.std.specs.Prelude.{MatchOption}
-use Rattle.part_pasts.specs.Moments.{AreBegunAfter, HaveNoRead}
+use Rattle.part_pasts.proofs.Common.{take, MatchOption, AreBegunAfter, HaveNoRead}
 use Rattle.part_pasts.proofs.moments.first_read.Given as goal
 
 -- when the first of the reads so far began

@@ -1,7 +1,4 @@
-use Rattle.std.proofs.Common.{List, subst}
-use Rattle.std.specs.Prelude.{IfSome}
-use Rattle.part_pasts.specs.Moments.{AreBegunAfter}
-use Rattle.part_pasts.specs.declared.ranges.Range.{Range}
+use Rattle.part_pasts.proofs.Common.{List, subst, IfSome, AreBegunAfter, Range}
 use Rattle.part_pasts.proofs.MomentLemmas.{begun_earlier, begun_of_none, any_moment}
 use Rattle.part_pasts.proofs.moments.moment_for.Goals as goal
 

@@ -1,7 +1,5 @@
-use Rattle.std.proofs.Common.{◌≡◌, ◌∙◌, ◌++◌, ◌∷◌, [], List, append_assoc, append-nil, sym, ap, arith}
-use Rattle.std.specs.Vec.Iter.{into_iter_items}
-use Rattle.std.proofs.lemmas.List.{nil_from_length}
-use Rattle.part_cuts.specs.declared.past.Past.{Past}
+use Rattle.part_pasts.proofs.Common.{◌≡◌, ◌∙◌, ◌++◌, ◌∷◌, [], List, append-nil, sym, ap, arith, into_iter_items, nil_from_length, Past}
+use Rattle.std.proofs.Common.{append_assoc}
 use Rattle.part_pasts.proofs.pasts.add_pasts.Goals as goal
 
 pub loop-other-init : goal.loop-other-init

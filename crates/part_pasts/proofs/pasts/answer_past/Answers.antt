@@ -1,18 +1,14 @@
-use Rattle.std.proofs.Common.{◌≡◌, ◌∙◌, ◌==◌, true, false, not, List, refl, sym, ap, inl, inr, subst, ⊎_elim, rules}
-use Rattle.std.specs.Prelude.{◌≢◌, Some, slice_get, slice_set, filter, All, Contains}
-use Rattle.std.specs.List.{remove}
+use Rattle.part_pasts.proofs.Common.{◌≡◌, ◌∙◌, ◌==◌, true, false, not, List, refl, sym, ap, inl, inr, subst, ⊎_elim, rules, ◌≢◌, slice_get, slice_set}
+use Rattle.part_pasts.proofs.Common.{filter, All, Contains, remove, All-contains, slice_get_within, some_at, Operation, is_refused, Found}
+use Rattle.part_pasts.proofs.Common.{AreLeftAfter}
+use Rattle.std.specs.Prelude.{Some}
 use Rattle.std.proofs.lemmas.Fn.{filter_same}
-use Rattle.std.proofs.lemmas.List.Elements.{All-contains}
-use Rattle.std.proofs.lemmas.Option.{slice_get_within}
-use Rattle.list_laws.proofs.NumberLemmas.{some_at}
-use Rattle.events.specs.declared.operation.Operation.{Operation}
-use Rattle.key_effects.specs.KeyedCalls.{is_refused}
-use Rattle.part_cuts.specs.declared.past.Found.{Found}
-use Rattle.part_pasts.proofs.AnswerLemmas.{left_with_answer, left_no_more, has_found, found_as_answered, found_otherwise, same_after, set_parts, remove_parts, changes_answered, not_refused, refused_or_not}
-use Rattle.part_pasts.specs.Pasts.{AreLeftAfter}
+use Rattle.part_pasts.proofs.AnswerLemmas.{left_with_answer, left_no_more, has_found, found_as_answered, found_otherwise, same_after, set_parts}
+use Rattle.part_pasts.proofs.AnswerLemmas.{remove_parts, changes_answered, not_refused, refused_or_not}
 use Rattle.part_pasts.proofs.LeftLemmas.{left_of_one, left_removed, left_same, left_set}
+use Rattle.part_pasts.proofs.pasts.answer_past.Goals.{in-Some+then-was_refused, in-Some+else-was_refused+in_ok-calls-in-Some}
+use Rattle.part_pasts.proofs.pasts.answer_past.Goals.{in-None+in-Some-found_of+else-not-agrees}
 use Rattle.part_pasts.proofs.pasts.answer_past.Goals as goal
-use Rattle.part_pasts.proofs.pasts.answer_past.Goals.{in-Some+then-was_refused, in-Some+else-was_refused+in_ok-calls-in-Some, in-None+in-Some-found_of+else-not-agrees}
 
 pub returns-in_default-clause-after : goal.returns-in_default-clause-after
 returns-in_default-clause-after c = λ o response answer changes known.

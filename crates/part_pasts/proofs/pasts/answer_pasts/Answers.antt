@@ -1,12 +1,7 @@
-use Rattle.std.proofs.Common.{◌≡◌, ◌∙◌, [], List, map, Option, None, Some, sym, ap, subst, arith}
-use Rattle.std.specs.Prelude.{All}
-use Rattle.std.specs.Vec.Iter.{into_iter_items}
-use Rattle.std.proofs.lemmas.List.{nil_from_length}
-use Rattle.kept_parts.specs.Events.{IsAfterAnswer}
-use Rattle.part_cuts.specs.PartCuts.{kept_of}
-use Rattle.part_cuts.specs.declared.past.Past.{Past}
-use Rattle.part_pasts.specs.Pasts.{AreLeftAfter, kept_if}
-use Rattle.part_pasts.proofs.AnsweringLemmas.{AreAnswering, answering_begins, answering_goes_on, answering_ends, left_ends, map_push, map_same, next_rises}
+use Rattle.part_pasts.proofs.Common.{◌≡◌, ◌∙◌, [], List, map, Option, None, Some, sym, ap, subst, arith, All, into_iter_items, nil_from_length}
+use Rattle.part_pasts.proofs.Common.{IsAfterAnswer, kept_of, Past, AreLeftAfter, kept_if}
+use Rattle.part_pasts.proofs.AnsweringLemmas.{AreAnswering, answering_begins, answering_goes_on, answering_ends, left_ends, map_push, map_same}
+use Rattle.part_pasts.proofs.AnsweringLemmas.{next_rises}
 use Rattle.part_pasts.proofs.pasts.answer_pasts.Goals as goal
 
 pub loop-past-init : goal.loop-past-init

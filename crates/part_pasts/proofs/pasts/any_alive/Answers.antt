@@ -1,14 +1,6 @@
-use Rattle.std.proofs.Common.{◌≡◌, ◌∙◌, ◌∷◌, ◌++◌, List, map, refl, sym, ap, subst, arith}
-use Rattle.std.specs.Prelude.{All, Contains, IfOk}
-use Rattle.std.proofs.lemmas.List.Elements.{All-contains, All-contains_itself, All-weaker}
-use Rattle.std.proofs.lemmas.Result.{IfOk-weaker}
-use Rattle.events.specs.declared.operation.Operation.{Operation}
-use Rattle.map_object.specs.MapObject.{Contents}
-use Rattle.kept_orders.specs.Answers.{IsAnswer}
-use Rattle.kept_pasts.specs.Pasts.{KeptPast}
-use Rattle.part_cuts.specs.PartCuts.{kept_of}
-use Rattle.part_cuts.specs.declared.past.Found.{Found}
-use Rattle.part_pasts.specs.Pasts.{AreGoneOn, lefts, lefts_of, lefts_of_kept}
+use Rattle.part_pasts.proofs.Common.{◌≡◌, ◌∙◌, ◌∷◌, ◌++◌, List, map, refl, sym, ap, subst, arith, All, Contains, IfOk, All-contains}
+use Rattle.part_pasts.proofs.Common.{All-contains_itself, All-weaker, IfOk-weaker, Operation, Contents, IsAnswer, KeptPast, kept_of, Found, AreGoneOn}
+use Rattle.part_pasts.proofs.Common.{lefts, lefts_of, lefts_of_kept}
 use Rattle.part_pasts.proofs.AnsweringLemmas.{lefts_next, searched, split_first}
 use Rattle.part_pasts.proofs.pasts.any_alive.Goals as goal
 

@@ -1,17 +1,9 @@
-use Rattle.std.proofs.Common.{◌≡◌, ◌<◌, ◌∙◌, ◌∷◌, ◌++◌, [], List, map, refl, sym, ap, subst, eqb-true, arith}
-use Rattle.std.specs.Prelude.{All, AllPairs, Contains}
-use Rattle.std.proofs.lemmas.List.Elements.{All-contains_itself}
-use Rattle.std.proofs.lemmas.List.{nil_from_length}
-use Rattle.events.specs.declared.operation.Operation.{Operation}
-use Rattle.events.specs.Precedence.{NonePrecedesItself}
-use Rattle.map_object.specs.MapObject.{Contents}
-use Rattle.kept_orders.specs.Answers.{IsAnswer}
-use Rattle.kept_orders.specs.declared.kept.Kept.{Kept}
-use Rattle.part_cuts.specs.PartCuts.{kept_of}
-use Rattle.part_cuts.specs.declared.past.Found.{Found}
-use Rattle.part_cuts.specs.declared.past.Past.{Past}
-use Rattle.part_pasts.specs.Pasts.{lefts, lefts_of_kept}
-use Rattle.part_pasts.proofs.AnsweringLemmas.{HaveTried, SearchesOn, search_begins, found_alive, found_doubtful, found_dead, tried_more, search_goes_on, lefts_next, searched, split_first, first_shaped, rest_shaped}
+use Rattle.part_pasts.proofs.Common.{◌≡◌, ◌<◌, ◌∙◌, ◌∷◌, ◌++◌, [], List, map, refl, sym, ap, subst, arith, All, AllPairs, Contains}
+use Rattle.part_pasts.proofs.Common.{All-contains_itself, nil_from_length, Operation, NonePrecedesItself, Contents, IsAnswer, Kept, kept_of, Found}
+use Rattle.part_pasts.proofs.Common.{Past, lefts, lefts_of_kept}
+use Rattle.std.proofs.Common.{eqb-true}
+use Rattle.part_pasts.proofs.AnsweringLemmas.{HaveTried, SearchesOn, search_begins, found_alive, found_doubtful, found_dead, tried_more}
+use Rattle.part_pasts.proofs.AnsweringLemmas.{search_goes_on, lefts_next, searched, split_first, first_shaped, rest_shaped}
 use Rattle.part_pasts.proofs.pasts.first_alive.Goals as goal
 
 pub loop-kept-init : goal.loop-kept-init

@@ -1,10 +1,5 @@
-use Rattle.std.proofs.Common.{List, ◌∷◌, ◌++◌, map, length}
-use Rattle.std.specs.Prelude.{All, Contains}
-use Rattle.events.specs.declared.operation.Operation.{Operation}
-use Rattle.map_object.specs.MapObject.{Contents}
-use Rattle.kept_orders.specs.Answers.{IsAnswer}
-use Rattle.part_cuts.specs.PartCuts.{AreShaped, found_at, kept_of}
-use Rattle.part_pasts.specs.Pasts.{lefts, lefts_of_kept}
+use Rattle.part_pasts.proofs.Common.{List, ◌∷◌, ◌++◌, map, length, All, Contains, Operation, Contents, IsAnswer, AreShaped, found_at, kept_of, lefts}
+use Rattle.part_pasts.proofs.Common.{lefts_of_kept}
 use Rattle.part_pasts.proofs.AnsweringLemmas.{SearchesOn}
 use Rattle.part_pasts.proofs.pasts.first_alive.Given as goal
 

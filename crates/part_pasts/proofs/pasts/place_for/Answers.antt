@@ -1,5 +1,4 @@
-use Rattle.std.proofs.Common.{rules, nat_lt}
-use Rattle.std.proofs.lemmas.List.Sorted.{IsPartitionPoint-from_clause, IsPartitionedBy-ltb}
+use Rattle.part_pasts.proofs.Common.{rules, nat_lt, IsPartitionPoint-from_clause, IsPartitionedBy-ltb}
 use Rattle.part_pasts.proofs.PastLemmas.{rising_weakly, less, no_less}
 use Rattle.part_pasts.proofs.pasts.place_for.Goals as goal
 

@@ -1,10 +1,7 @@
-use Rattle.std.proofs.Common.{◌<◌, length, get_or, sym, subst, arith}
-use Rattle.std.specs.Prelude.{◌≢◌}
-use Rattle.std.proofs.lemmas.List.{get_or_read}
-use Rattle.events.specs.declared.operation.Operation.{Operation}
+use Rattle.part_pasts.proofs.Common.{◌<◌, length, get_or, sym, subst, arith, ◌≢◌, get_or_read, Operation}
 use Rattle.part_pasts.proofs.PastLemmas.{none_at}
-use Rattle.part_pasts.proofs.pasts.place_of.Goals as goal
 use Rattle.part_pasts.proofs.pasts.place_of.Goals.{else-place-calls-via-then-place-calls+else-calls-place, else-place-calls-via-else-place-calls}
+use Rattle.part_pasts.proofs.pasts.place_of.Goals as goal
 
 pub returns : goal.returns
 returns c =

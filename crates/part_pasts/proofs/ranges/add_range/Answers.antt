@@ -1,11 +1,8 @@
-use Rattle.std.proofs.Common.{◌≡◌, ◌-◌, ◌∷◌, ◌++◌, [], List, refl, ap, ◌∙◌, arith}
-use Rattle.std.proofs.Math.ListN.{set}
-use Rattle.std.proofs.lemmas.List.{set-get_or}
-use Rattle.part_pasts.specs.Ranges.{covered}
-use Rattle.part_pasts.specs.declared.ranges.Range.{Range}
+use Rattle.part_pasts.proofs.Common.{◌≡◌, ◌-◌, ◌∷◌, ◌++◌, [], List, refl, ap, ◌∙◌, arith, set, set-get_or, covered, Range}
 use Rattle.part_pasts.proofs.RangeLemmas.{covered_wider}
+use Rattle.part_pasts.proofs.ranges.add_range.Goals.{in-Some+else-last-range, else-last-range-via-then-last-range+else-range-last}
+use Rattle.part_pasts.proofs.ranges.add_range.Goals.{else-last-range-via-else-last-range, in_default}
 use Rattle.part_pasts.proofs.ranges.add_range.Goals as goal
-use Rattle.part_pasts.proofs.ranges.add_range.Goals.{in-Some+else-last-range, else-last-range-via-then-last-range+else-range-last, else-last-range-via-else-last-range, in_default}
 
 pub returns-then-range-last : goal.returns-then-range-last
 returns-then-range-last c =

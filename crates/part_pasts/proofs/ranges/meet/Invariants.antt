@@ -1,5 +1,4 @@
-use Rattle.std.proofs.Common.{◌≡◌, ℕ, ◌≤◌, false, take}
-use Rattle.part_pasts.specs.Ranges.{covered}
+use Rattle.part_pasts.proofs.Common.{◌≡◌, ℕ, ◌≤◌, false, take, covered}
 use Rattle.part_pasts.proofs.ranges.meet.Given as goal
 
 -- no range so far has a key of them

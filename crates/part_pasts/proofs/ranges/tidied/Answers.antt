@@ -1,9 +1,6 @@
-use Rattle.std.proofs.Common.{List, map-id, sym, ap, ◌∙◌}
+use Rattle.part_pasts.proofs.Common.{List, map-id, sym, ap, ◌∙◌, list_any-IsPermutation, covered, Range}
 use Rattle.std.proofs.lemmas.Iterator.Adapters.{YieldsList-from_vec}
 use Rattle.std.proofs.lemmas.Iterator.Consumers.{YieldsList-end}
-use Rattle.std.proofs.lemmas.List.Sorted.{list_any-IsPermutation}
-use Rattle.part_pasts.specs.Ranges.{covered}
-use Rattle.part_pasts.specs.declared.ranges.Range.{Range}
 use Rattle.part_pasts.proofs.RangeLemmas.{is_in}
 use Rattle.part_pasts.proofs.ranges.tidied.Goals as goal
 

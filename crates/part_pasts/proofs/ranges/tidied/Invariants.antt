@@ -1,5 +1,4 @@
-use Rattle.std.proofs.Common.{◌≡◌, ℕ}
-use Rattle.part_pasts.specs.Ranges.{covered}
+use Rattle.part_pasts.proofs.Common.{◌≡◌, ℕ, covered}
 use Rattle.part_pasts.proofs.ranges.tidied.Given as goal
 
 -- the keys of the ranges so far

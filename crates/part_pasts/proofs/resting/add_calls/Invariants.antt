@@ -1,5 +1,4 @@
-use Rattle.std.proofs.Common.{take}
-use Rattle.part_pasts.specs.Resting.{HasCalls}
+use Rattle.part_pasts.proofs.Common.{take, HasCalls}
 use Rattle.part_pasts.proofs.resting.add_calls.Given as goal
 
 -- the keys of the calls so far

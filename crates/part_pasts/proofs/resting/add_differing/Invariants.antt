@@ -1,7 +1,5 @@
-use Rattle.std.proofs.Common.{◌≡◌, ℕ, take}
+use Rattle.part_pasts.proofs.Common.{◌≡◌, ℕ, take, list_any, covered}
 use Rattle.std.specs.Prelude.{◌||◌}
-use Rattle.std.specs.List.{list_any}
-use Rattle.part_pasts.specs.Ranges.{covered}
 use Rattle.part_pasts.proofs.RestingLemmas.{differs_at}
 use Rattle.part_pasts.proofs.resting.add_differing.Given as goal
 

@@ -1,5 +1,4 @@
-use Rattle.std.proofs.Common.{take}
-use Rattle.part_pasts.specs.Resting.{HasFound}
+use Rattle.part_pasts.proofs.Common.{take, HasFound}
 use Rattle.part_pasts.proofs.resting.add_found.Given as goal
 
 -- the keys of what was found so far

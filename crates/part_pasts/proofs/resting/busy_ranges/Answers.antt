@@ -1,7 +1,4 @@
-use Rattle.std.proofs.Common.{◌≡◌, ℕ}
-use Rattle.std.proofs.lemmas.Result.{IfOk-weaker}
-use Rattle.part_pasts.specs.Ranges.{covered}
-use Rattle.part_pasts.specs.Resting.{AreBusy}
+use Rattle.part_pasts.proofs.Common.{◌≡◌, ℕ, IfOk-weaker, covered, AreBusy}
 use Rattle.part_pasts.proofs.BusyLemmas.{busy_next, busy_end}
 use Rattle.part_pasts.proofs.resting.busy_ranges.Goals as goal
 

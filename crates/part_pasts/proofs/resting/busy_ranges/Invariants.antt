@@ -2,6 +2,6 @@ use Rattle.std.proofs.Common.{take}
 use Rattle.part_pasts.proofs.BusyLemmas.{AreBusySoFar}
 use Rattle.part_pasts.proofs.resting.busy_ranges.Given as goal
 
--- of the pasts so far
+-- the result is right for the pasts so far
 abbrev pub invariant-loop-past : goal.invariant-loop-past
 invariant-loop-past l = AreBusySoFar l.pasts (take l.past-index l.pasts) l.busy.items

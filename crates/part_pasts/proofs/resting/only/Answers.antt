@@ -1,6 +1,4 @@
-use Rattle.std.proofs.Common.{sym, subst}
-use Rattle.map_object.specs.MapObject.{Contents, IsRising}
-use Rattle.part_pasts.specs.Ranges.{covered}
+use Rattle.part_pasts.proofs.Common.{sym, subst, Contents, IsRising, covered}
 use Rattle.part_pasts.proofs.RestingLemmas.{some_rise}
 use Rattle.part_pasts.proofs.resting.only.Goals as goal
 

@@ -1,9 +1,5 @@
-use Rattle.std.proofs.Common.{List, [], ◌∷◌, ◌++◌, sym, ap, ◌∙◌, subst}
+use Rattle.part_pasts.proofs.Common.{List, [], ◌∷◌, ◌++◌, sym, ap, ◌∙◌, subst, pairs_at, Past, covered, AreOnly, IsOnly}
 use Rattle.std.proofs.lemmas.Slice.Zip.{all_zipped_more}
-use Rattle.key_parts.specs.Left.{pairs_at}
-use Rattle.part_cuts.specs.declared.past.Past.{Past}
-use Rattle.part_pasts.specs.Ranges.{covered}
-use Rattle.part_pasts.specs.Resting.{AreOnly, IsOnly}
 use Rattle.part_pasts.proofs.resting.only_pasts.Goals as goal
 
 pub loop-past-preserved : goal.loop-past-preserved

@@ -1,12 +1,8 @@
-use Rattle.std.proofs.Common.{◌≡◌, ◌<◌, ℕ, sym, ap, ◌∙◌, subst, get_or}
-use Rattle.std.specs.Prelude.{AllPairs, IfOk}
-use Rattle.std.specs.Option.{option_copied}
-use Rattle.std.proofs.lemmas.List.Elements.{Contains-get_or}
-use Rattle.map_object.specs.MapObject.{Contents, IsRising}
+use Rattle.part_pasts.proofs.Common.{◌≡◌, ◌<◌, ℕ, sym, ap, ◌∙◌, subst, get_or, AllPairs, IfOk, option_copied, Contains-get_or, Contents, IsRising}
 use Rattle.part_pasts.proofs.TakenLemmas.{each_at, not_none, taken_rise}
 use Rattle.part_pasts.proofs.WithinLemmas.{read_next, read_end}
-use Rattle.part_pasts.proofs.resting.pairs_within.Goals as goal
 use Rattle.part_pasts.proofs.resting.pairs_within.Goals.{in-Some+in_ok-push, in_default}
+use Rattle.part_pasts.proofs.resting.pairs_within.Goals as goal
 
 pub loop-key-preserved : goal.loop-key-preserved
 loop-key-preserved c =

@@ -1,6 +1,4 @@
-use Rattle.std.proofs.Common.{length, refl}
-use Rattle.std.proofs.lemmas.Option.{slice_get_read}
-use Rattle.list_laws.proofs.Lists.{All-at}
+use Rattle.part_pasts.proofs.Common.{length, refl, slice_get_read, All-at}
 use Rattle.part_pasts.proofs.TogetherLemmas.{IsShapedPast, row_more}
 use Rattle.part_pasts.proofs.uniting.add_row.Goals as goal
 

@@ -1,7 +1,6 @@
-use Rattle.std.proofs.Common.{take}
-use Rattle.part_pasts.specs.Uniting.{HasRow}
+use Rattle.part_pasts.proofs.Common.{take, HasRow}
 use Rattle.part_pasts.proofs.uniting.add_row.Given as goal
 
--- of the others so far
+-- the result is right for the others so far
 abbrev pub invariant-loop-other : goal.invariant-loop-other
 invariant-loop-other l = HasRow l.past (take l.other-index l.others) l.fn.all.items l.all.items

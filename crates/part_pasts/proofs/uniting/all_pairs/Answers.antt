@@ -1,6 +1,4 @@
-use Rattle.std.proofs.Common.{length, refl}
-use Rattle.std.proofs.lemmas.Option.{slice_get_read}
-use Rattle.list_laws.proofs.Lists.{All-at}
+use Rattle.part_pasts.proofs.Common.{length, refl, slice_get_read, All-at}
 use Rattle.part_pasts.proofs.TogetherLemmas.{IsShapedPast, rows_more}
 use Rattle.part_pasts.proofs.uniting.all_pairs.Goals as goal
 

@@ -1,10 +1,5 @@
-use Rattle.std.proofs.Common.{◌≡◌, ◌+◌, List, Some, length, refl, sym, ap, ◌∙◌, subst}
-use Rattle.std.specs.Prelude.{slice_get}
-use Rattle.std.specs.List.{insert}
-use Rattle.std.proofs.lemmas.Option.{slice_get_read}
-use Rattle.list_laws.proofs.Lists.{Contains-at}
-use Rattle.events.specs.declared.operation.Operation.{Operation}
-use Rattle.part_pasts.specs.Pasts.{IsPlaceFor}
+use Rattle.part_pasts.proofs.Common.{◌≡◌, ◌+◌, List, Some, length, refl, sym, ap, ◌∙◌, subst, slice_get, insert, slice_get_read, Contains-at}
+use Rattle.part_pasts.proofs.Common.{Operation, IsPlaceFor}
 use Rattle.part_pasts.proofs.MergeLemmas.{AreMerging, merging_more, merging_all}
 use Rattle.part_pasts.proofs.uniting.calls_together.Goals as goal
 

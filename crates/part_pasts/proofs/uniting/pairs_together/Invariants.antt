@@ -2,7 +2,7 @@ use Rattle.map_object.specs.MapObject.{IsRising}
 use Rattle.part_pasts.proofs.MergeLemmas.{AreAdding}
 use Rattle.part_pasts.proofs.uniting.pairs_together.Given as goal
 
--- of the pairs so far
+-- the result is right for the pairs so far
 abbrev pub invariant-loop-pair : goal.invariant-loop-pair
 invariant-loop-pair l = record {
   rises : IsRising l.both;

@@ -1,6 +1,4 @@
-use Rattle.std.proofs.Common.{List, [], ◌∷◌, ◌++◌, ap, ◌∙◌}
-use Rattle.part_cuts.specs.declared.past.Past.{Past}
-use Rattle.part_pasts.specs.declared.ranges.Range.{Range}
+use Rattle.part_pasts.proofs.Common.{List, [], ◌∷◌, ◌++◌, ap, ◌∙◌, Past, Range}
 use Rattle.part_pasts.proofs.TogetherLemmas.{taken_from}
 use Rattle.part_pasts.proofs.uniting.part_at_rest.Goals as goal
 

@@ -1,11 +1,7 @@
-use Rattle.std.proofs.Common.{◌<◌, ℕ, ap, sym, ◌∙◌, subst}
-use Rattle.std.specs.Option.{IsSome}
-use Rattle.std.specs.Prelude.{AllPairs}
-use Rattle.map_object.specs.MapObject.{IsRising}
-use Rattle.part_pasts.specs.Uniting.{ArePairsOf}
+use Rattle.part_pasts.proofs.Common.{◌<◌, ℕ, ap, sym, ◌∙◌, subst, IsSome, AllPairs, IsRising, ArePairsOf}
 use Rattle.part_pasts.proofs.TakenLemmas.{taken_next, has_value, not_none, each_at, of_taken, taken_rise, taken_end}
-use Rattle.part_pasts.proofs.uniting.take_range.Goals as goal
 use Rattle.part_pasts.proofs.uniting.take_range.Goals.{in-Some+in_ok-push, in_default}
+use Rattle.part_pasts.proofs.uniting.take_range.Goals as goal
 
 pub loop-key-preserved : goal.loop-key-preserved
 loop-key-preserved c =

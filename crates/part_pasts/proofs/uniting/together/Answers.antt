@@ -1,8 +1,4 @@
-use Rattle.std.proofs.Common.{◌≤◌, ◌++◌, List, length, ap, ◌∙◌, subst}
-use Rattle.std.specs.Prelude.{◌↔◌, ◌⊎◌, Contains}
-use Rattle.std.proofs.lemmas.List.{take_all}
-use Rattle.events.specs.declared.operation.Operation.{Operation}
-use Rattle.part_cuts.specs.declared.past.Found.{Found}
+use Rattle.part_pasts.proofs.Common.{◌≤◌, ◌++◌, List, length, ap, ◌∙◌, subst, ◌↔◌, ◌⊎◌, Contains, take_all, Operation, Found}
 use Rattle.part_pasts.proofs.uniting.together.Goals as goal
 
 pub returns : goal.returns

@@ -1,13 +1,5 @@
-use Rattle.std.proofs.Common.{◌<◌, List, map, length, refl, sym, ap, ◌∙◌, subst, arith}
-use Rattle.std.specs.Vec.Iter.{into_iter_items}
-use Rattle.std.proofs.lemmas.List.{nil_from_length}
-use Rattle.std.proofs.lemmas.List.Elements.{All-head}
-use Rattle.part_cuts.specs.PartCuts.{AreShaped, kept_of}
-use Rattle.part_cuts.specs.declared.past.Past.{Past}
-use Rattle.part_pasts.specs.Ranges.{covered}
-use Rattle.part_pasts.specs.Shapes.{IsPartShaped, AreBesidePasts}
-use Rattle.part_pasts.specs.Uniting.{Become}
-use Rattle.part_pasts.specs.declared.part.Part.{Part}
+use Rattle.part_pasts.proofs.Common.{◌<◌, List, map, length, refl, sym, ap, ◌∙◌, subst, arith, into_iter_items, nil_from_length, All-head, AreShaped}
+use Rattle.part_pasts.proofs.Common.{kept_of, Past, covered, IsPartShaped, AreBesidePasts, Become, Part}
 use Rattle.part_pasts.proofs.UnionLemmas.{united_become}
 use Rattle.part_pasts.proofs.TogetherLemmas.{AreUniting, uniting_start, uniting_more, next_some}
 use Rattle.part_pasts.proofs.uniting.unite.Goals as goal

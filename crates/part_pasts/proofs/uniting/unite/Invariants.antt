@@ -1,11 +1,8 @@
-use Rattle.std.proofs.Common.{◌≡◌, length}
-use Rattle.std.specs.Vec.Iter.{into_iter_items, into_iter_len}
-use Rattle.part_pasts.specs.Uniting.{IsTakenFrom}
-use Rattle.part_pasts.specs.declared.uniting.United.{United}
+use Rattle.part_pasts.proofs.Common.{◌≡◌, length, into_iter_items, into_iter_len, IsTakenFrom, United}
 use Rattle.part_pasts.proofs.TogetherLemmas.{AreUniting}
 use Rattle.part_pasts.proofs.uniting.unite.Given as goal
 
--- of the parts so far
+-- the result is right for the parts so far
 abbrev pub invariant-loop-part : goal.invariant-loop-part
 invariant-loop-part l =
     ((first : United) × IsTakenFrom l.low l.high l.fn.rest l.rest first

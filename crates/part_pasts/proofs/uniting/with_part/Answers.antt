@@ -1,6 +1,4 @@
-use Rattle.std.proofs.Common.{◌≤◌, List, length, sym, ap, ◌∙◌, subst}
-use Rattle.part_cuts.specs.PartCuts.{AreShaped}
-use Rattle.part_pasts.specs.declared.ranges.Range.{Range}
+use Rattle.part_pasts.proofs.Common.{◌≤◌, List, length, sym, ap, ◌∙◌, subst, AreShaped, Range}
 use Rattle.part_pasts.proofs.TogetherLemmas.{pasts_apart_at, own_shaped_at, together_with}
 use Rattle.part_pasts.proofs.uniting.with_part.Goals as goal
 

@@ -1,29 +1,14 @@
-use Rattle.std.proofs.Common.{◌≡◌, ◌∙◌, ◌+◌, ◌<◌, ℕ, suc, true, false, List, ◌∷◌, ◌++◌, map, length, get_or, Option, refl, sym, ap, subst, arith}
-use Rattle.std.specs.Prelude.{slice_get, All, IfSome, IsSomeAnd}
-use Rattle.std.proofs.lemmas.List.Elements.{All-weaker}
-use Rattle.events.specs.declared.operation.Operation.{Operation}
-use Rattle.events.specs.Keys.{low_key, may_change}
-use Rattle.kept_pasts.specs.Pasts.{KeptPast}
-use Rattle.kept_parts.specs.KeptParts.{AreKept}
-use Rattle.kept_parts.specs.Steps.{IsKnownIn}
-use Rattle.part_cuts.specs.PartCuts.{kept_of}
-use Rattle.part_pasts.specs.Pasts.{lefts_of}
-use Rattle.part_pasts.specs.Ranges.{covered}
-use Rattle.part_pasts.specs.Views.{kept_part, past_of}
-use Rattle.part_pasts.specs.declared.part.Part.{Part}
-use Rattle.part_pasts.specs.declared.pasts.GoneOn.{GoneOn}
-use Rattle.part_pasts.specs.declared.ranges.Range.{Range}
-use Rattle.part_pasts.specs.declared.moments.OpenRead.{OpenRead}
-use Rattle.parts.specs.Answering.{HaveGoneOnWith, IsLeftOfOne}
-use Rattle.parts.specs.Going.{MayBeLeft, kept_with}
-use Rattle.parts.specs.Keeping.{AreReadsOf}
-use Rattle.parts.specs.Shapes.{IsPastBefore, IsShaped}
-use Rattle.parts.specs.Views.{PartsView}
-use Rattle.parts.proofs.StateAnswerLemmas.{answered_there, changes_too, key_of, key_there, known_there, may_be_left, none_waits_at_rest, part_is_shaped, place_within, reads_stay_answered, response_is, told_at, view_is, without, without_is_shaped}
+use Rattle.parts.proofs.Common.{◌≡◌, ◌∙◌, ◌+◌, ◌<◌, ℕ, suc, true, false, List, ◌∷◌, ◌++◌, map, length, get_or, Option, refl, sym, ap, subst, arith}
+use Rattle.parts.proofs.Common.{slice_get, All, IfOk, IfSome, IsSomeAnd, All-weaker, Operation, low_key, may_change, KeptPast, AreAfterAnswer}
+use Rattle.parts.proofs.Common.{AreKept, IsKnownIn, kept_of, lefts_of, covered, kept_part, past_of, Part, GoneOn, Range, OpenRead, HaveGoneOnWith}
+use Rattle.parts.proofs.Common.{IsLeftOfOne, AreEnded, MayBeLeft, kept_with, AreReadsOf, IsPastBefore, IsShaped, PartsView}
+use Rattle.parts.proofs.StateAnswerLemmas.{answered_there, changes_too, ended_there, key_of, key_there, known_there, may_be_left, none_waits_at_rest}
+use Rattle.parts.proofs.StateAnswerLemmas.{part_is_shaped, place_within, reads_stay_answered, response_is, told_at, view_is, without}
+use Rattle.parts.proofs.StateAnswerLemmas.{without_is_shaped}
 use Rattle.parts.proofs.answering.answer_change.Goals as goal
 
-pub returns-in_default : goal.returns-in_default
-returns-in_default c = λ start front back o response answer state.
+pub returns-in_default-clause-answered : goal.returns-in_default-clause-answered
+returns-in_default-clause-answered c = λ start front back o response answer state.
     let s = c.args.state in
     let parts : c.deref.result.now ≡ s.parts = c.deref.ensures.value ∙ c.apart-rest.ensures.parts in
     let key : c.low_key.result ≡ low_key o.call = c.low_key.ensures ∙ key_of o c.args.operation response answer in
@@ -57,8 +42,8 @@ answer_in-requires-clause-before c = λ response is.
     (sym (told_at c.args.operation s.now response c.requires.reported is))
     (part_is_shaped s place part within here c.apart-rest.ensures.shaped).pasts)
 
-pub returns-in_default-2 : goal.returns-in_default-2
-returns-in_default-2 c = λ start front back o response answer state.
+pub returns-in_default-2-clause-answered : goal.returns-in_default-2-clause-answered
+returns-in_default-2-clause-answered c = λ start front back o response answer state.
     let s = c.args.state in
     let place = c.in-Some.place in
     let part = c.remove.result in
@@ -120,8 +105,8 @@ go_on-requires c =
     (λ l h. may_be_left s place part within here operation reported.response reported.is reported.res c.apart-rest.ensures.shaped l
     (subst (λ (ps : List KeptPast). IsLeftOfOne operation ps l) pasts h)) (lefts_of gone) left)
 
-pub returns : goal.returns
-returns c = λ start front back o response answer state.
+pub returns-clause-answered : goal.returns-clause-answered
+returns-clause-answered c = λ start front back o response answer state.
     let s = c.args.state in
     let place = c.in-Some.place in
     let part = c.remove.result in
@@ -171,4 +156,34 @@ returns c = λ start front back o response answer state.
     (view_is s place c.apart-rest.result.0 c.apart-rest.result.1.items c.remove.new.self.items c.apart-rest.result.2.items c.apart-rest.result.3
     c.apart-rest.ensures.rest c.apart-rest.ensures.parts c.remove.ensures.items c.apart-rest.ensures.reads c.apart-rest.ensures.now)
     there) in
-    c.go_on.ensures start c.args.budget s calls with_part.nexts now with_part.gone reads kept
+    c.go_on.ensures.answered start c.args.budget s calls with_part.nexts now with_part.gone reads kept
+
+pub returns-clause-ended : goal.returns-clause-ended
+returns-clause-ended c = λ start front back o response answer state.
+    let s = c.args.state in
+    let place = c.in-Some.place in
+    let part = c.remove.result in
+    let operation = c.args.operation in
+    let parts : c.deref.result.now ≡ s.parts = c.deref.ensures.value ∙ c.apart-rest.ensures.parts in
+    let key : c.low_key.result ≡ low_key o.call = c.low_key.ensures ∙ key_of o operation response answer in
+    let at : IsSomeAnd (slice_get s.parts place) (λ (p : Part). covered p.ranges.items (low_key o.call) ≡ true) =
+    subst (λ (k : ℕ). IsSomeAnd (slice_get s.parts place) (λ (p : Part). covered p.ranges.items k ≡ true)) key
+    (subst (λ (ps : List Part). IsSomeAnd (slice_get ps place) (λ (p : Part). covered p.ranges.items c.low_key.result ≡ true)) parts
+    c.in-Some.ensures) in
+    let within : place < length s.parts = place_within s.parts place (low_key o.call) at in
+    let here : part ≡ get_or s.parts place part =
+    subst (λ (ps : List Part). part ≡ get_or ps place part) c.apart-rest.ensures.parts c.remove.ensures.value in
+    let has_key : covered part.ranges.items (low_key o.call) ≡ true = key_there s.parts place (low_key o.call) part here at in
+    let given = past_of c.apart-ranges.result.1 c.apart-ranges.result.2.items ∷ map kept_of c.apart-ranges.result.3.items in
+    let pasts : given ≡ (kept_part part).pasts = rw c.apart-ranges.ensures refl in
+    let ranges : c.apart-ranges.result.0.items ≡ part.ranges.items = rw c.apart-ranges.ensures refl in
+    let changes : may_change o.call ≡ true = changes_too o operation response answer c.requires.changes in
+    let known : All (IsKnownIn o) (kept_part part).pasts =
+    known_there s place part within here start front back o response answer.pending changes has_key state.kept in
+    let gone : HaveGoneOnWith c.args.budget o response given c.in-Some-2.gone =
+    subst (λ (g : Option GoneOn). IsSomeAnd g (HaveGoneOnWith c.args.budget o response given)) c.in-Some-2.is
+    (c.in_ok-gone.ensures.gone o response answer changes (subst (λ (ps : List KeptPast). All (IsKnownIn o) ps) (sym pasts) known)) in
+    ended_there s place part within here start front back o response answer.pending changes has_key state.kept gone.nexts
+    (subst (λ (ps : List KeptPast). AreAfterAnswer o response ps gone.nexts) pasts gone.after) c.go_on.result
+    (subst (λ (rs : List Range). IfOk c.go_on.result (AreEnded rs gone.nexts)) ranges
+    (c.go_on.ensures.ended c.args.budget gone.nexts gone.gone))

@@ -1,18 +1,12 @@
-use Rattle.std.proofs.Common.{◌≡◌, ◌<◌, ◌∙◌, ◌==◌, true, false, not, List, length, map, refl, sym, ap, inl, inr, subst, ⊎_elim, rules, arith}
-use Rattle.std.specs.Prelude.{◌≢◌, Some, is_some, slice_get, filter, All, Contains}
-use Rattle.std.specs.List.{remove}
+use Rattle.parts.proofs.Common.{◌≡◌, ◌<◌, ◌∙◌, ◌==◌, true, false, not, List, length, map, refl, sym, ap, inl, inr, subst, ⊎_elim, rules, arith, ◌≢◌}
+use Rattle.parts.proofs.Common.{is_some, slice_get, filter, All, Contains, remove, All-contains, slice_get_within, slice_get_read, same_Some, some_at}
+use Rattle.parts.proofs.Common.{Operation, is_refused, found_at, Found, left_with_answer, left_no_more, is_the_call, has_found, found_as_answered}
+use Rattle.parts.proofs.Common.{found_otherwise, remove_parts, changes_answered, not_refused, refused_or_not, left_same, left_removed, left_kept}
+use Rattle.parts.proofs.Common.{left_answered}
+use Rattle.std.specs.Prelude.{Some}
 use Rattle.std.proofs.lemmas.Fn.{filter_same}
-use Rattle.std.proofs.lemmas.List.Elements.{All-contains}
-use Rattle.std.proofs.lemmas.Option.{slice_get_within, slice_get_read, same_Some}
-use Rattle.list_laws.proofs.NumberLemmas.{some_at}
-use Rattle.events.specs.declared.operation.Operation.{Operation}
-use Rattle.key_effects.specs.KeyedCalls.{is_refused}
-use Rattle.kept_orders.specs.Views as views
-use Rattle.part_cuts.specs.PartCuts.{found_at}
-use Rattle.part_cuts.specs.declared.past.Found.{Found}
-use Rattle.part_pasts.proofs.AnswerLemmas.{left_with_answer, left_no_more, is_the_call, has_found, found_as_answered, found_otherwise, remove_parts, changes_answered, not_refused, refused_or_not}
-use Rattle.part_pasts.proofs.LeftLemmas.{left_same, left_removed, left_kept, left_answered}
 use Rattle.parts.proofs.FirstLemmas.{answered_parts, the_call_waits, may_be_answered}
+use Rattle.kept_orders.specs.Views as views
 use Rattle.parts.proofs.answering.answer_first.Goals as goal
 
 pub returns-in_default-found_of-clause-first : goal.returns-in_default-found_of-clause-first

@@ -1,11 +1,4 @@
-use Rattle.std.proofs.Common.{map, subst}
-use Rattle.std.proofs.lemmas.List.Elements.{All-head, All-tail}
-use Rattle.kept_parts.specs.Steps.{IsKnownIn}
-use Rattle.part_cuts.specs.PartCuts.{kept_of}
-use Rattle.part_pasts.specs.Pasts.{lefts_of}
-use Rattle.part_pasts.specs.Views.{past_of}
-use Rattle.parts.specs.Answering.{IsFirst, IsLeftFirst}
-use Rattle.parts.specs.Shapes.{IsPastBefore}
+use Rattle.parts.proofs.Common.{map, subst, All-head, All-tail, IsKnownIn, kept_of, lefts_of, past_of, IsFirst, IsLeftFirst, IsPastBefore}
 use Rattle.parts.specs.declared.answering.First.{First}
 use Rattle.parts.proofs.ChangedLemmas.{others_shaped, others_stay_shaped, left_of_first, left_of_others, gone_with_first, gone_with_others}
 use Rattle.parts.proofs.answering.answer_in.Goals as goal

@@ -1,8 +1,4 @@
-use Rattle.std.proofs.Common.{◌≡◌, ◌<◌, ◌∙◌, List, sym, ap, subst}
-use Rattle.std.specs.Prelude.{AllPairs}
-use Rattle.std.specs.List.{remove}
-use Rattle.events.specs.declared.operation.Operation.{Operation}
-use Rattle.part_pasts.proofs.AnswerLemmas.{rising_without}
+use Rattle.parts.proofs.Common.{◌≡◌, ◌<◌, ◌∙◌, List, sym, ap, subst, AllPairs, remove, Operation, rising_without}
 use Rattle.parts.proofs.answering.without.Goals as goal
 
 pub find-requires-clause-rising : goal.find-requires-clause-rising

@@ -1,11 +1,5 @@
-use Rattle.std.proofs.Common.{◌≡◌, ℕ, ◌+◌, ◌<◌, suc, ◌++◌, ◌∷◌, [], set, refl, sym, subst, arith}
-use Rattle.std.specs.Prelude.{All}
-use Rattle.events.specs.declared.operation.Operation.{Operation}
-use Rattle.events.specs.Keys.{low_key}
-use Rattle.parts.specs.Views.{PartsView}
-use Rattle.parts.specs.Shapes.{IsShaped}
-use Rattle.parts.specs.Keeping.{begun, IsStateOf}
-use Rattle.parts.specs.Steps.{IsBegunIn, IsWithPartOf}
+use Rattle.parts.proofs.Common.{◌≡◌, ℕ, ◌+◌, ◌<◌, suc, ◌++◌, ◌∷◌, [], set, refl, sym, subst, arith, All, Operation, low_key, PartsView, IsShaped}
+use Rattle.parts.proofs.Common.{begun, IsStateOf, IsBegunIn, IsWithPartOf}
 use Rattle.parts.proofs.BegunLemmas.{same_view}
 use Rattle.parts.proofs.ChangeLemmas.{calls_before, change_is_shaped, change_is_state, with_same}
 use Rattle.parts.proofs.beginning.begin_change.Goals as goal

@@ -1,7 +1,4 @@
-use Rattle.std.proofs.Common.{◌≡◌, ℕ, ◌<◌, ◌≤◌, length, get_or}
-use Rattle.kept_parts.specs.Events.{with_begun}
-use Rattle.part_cuts.specs.PartCuts.{kept_of}
-use Rattle.part_cuts.specs.declared.past.Past.{Past}
+use Rattle.parts.proofs.Common.{◌≡◌, ℕ, ◌<◌, ◌≤◌, length, get_or, with_begun, kept_of, Past}
 use Rattle.parts.proofs.beginning.begin_in_each.Given as goal
 
 -- the call has begun in the pasts so far, and the others are as they were

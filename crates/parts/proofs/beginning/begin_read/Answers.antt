@@ -1,7 +1,4 @@
-use Rattle.std.proofs.Common.{◌≡◌, ◌+◌, suc, ◌++◌, ◌∷◌, [], sym, subst, arith}
-use Rattle.parts.specs.Views.{PartsView}
-use Rattle.parts.specs.Shapes.{IsShaped}
-use Rattle.parts.specs.Keeping.{begun, IsStateOf}
+use Rattle.parts.proofs.Common.{◌≡◌, ◌+◌, suc, ◌++◌, ◌∷◌, [], sym, subst, arith, PartsView, IsShaped, begun, IsStateOf}
 use Rattle.parts.proofs.BeginningLemmas.{read_of}
 use Rattle.parts.proofs.BegunLemmas.{same_view, next_is_shaped, next_is_state}
 use Rattle.parts.proofs.beginning.begin_read.Goals as goal

@@ -1,7 +1,4 @@
-use Rattle.std.proofs.Common.{◌≡◌, false, List, subst, arith}
-use Rattle.std.specs.Prelude.{All}
-use Rattle.part_pasts.specs.Ranges.{covered}
-use Rattle.part_pasts.specs.declared.part.Part.{Part}
+use Rattle.parts.proofs.Common.{◌≡◌, false, List, subst, arith, All, covered, Part}
 use Rattle.parts.proofs.ChangeLemmas.{with_new_part}
 use Rattle.parts.proofs.beginning.with_part_of.Goals as goal
 

@@ -1,15 +1,5 @@
-use Rattle.std.proofs.Common.{◌≡◌, ◌∷◌, [], ◌++◌, suc, List, map, sym, ◌∙◌, subst}
-use Rattle.std.specs.Prelude.{All}
-use Rattle.kept_pasts.specs.Pasts.{KeptPast}
-use Rattle.part_cuts.specs.PartCuts.{kept_of}
-use Rattle.part_pasts.specs.Pasts.{AreAlive, AreGoneOn, IsDead, lefts, lefts_of}
-use Rattle.part_pasts.specs.Views.{past_of}
-use Rattle.part_pasts.specs.declared.part.Part.{Part}
-use Rattle.part_pasts.specs.declared.pasts.GoneOn.{GoneOn}
-use Rattle.parts.specs.Going.{MayBeLeft}
-use Rattle.parts.specs.Keeping.{IsStateOf}
-use Rattle.parts.specs.Shapes.{IsShaped}
-use Rattle.parts.specs.Views.{PartsView}
+use Rattle.parts.proofs.Common.{◌≡◌, ◌∷◌, [], ◌++◌, suc, List, map, refl, sym, ◌∙◌, subst, All, KeptPast, kept_of, AreAlive, AreDoubtful, AreGoneOn}
+use Rattle.parts.proofs.Common.{IsDead, lefts, lefts_of, past_of, Part, GoneOn, MayBeLeft, IsStateOf, IsShaped, PartsView}
 use Rattle.parts.proofs.BegunLemmas.{same_view}
 use Rattle.parts.proofs.GoingLemmas.{going_is_shaped, going_is_state, kept_beside}
 use Rattle.parts.proofs.going.go_on.Goals as goal
@@ -32,8 +22,8 @@ invariant_of-state c =
     c.apart-rest.result.3 (sym c.apart-rest.ensures.rest) (sym parts) (sym c.apart-rest.ensures.reads) (sym c.apart-rest.ensures.now))
     (going_is_shaped s part left c.apart-rest.ensures.shaped c.calls-calls.ensures.kept)
 
-pub returns-in_ok-next-in-Alive : goal.returns-in_ok-next-in-Alive
-returns-in_ok-next-in-Alive c start budget old calls pasts at gone reads kept =
+pub returns-in_ok-next-in-Alive-clause-answered : goal.returns-in_ok-next-in-Alive-clause-answered
+returns-in_ok-next-in-Alive-clause-answered c start budget old calls pasts at gone reads kept =
     let s = c.args.state in
     let part : Part = record {
       ranges = c.args.ranges;
@@ -54,10 +44,30 @@ returns-in_ok-next-in-Alive c start budget old calls pasts at gone reads kept =
       settled.now ∙ (c.apart-rest.ensures.now ∙ at),
     )
 
-pub returns-in-Dead : goal.returns-in-Dead
-returns-in-Dead c start budget old calls pasts at gone reads kept =
+pub returns-in-Dead-clause-answered : goal.returns-in-Dead-clause-answered
+returns-in-Dead-clause-answered c start budget old calls pasts at gone reads kept =
     let dead : (map kept_of c.in-Dead.pasts.items ≡ pasts) × All IsDead pasts =
     subst (λ (g : GoneOn). AreGoneOn budget pasts g) c.in-Dead.is gone in (
       kept_beside c.args.state start (suc old.now) calls pasts (record { ranges = c.args.ranges; pasts = c.in-Dead.pasts }) at dead.0 kept,
       subst (λ (l : List KeptPast). All IsDead l) (sym dead.0) dead.1,
     )
+
+pub returns-in-Doubtful-clause-answered : goal.returns-in-Doubtful-clause-answered
+returns-in-Doubtful-clause-answered c start budget old calls pasts at gone reads kept =
+    let doubtful : (map kept_of c.in-Doubtful.pasts.items ≡ pasts) × AreDoubtful budget pasts =
+    subst (λ (g : GoneOn). AreGoneOn budget pasts g) c.in-Doubtful.is gone in (
+      kept_beside c.args.state start (suc old.now) calls pasts (record { ranges = c.args.ranges; pasts = c.in-Doubtful.pasts }) at doubtful.0 kept,
+      subst (λ (l : List KeptPast). AreDoubtful budget l) (sym doubtful.0) doubtful.1,
+    )
+
+pub returns-in-Dead-clause-ended : goal.returns-in-Dead-clause-ended
+returns-in-Dead-clause-ended c budget pasts gone =
+    let dead : (map kept_of c.in-Dead.pasts.items ≡ pasts) × All IsDead pasts =
+    subst (λ (g : GoneOn). AreGoneOn budget pasts g) c.in-Dead.is gone in
+    (refl, dead.0)
+
+pub returns-in-Doubtful-clause-ended : goal.returns-in-Doubtful-clause-ended
+returns-in-Doubtful-clause-ended c budget pasts gone =
+    let doubtful : (map kept_of c.in-Doubtful.pasts.items ≡ pasts) × AreDoubtful budget pasts =
+    subst (λ (g : GoneOn). AreGoneOn budget pasts g) c.in-Doubtful.is gone in
+    (refl, doubtful.0)

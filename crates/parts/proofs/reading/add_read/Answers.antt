@@ -1,8 +1,4 @@
-use Rattle.std.proofs.Common.{get_or, subst, arith}
-use Rattle.events.specs.declared.operation.Operation.{Operation}
-use Rattle.kept_parts.specs.Events.{IsWithRead}
-use Rattle.part_cuts.specs.PartCuts.{kept_of}
-use Rattle.part_pasts.proofs.TogetherLemmas.{IsShapedPast}
+use Rattle.parts.proofs.Common.{get_or, subst, arith, Operation, IsWithRead, kept_of, IsShapedPast}
 use Rattle.parts.proofs.ReadLemmas.{adding_goes_on, adding_ends, past_may}
 use Rattle.parts.proofs.reading.add_read.Goals as goal
 

@@ -1,7 +1,4 @@
-use Rattle.std.proofs.Common.{◌≡◌, ℕ, subst}
-use Rattle.events.specs.Keys.{low_key, high_key}
-use Rattle.key_parts.specs.Left.{pairs_at}
-use Rattle.part_pasts.specs.Ranges.{from_to}
+use Rattle.parts.proofs.Common.{◌≡◌, ℕ, subst, low_key, high_key, pairs_at, from_to}
 use Rattle.parts.proofs.ReportLemmas.{legal_at_all}
 use Rattle.parts.proofs.reading.agrees_at_rest.Goals as goal
 

@@ -1,18 +1,12 @@
-use Rattle.std.proofs.Common.{◌≡◌, ℕ, suc, ◌<◌, ◌+◌, ◌++◌, ◌∷◌, List, true, refl, sym, ◌∙◌, subst, arith}
-use Rattle.std.specs.Prelude.{◌≢◌, All}
-use Rattle.kept_parts.specs.KeptParts.{AreKept}
-use Rattle.part_pasts.specs.declared.moments.OpenRead.{OpenRead}
-use Rattle.parts.specs.Going.{HasOwnPlace}
-use Rattle.parts.specs.Keeping.{IsStateOf}
-use Rattle.parts.specs.Shapes.{IsShaped}
-use Rattle.parts.specs.Steps.{HasEnded}
-use Rattle.parts.specs.Views.{PartsView, kept_parts}
+use Rattle.parts.proofs.Common.{◌≡◌, ℕ, suc, ◌<◌, ◌+◌, ◌++◌, ◌∷◌, List, true, refl, sym, ◌∙◌, subst, arith, ◌≢◌, All, IfOk, AreKept, OpenRead}
+use Rattle.parts.proofs.Common.{HasOwnPlace, HasEndedBy, IsStateOf, IsShaped, HasEnded, PartsView, kept_parts}
 use Rattle.parts.proofs.BegunLemmas.{same_view}
-use Rattle.parts.proofs.EndedLemmas.{ended_began, ended_is_later, ended_is_own, ended_is_shaped, never_unknown, nothing_is_kept, reads_ended, same_result}
+use Rattle.parts.proofs.EndedLemmas.{ended_began, ended_is_later, ended_is_own, ended_is_shaped, never_unknown, nothing_is_kept, reads_ended}
+use Rattle.parts.proofs.EndedLemmas.{same_result}
 use Rattle.parts.proofs.reading.answer_read.Goals as goal
 
-pub returns-then-not-end_read : goal.returns-then-not-end_read
-returns-then-not-end_read c start front back o response answer state =
+pub returns-then-not-end_read-clause-answered : goal.returns-then-not-end_read-clause-answered
+returns-then-not-end_read-clause-answered c start front back o response answer state =
     let s = c.args.state in
     let done = c.args.operation in
     never_unknown s start front back o done response answer c.requires.reads
@@ -30,8 +24,8 @@ invariant_of-state c =
     (sym c.apart-rest.ensures.rest) (sym c.apart-rest.ensures.parts) refl now)
     (ended_is_later s c.apart-rest.ensures.shaped c.args.operation.inv reads ended)
 
-pub returns-then-reports_nothing : goal.returns-then-reports_nothing
-returns-then-reports_nothing c start front back o response answer state =
+pub returns-then-reports_nothing-clause-answered : goal.returns-then-reports_nothing-clause-answered
+returns-then-reports_nothing-clause-answered c start front back o response answer state =
     let s = c.args.state in
     let done = c.args.operation in
     let reads = c.end_read.new.reads.items in
@@ -83,8 +77,8 @@ answer_report-requires-clause-own c =
     (sym c.apart-rest.ensures.rest) (sym c.apart-rest.ensures.parts) refl (sym c.apart-rest.ensures.now))
     (ended_is_own s c.apart-rest.ensures.shaped c.args.operation.inv reads ended c.args.operation refl)
 
-pub returns : goal.returns
-returns c start front back o response answer state =
+pub returns-clause-answered : goal.returns-clause-answered
+returns-clause-answered c start front back o response answer state =
     let s = c.args.state in
     let done = c.args.operation in
     let reads = c.end_read.new.reads.items in
@@ -98,9 +92,19 @@ returns c start front back o response answer state =
       now = c.apart-rest.result.3;
     } in
     same_result start c.args.budget calls view s c.answer_report.result c.apart-rest.ensures.now
-    (c.answer_report.ensures start front back o response answer
+    (c.answer_report.ensures.answered start front back o response answer
     (subst (λ (v : PartsView). AreKept start v.now (front ++ o ∷ back) (kept_parts v))
     (same_view s.rest c.apart-rest.result.0 s.parts c.apart-rest.result.1.items reads reads s.now c.apart-rest.result.3
     (sym c.apart-rest.ensures.rest) (sym c.apart-rest.ensures.parts) refl (sym c.apart-rest.ensures.now)) state.kept)
     (reads_ended done.inv s.reads reads ended c.apart-rest.ensures.shaped.distinct front back o done response answer refl
     state.kept.are_calls.rising state.reads))
+
+pub returns-clause-ended : goal.returns-clause-ended
+returns-clause-ended c start front back o response answer state =
+    let s = c.args.state in
+    let reads = c.end_read.new.reads.items in
+    subst (λ (n : ℕ). IfOk c.answer_report.result (HasEndedBy start n (front ++ o ∷ back) o response)) c.apart-rest.ensures.now
+    (c.answer_report.ensures.ended start front back o response answer
+    (subst (λ (v : PartsView). AreKept start v.now (front ++ o ∷ back) (kept_parts v))
+    (same_view s.rest c.apart-rest.result.0 s.parts c.apart-rest.result.1.items reads reads s.now c.apart-rest.result.3
+    (sym c.apart-rest.ensures.rest) (sym c.apart-rest.ensures.parts) refl (sym c.apart-rest.ensures.now)) state.kept))

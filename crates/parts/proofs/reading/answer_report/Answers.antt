@@ -1,21 +1,13 @@
-use Rattle.std.proofs.Common.{◌≡◌, suc, ◌+◌, ◌++◌, ◌∷◌, [], List, refl, sym, ◌∙◌, subst, arith}
-use Rattle.std.specs.Prelude.{All}
-use Rattle.events.specs.Keys.{low_key, high_key}
-use Rattle.map_object.specs.MapObject.{Contents}
-use Rattle.orders.specs.Orders.{IsLegalCall}
-use Rattle.kept_parts.specs.KeptParts.{AreKept}
-use Rattle.part_pasts.specs.Pasts.{lefts_of}
-use Rattle.part_pasts.specs.Ranges.{covered}
-use Rattle.part_pasts.specs.declared.moments.OpenRead.{OpenRead}
-use Rattle.parts.specs.Going.{MayBeLeft, kept_with}
-use Rattle.parts.specs.Keeping.{AreReadsOf, IsStateOf}
-use Rattle.parts.specs.Shapes.{IsShaped}
-use Rattle.parts.specs.Steps.{AreMet, IsReadIn}
-use Rattle.parts.specs.Views.{PartsView}
+use Rattle.parts.proofs.Common.{◌≡◌, suc, ◌+◌, ◌++◌, ◌∷◌, [], List, false, map, inr, refl, sym, ◌∙◌, subst, arith, All, AllZip, All-cons, Operation}
+use Rattle.parts.proofs.Common.{low_key, high_key, may_change, Contents, IsLegalCall, IsWithRead, AreKept, HasPasts, lefts_of, covered, outside}
+use Rattle.parts.proofs.Common.{resting, kept_part, OpenRead, MayBeLeft, kept_with, AreReadsOf, IsStateOf, IsShaped, AreMet, IsReadIn, PartsView}
+use Rattle.parts.proofs.Common.{is_at_rest}
 use Rattle.parts.proofs.BegunLemmas.{same_view}
-use Rattle.parts.proofs.GoingLemmas.{lefts_gone}
+use Rattle.parts.proofs.EndedLemmas.{has_ended}
+use Rattle.parts.proofs.GoingLemmas.{lefts_gone, others_have_pasts}
 use Rattle.parts.proofs.MetLemmas.{met_same}
-use Rattle.parts.proofs.ReportLemmas.{IsReport, met_apart, met_comes, met_shaped, next_is_shaped, report_is_kept, report_is_left, taken_at_rest}
+use Rattle.parts.proofs.ReportLemmas.{IsReport, met_apart, met_comes, met_shaped, next_is_shaped, report_comes_to, report_is_kept, report_is_left}
+use Rattle.parts.proofs.ReportLemmas.{report_keys, taken_at_rest}
 use Rattle.parts.proofs.reading.answer_report.Goals as goal
 
 pub invariant_of-result : goal.invariant_of-result
@@ -33,8 +25,8 @@ invariant_of-result c =
     (sym c.apart-rest.ensures.rest) refl (sym c.apart-rest.ensures.reads) now)
     (next_is_shaped s c.apart-rest.ensures.shaped left met is.parted s.rest c.apart-rest.ensures.shaped.rest)
 
-pub returns-then-branch : goal.returns-then-branch
-returns-then-branch c start front back o response answer kept reads =
+pub returns-then-branch-clause-answered : goal.returns-then-branch-clause-answered
+returns-then-branch-clause-answered c start front back o response answer kept reads =
     let s = c.args.state in
     let done = c.args.operation in
     let left = c.take_met.new.parts.items in
@@ -132,8 +124,8 @@ go_on-requires c =
     (report_is_left s c.apart-rest.ensures.shaped left met is.parted c.read_in.new.rest o c.requires.reported c.requires.begun c.requires.own
     read.pasts read.nexts read.with_read read.rising read.become.own))
 
-pub returns : goal.returns
-returns c start front back o response answer kept reads =
+pub returns-clause-answered : goal.returns-clause-answered
+returns-clause-answered c start front back o response answer kept reads =
     let s = c.args.state in
     let done = c.args.operation in
     let left = c.take_met.new.parts.items in
@@ -154,10 +146,36 @@ returns c start front back o response answer kept reads =
       something = c.requires.something;
     } in
     let keys = covered c.in_ok-ranges.field-0.ranges.items in
-    c.go_on.ensures start c.args.budget s calls read.nexts (sym now) read.gone
+    c.go_on.ensures.answered start c.args.budget s calls read.nexts (sym now) read.gone
     (subst (λ (l : List OpenRead). AreReadsOf calls l) (sym c.apart-rest.ensures.reads) reads)
     (subst (λ (v : PartsView). AreKept start v.now calls (kept_with v keys read.nexts))
     (same_view new new left left s.reads c.apart-rest.result.2.items (suc s.now) (c.apart-rest.result.3 + 1) refl refl
     (sym c.apart-rest.ensures.reads) now)
     (report_is_kept s left met start front back o response done answer is new c.in_ok-ranges.field-0.ranges.items read.pasts read.nexts
     read.become read.with_read report kept))
+
+pub returns-clause-ended : goal.returns-clause-ended
+returns-clause-ended c start front back o response answer kept =
+    let s = c.args.state in
+    let done = c.args.operation in
+    let left = c.take_met.new.parts.items in
+    let met = c.in_ok-met.met.items in
+    let new = c.read_in.new.rest in
+    let is : AreMet (low_key done.call) (high_key done.call) s.parts left met =
+    met_same c.low_key-low.result c.high_key-high.result (low_key done.call) (high_key done.call) c.apart-rest.result.1.items s.parts left met
+    c.low_key-low.ensures c.high_key-high.ensures c.apart-rest.ensures.parts c.in_ok-met.ensures in
+    let read : IsReadIn c.args.budget done s.rest new met c.in_ok-ranges.field-0 =
+    subst (λ (m : Contents). IsReadIn c.args.budget done m new met c.in_ok-ranges.field-0) c.apart-rest.ensures.rest c.in_ok-ranges.ensures in
+    let ranges = c.in_ok-ranges.field-0.ranges.items in
+    let next : PartsView = record { rest = new; parts = left; reads = s.reads; now = suc s.now } in
+    let keys = covered ranges in
+    let others = resting (outside (is_at_rest left) keys) new ∷ map kept_part left in
+    has_ended start s.now (front ++ o ∷ back) o response ranges read.pasts read.nexts others
+    (report_keys s left met start front back o response done answer new ranges read.pasts read.become)
+    (report_comes_to s left met start front back o response done answer is new ranges read.pasts read.become kept)
+    (All-cons HasPasts (record { keys = keys; pasts = read.pasts }) others read.some (others_have_pasts next keys))
+    (inr (
+      subst (λ (x : Operation). may_change x.call ≡ false) answer.is c.requires.reads,
+      subst (λ (x : Operation). AllZip (IsWithRead x) read.pasts read.nexts) answer.is read.with_read,
+    ))
+    c.go_on.result (c.go_on.ensures.ended c.args.budget read.nexts read.gone)

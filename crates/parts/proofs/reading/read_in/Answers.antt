@@ -1,14 +1,5 @@
-use Rattle.std.proofs.Common.{◌≡◌, ◌≤◌, ℕ, true, List, [], ◌∷◌, map, length, refl, sym, ap, subst, arith}
-use Rattle.std.specs.Prelude.{All}
-use Rattle.std.proofs.lemmas.List.Elements.{All-head}
-use Rattle.events.specs.Keys.{low_key, high_key}
-use Rattle.part_cuts.specs.PartCuts.{kept_of}
-use Rattle.part_pasts.specs.Ranges.{covered}
-use Rattle.part_pasts.specs.Views.{kept_part}
-use Rattle.part_pasts.specs.Shapes.{IsPartShaped}
-use Rattle.part_pasts.specs.declared.part.Part.{Part}
-use Rattle.parts.specs.Steps.{HasGoneIn, IsReadIn}
-use Rattle.parts.specs.declared.reading.Read.{Read}
+use Rattle.parts.proofs.Common.{◌≡◌, ◌≤◌, ℕ, true, List, [], ◌∷◌, map, length, refl, sym, ap, subst, arith, All, All-head, low_key, high_key, kept_of}
+use Rattle.parts.proofs.Common.{covered, kept_part, IsPartShaped, Part, HasGoneIn, IsReadIn, Read}
 use Rattle.parts.proofs.SpanLemmas.{span_of, one_part, both_ok, read_in_span, read_in_parts, united_differ}
 use Rattle.parts.proofs.reading.read_in.Goals as goal
 
@@ -42,6 +33,6 @@ returns c =
     both_ok c.read_in_united.result (λ (read : Read). read.ranges ≡ united.ranges) (HasGoneIn c.args.budget o (map kept_of united.pasts.items))
     (IsReadIn c.args.budget o c.args.rest.now c.unite.new.rest c.args.met.items)
     (λ read same gone. read_in_parts c.args.budget o c.low_key-low.result c.high_key-high.result c.args.rest.now c.unite.new.rest
-    c.args.met.items united.ranges.items united.pasts.items read c.low_key-low.ensures c.high_key-high.ensures c.in_ok-united.ensures.united
-    c.in_ok-united.ensures.shaped (ap (λ rs. rs.items) same) gone)
+    c.args.met.items united.ranges.items united.pasts.items read c.low_key-low.ensures c.high_key-high.ensures c.in_ok-united.ensures.some
+    c.in_ok-united.ensures.united c.in_ok-united.ensures.shaped (ap (λ rs. rs.items) same) gone)
     c.read_in_united.ensures.ranges c.read_in_united.ensures.gone

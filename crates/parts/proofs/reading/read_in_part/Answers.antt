@@ -1,9 +1,5 @@
-use Rattle.std.proofs.Common.{◌≢◌, List, ap, sym, ◌∙◌, subst, arith}
-use Rattle.std.specs.Prelude.{All}
-use Rattle.events.specs.declared.operation.Operation.{Operation}
-use Rattle.kept_orders.specs.Views.{MayCome}
-use Rattle.part_cuts.specs.PartCuts.{AreShaped}
-use Rattle.part_cuts.specs.declared.past.Past.{Past}
+use Rattle.parts.proofs.Common.{List, ap, sym, ◌∙◌, subst, arith, All, Operation, MayCome, AreShaped, Past}
+use Rattle.std.proofs.Common.{◌≢◌}
 use Rattle.parts.proofs.ReadLemmas.{others_shaped, others_differ, may_come, shaped_after, gone_in_part}
 use Rattle.parts.proofs.reading.read_in_part.Goals as goal
 

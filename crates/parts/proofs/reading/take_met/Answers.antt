@@ -1,6 +1,4 @@
-use Rattle.std.proofs.Common.{◌≡◌, ◌≤◌, ℕ, false, List, refl, subst, arith}
-use Rattle.part_pasts.specs.Ranges.{covered}
-use Rattle.part_pasts.specs.declared.ranges.Range.{Range}
+use Rattle.parts.proofs.Common.{◌≡◌, ◌≤◌, ℕ, false, List, refl, subst, arith, covered, Range}
 use Rattle.parts.proofs.ReadingLemmas.{meeting_out, meeting_past}
 use Rattle.parts.proofs.reading.take_met.Goals as goal
 

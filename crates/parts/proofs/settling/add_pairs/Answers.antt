@@ -1,6 +1,4 @@
-use Rattle.std.proofs.Common.{subst, arith}
-use Rattle.map_object.specs.MapObject.{Contents, IsRising}
-use Rattle.part_pasts.proofs.PairLemmas.{more_pairs}
+use Rattle.parts.proofs.Common.{subst, arith, Contents, IsRising, more_pairs}
 use Rattle.parts.proofs.settling.add_pairs.Goals as goal
 
 pub loop-pair-preserved : goal.loop-pair-preserved

@@ -1,6 +1,4 @@
-use Rattle.std.proofs.Common.{◌≡◌, ℕ, take}
-use Rattle.map_object.specs.MapObject.{IsRising, value_at}
-use Rattle.part_pasts.specs.Ranges.{or_else}
+use Rattle.parts.proofs.Common.{◌≡◌, ℕ, take, IsRising, value_at, or_else}
 use Rattle.parts.proofs.settling.add_pairs.Given as goal
 
 -- the pairs so far came to the map

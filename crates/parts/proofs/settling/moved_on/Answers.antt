@@ -1,12 +1,5 @@
-use Rattle.std.proofs.Common.{ℕ, Option, Vec, Global, subst}
-use Rattle.std.specs.Prelude.{IfSome}
-use Rattle.std.proofs.lemmas.List.Elements.{All-weaker}
-use Rattle.part_cuts.specs.declared.past.Past.{Past}
-use Rattle.part_pasts.specs.Shapes.{IsPastShaped}
-use Rattle.part_pasts.specs.Moments.{AreBegunAfter}
-use Rattle.part_pasts.specs.Views.{kept_part}
-use Rattle.parts.specs.Shapes.{IsPastBefore}
-use Rattle.parts.specs.Settled.{AreThen}
+use Rattle.parts.proofs.Common.{ℕ, Option, Vec, Global, subst, IfSome, All-weaker, Past, IsPastShaped, AreBegunAfter, kept_part, IsPastBefore}
+use Rattle.parts.proofs.Common.{AreThen}
 use Rattle.parts.proofs.ThenLemmas.{moves_if}
 use Rattle.parts.proofs.settling.moved_on.Goals as goal
 

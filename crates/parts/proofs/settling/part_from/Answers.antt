@@ -1,10 +1,5 @@
-use Rattle.std.proofs.Common.{◌≡◌, ◌<◌, List, Some, map, refl, sym, ap, ◌∙◌, subst}
-use Rattle.std.specs.Prelude.{AllPairs, slice_get}
-use Rattle.events.specs.declared.operation.Operation.{Operation}
-use Rattle.part_cuts.specs.PartCuts.{kept_of}
-use Rattle.part_cuts.specs.declared.past.Past.{Past}
-use Rattle.part_pasts.specs.Pasts.{AreGoneOn}
-use Rattle.part_pasts.specs.declared.pasts.GoneOn.{GoneOn}
+use Rattle.parts.proofs.Common.{◌≡◌, ◌<◌, List, Some, map, refl, sym, ap, ◌∙◌, subst, AllPairs, slice_get, Operation, kept_of, Past, AreGoneOn}
+use Rattle.parts.proofs.Common.{GoneOn}
 use Rattle.parts.proofs.ThenLemmas.{first_rises}
 use Rattle.parts.proofs.settling.part_from.Goals as goal
 

@@ -1,13 +1,6 @@
-use Rattle.std.proofs.Common.{◌≡◌, ◌<◌, [], List, Option, length, refl, sym, ◌∙◌, subst, arith}
-use Rattle.std.specs.Prelude.{IfSome}
-use Rattle.std.proofs.lemmas.Bool.{eqb-false, eqb-true}
-use Rattle.std.proofs.lemmas.List.{nil_from_length}
-use Rattle.part_cuts.specs.declared.past.Past.{Past}
-use Rattle.part_pasts.specs.Ranges.{covered}
-use Rattle.part_pasts.specs.Resting.{AreBusy, AreOnly, AreResting}
-use Rattle.part_pasts.specs.declared.part.Part.{Part}
-use Rattle.part_pasts.specs.declared.ranges.Range.{Range}
-use Rattle.parts.specs.Settled.{IsPartFrom}
+use Rattle.parts.proofs.Common.{◌≡◌, ◌<◌, [], List, Option, length, refl, sym, ◌∙◌, subst, arith, IfSome, eqb-false, nil_from_length, Past, covered}
+use Rattle.parts.proofs.Common.{AreBusy, AreOnly, AreResting, Part, Range, IsPartFrom}
+use Rattle.std.proofs.lemmas.Bool.{eqb-true}
 use Rattle.parts.proofs.ThenLemmas.{only_shaped, parted_none, parted_some}
 use Rattle.parts.proofs.settling.parted.Goals as goal
 

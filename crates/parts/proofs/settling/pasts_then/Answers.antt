@@ -1,7 +1,5 @@
-use Rattle.std.proofs.Common.{List, sym, subst}
-use Rattle.part_cuts.specs.PartCuts.{AreCut, AreShaped, IsMade}
+use Rattle.parts.proofs.Common.{List, sym, subst, AreCut, AreShaped, IsMade, Past}
 use Rattle.part_cuts.specs.declared.cut.Cut.{Cut}
-use Rattle.part_cuts.specs.declared.past.Past.{Past}
 use Rattle.parts.proofs.ThenLemmas.{pasts_shaped, then_of}
 use Rattle.parts.proofs.settling.pasts_then.Goals as goal
 

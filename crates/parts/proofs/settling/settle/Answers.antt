@@ -1,10 +1,5 @@
-use Rattle.std.proofs.Common.{◌≡◌, ◌<◌, ℕ, Vec, Global, length, List, Option, inl, inr, sym, ap, ◌∙◌, subst}
-use Rattle.std.specs.Prelude.{IfSome}
-use Rattle.map_object.specs.MapObject.{Contents}
-use Rattle.part_pasts.specs.declared.part.Part.{Part}
-use Rattle.part_pasts.specs.declared.moments.OpenRead.{OpenRead}
-use Rattle.parts.specs.Settled.{IsWithPairs, MovesOn}
-use Rattle.parts.specs.declared.settling.Moved.{Moved}
+use Rattle.parts.proofs.Common.{◌≡◌, ◌<◌, ℕ, Vec, Global, length, List, Option, inl, inr, sym, ap, ◌∙◌, subst, IfSome, Contents, Part, OpenRead}
+use Rattle.parts.proofs.Common.{IsWithPairs, MovesOn, Moved}
 use Rattle.parts.proofs.SettledLemmas.{IsPutBack, moves_settled, moves_shaped, stays_settled, stays_shaped}
 use Rattle.parts.proofs.settling.settle.Goals.{in-Some-left+in_ok-push-2, in_default-left}
 use Rattle.parts.proofs.settling.settle.Goals as goal

@@ -1,9 +1,5 @@
-use Rattle.std.proofs.Common.{◌≡◌, [], List, Option, sym, subst, arith}
+use Rattle.parts.proofs.Common.{◌≡◌, [], List, Option, sym, subst, arith, nil_from_length, kept_of, Past, IsAliveOrDead}
 use Rattle.std.specs.Vec.Iter.{into_iter_items}
-use Rattle.std.proofs.lemmas.List.{nil_from_length}
-use Rattle.part_cuts.specs.PartCuts.{kept_of}
-use Rattle.part_cuts.specs.declared.past.Past.{Past}
-use Rattle.parts.specs.Settled.{IsAliveOrDead}
 use Rattle.parts.proofs.AliveLemmas.{AreAliveSoFar, alive_begins, alive_dies, alive_ends, alive_stays, next_shaped}
 use Rattle.parts.proofs.settling.those_alive.Goals as goal
 

@@ -1,4 +1,4 @@
--- Those so far, with those to come.
+-- What was found so far, with what is to come, is all.
 use Rattle.std.proofs.Common.{◌≡◌, ◌++◌, drop}
 use Rattle.picture_engines.specs.Choices.{places_begun}
 use Rattle.picture_engines.proofs.choice.push_begun.Given as goal

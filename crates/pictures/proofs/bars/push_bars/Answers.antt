@@ -1,6 +1,4 @@
-use Rattle.std.proofs.Common.{◌≡◌, Some, length, refl, ap, arith}
-use Rattle.std.specs.Prelude.{slice_get}
-use Rattle.std.proofs.lemmas.Option.{slice_get_read}
+use Rattle.pictures.proofs.Common.{◌≡◌, Some, length, refl, ap, arith, slice_get, slice_get_read}
 use Rattle.pictures.proofs.BarLemmas.{bar-more}
 use Rattle.pictures.proofs.bars.push_bars.Goals as goal
 

@@ -1,7 +1,4 @@
-use Rattle.std.proofs.Common.{◌≡◌, ◌+◌, ◌++◌, [], ◌∷◌, Some, length, get_or, refl, ap, ◌∙◌}
-use Rattle.std.specs.Prelude.{slice_get}
-use Rattle.std.proofs.lemmas.Option.{slice_get_read}
-use Rattle.merge_orders.proofs.PlacedLemmas.{latest, latest-more}
+use Rattle.pictures.proofs.Common.{◌≡◌, ◌+◌, ◌++◌, [], ◌∷◌, Some, length, get_or, refl, ap, ◌∙◌, slice_get, slice_get_read, latest, latest-more}
 use Rattle.pictures.proofs.ColumnLemmas.{points-more}
 use Rattle.pictures.proofs.columns.points_of.Goals as goal
 

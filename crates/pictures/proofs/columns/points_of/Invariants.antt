@@ -1,6 +1,4 @@
-use Rattle.std.proofs.Common.{◌≡◌, map, take}
-use Rattle.merge_orders.specs.Merge.{point_in}
-use Rattle.merge_orders.proofs.PlacedLemmas.{latest}
+use Rattle.pictures.proofs.Common.{◌≡◌, map, take, point_in, latest}
 use Rattle.pictures.proofs.columns.points_of.Given as goal
 
 abbrev pub invariant-loop-number : goal.invariant-loop-number

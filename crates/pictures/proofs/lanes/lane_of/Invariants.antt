@@ -1,5 +1,4 @@
-use Rattle.std.proofs.Common.{◌≡◌, ℕ, ◌<◌}
-use Rattle.std.specs.Prelude.{slice_index_or}
+use Rattle.pictures.proofs.Common.{◌≡◌, ℕ, ◌<◌, slice_index_or}
 use Rattle.pictures.proofs.lanes.lane_of.Given as goal
 
 abbrev pub invariant-loop-place : goal.invariant-loop-place

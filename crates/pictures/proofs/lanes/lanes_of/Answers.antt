@@ -1,8 +1,7 @@
-use Rattle.std.proofs.Common.{sym, ap, ◌∙◌, ◌++◌, arith}
-use Rattle.std.proofs.lemmas.List.{append-nil}
+use Rattle.pictures.proofs.Common.{sym, ap, ◌∙◌, ◌++◌, arith, append-nil}
 use Rattle.pictures.proofs.LaneLemmas.{lanes_from, lanes-all, lanes-yes, lanes-no, lanes-end}
-use Rattle.pictures.proofs.lanes.lanes_of.Goals as goal
 use Rattle.pictures.proofs.lanes.lanes_of.Goals.{then-has_events+in_ok-push, else-has_events}
+use Rattle.pictures.proofs.lanes.lanes_of.Goals as goal
 
 pub loop-process-init : goal.loop-process-init
 loop-process-init c = lanes-all c.args.events.now ∙ ap (λ items. items ++ lanes_from c.args.events.now 0) (sym c.new-lanes.ensures.items)

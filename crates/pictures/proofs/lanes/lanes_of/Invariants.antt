@@ -1,5 +1,4 @@
-use Rattle.std.proofs.Common.{◌≡◌, ◌++◌}
-use Rattle.pictures.specs.Lanes.{lanes}
+use Rattle.pictures.proofs.Common.{◌≡◌, ◌++◌, lanes}
 use Rattle.pictures.proofs.LaneLemmas.{lanes_from}
 use Rattle.pictures.proofs.lanes.lanes_of.Given as goal
 

@@ -1,15 +1,9 @@
-use Rattle.std.proofs.Common.{◌≡◌, ◌↔◌, ℕ, Bool, true, false, IsTrue, List, inr, refl}
-use Rattle.events.specs.declared.event.Call.{Call}
-use Rattle.plans.specs.declared.fault.PlanFault.{PlanFault}
-use Rattle.plans.specs.declared.fault.PlanFault.TheVariants as plans
+use Rattle.plan_engines.proofs.Common.{◌≡◌, ◌↔◌, ℕ, Bool, true, false, IsTrue, List, inr, refl, Call, PlanFault, SpellsPlan, IsDrivable, RunOutcome}
+use Rattle.plan_engines.proofs.Common.{Answered, Noted, Refused, Memory, Words, Failed, IsUndriven}
 use Rattle.plans.specs.Plans.{AreScripts}
-use Rattle.plan_text.specs.PlanTexts.{SpellsPlan}
-use Rattle.drives.specs.Drives.{IsDrivable}
-use Rattle.outcomes.specs.declared.outcome.RunOutcome.{RunOutcome}
-use Rattle.outcomes.specs.declared.outcome.RunOutcome.TheVariants.{Answered, Noted, Refused, Memory, Words, Failed}
-use Rattle.plan_engines.specs.Drives.{IsUndriven}
 use Rattle.plan_engines.specs.Faults.{IsPlanFaultOutcome}
 use Rattle.plan_engines.specs.Outcomes.{IsUndrivenOutcome}
+use Rattle.plans.specs.declared.fault.PlanFault.TheVariants as plans
 use Rattle.plan_engines.proofs.drivable.drivable_plan.Goals as goal
 
 -- what a test denies does not hold

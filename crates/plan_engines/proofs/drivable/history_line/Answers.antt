@@ -1,12 +1,8 @@
-use Rattle.std.proofs.Common.{◌≤◌, ℕ, List, [], ◌∷◌, length, string_bytes, inl, inr, refl, sym, subst, arith, length-append}
-use Rattle.events.specs.HistoryView.{HistoryView}
-use Rattle.history_text.specs.Limits.{text_limit}
-use Rattle.history_text.specs.Texts.{Spells}
-use Rattle.white_space.specs.Laws.{SpellsBetweenWhiteSpace}
-use Rattle.outcomes.specs.Lines.{line}
+use Rattle.plan_engines.proofs.Common.{◌≤◌, ℕ, List, [], ◌∷◌, length, string_bytes, inl, inr, refl, sym, subst, arith, length-append, HistoryView}
+use Rattle.plan_engines.proofs.Common.{text_limit, Spells, SpellsBetweenWhiteSpace, line}
 use Rattle.plan_engines.proofs.drivable.history_line.Goals as goal
 
--- a text spells what it spells without the line feed behind it
+-- a text spells what it spells without the line feed after it
 with_line_feed : SpellsBetweenWhiteSpace → (text : List ℕ) (history : HistoryView) → length (line text) ≤ text_limit
     → (length text ≤ text_limit → Spells text history) → Spells (line text) history
 with_line_feed between text history fits spells =

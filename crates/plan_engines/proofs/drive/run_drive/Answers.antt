@@ -1,8 +1,4 @@
-use Rattle.std.proofs.Common.{rules}
-use Rattle.history_text.specs.Limits.{text_limit}
-use Rattle.drives.specs.Drives.{IsDriveOf}
-use Rattle.outcomes.proofs.ReadText.{IsRun-read}
-use Rattle.plan_engines.specs.Drives.{IsDriveAnswer, IsDriveRefusal}
+use Rattle.plan_engines.proofs.Common.{rules, text_limit, IsDriveOf, IsRun-read, IsDriveAnswer, IsDriveRefusal}
 use Rattle.plan_engines.proofs.WholePlans.{IsDrivenAnswer-whole, IsDriveRefusal-whole}
 use Rattle.plan_engines.proofs.drive.run_drive.Goals as goal
 

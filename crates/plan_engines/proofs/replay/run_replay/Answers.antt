@@ -1,7 +1,4 @@
-use Rattle.std.proofs.Common.{rules}
-use Rattle.history_text.specs.Limits.{text_limit}
-use Rattle.plan_engines.specs.Answers.{IsReplayAnswer, IsReplayRefusal}
-use Rattle.outcomes.proofs.ReadText.{IsRun-read}
+use Rattle.plan_engines.proofs.Common.{rules, text_limit, IsReplayAnswer, IsReplayRefusal, IsRun-read}
 use Rattle.plan_engines.proofs.WholeReplays.{IsReplayAnswer-whole, IsReplayRefusal-whole}
 use Rattle.plan_engines.proofs.replay.run_replay.Goals as goal
 

@@ -1,12 +1,7 @@
-use Rattle.std.proofs.Common.{◌≡◌, ◌<◌, ℕ, List, [], ◌∷◌, length, string_bytes, inl, inr, refl, sym, subst, ◌∙◌, arith, length-append}
-use Rattle.std.proofs.lemmas.Str.{IsUtf8-string_bytes}
+use Rattle.plan_engines.proofs.Common.{◌≡◌, ◌<◌, ℕ, List, [], ◌∷◌, length, string_bytes, inl, inr, refl, sym, subst, ◌∙◌, arith, length-append}
+use Rattle.plan_engines.proofs.Common.{IsUtf8-string_bytes, text_limit, line, ReplayView, SpellsReplay, WhiteSpaceTellsNothing}
 use Rattle.std.specs.Str.{IsUtf8}
-use Rattle.history_text.specs.Limits.{text_limit}
-use Rattle.outcomes.specs.Lines.{line}
-use Rattle.replay_text.specs.Replays.{ReplayView}
-use Rattle.replay_text.specs.ReplayViews.{shown}
-use Rattle.replay_text.specs.ReplayTexts.{SpellsReplay}
-use Rattle.white_space.specs.Laws.{WhiteSpaceTellsNothing}
+use Rattle.plan_text.specs.ReplayViews.{shown}
 use Rattle.plan_engines.proofs.schedule.replay_line.Goals as goal
 
 -- a text spells the same replay with a line feed at its end

@@ -1,7 +1,4 @@
-use Rattle.std.proofs.Common.{rules}
-use Rattle.history_text.specs.Limits.{text_limit}
-use Rattle.outcomes.proofs.ReadText.{IsRun-read}
-use Rattle.plan_engines.specs.Schedules.{IsScheduleAnswer, IsScheduleRefusal}
+use Rattle.plan_engines.proofs.Common.{rules, text_limit, IsRun-read, IsScheduleAnswer, IsScheduleRefusal}
 use Rattle.plan_engines.proofs.WholeSchedules.{IsScheduleAnswer-whole, IsScheduleRefusal-whole}
 use Rattle.plan_engines.proofs.schedule.run_schedule.Goals as goal
 

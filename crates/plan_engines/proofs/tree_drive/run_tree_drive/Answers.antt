@@ -1,9 +1,6 @@
-use Rattle.std.proofs.Common.{rules}
-use Rattle.history_text.specs.Limits.{text_limit}
+use Rattle.plan_engines.proofs.Common.{rules, text_limit, IsRun-read, IsTreeDriveAnswer, IsDriveRefusal, WasPassedForPlan}
 use Rattle.drives.specs.ArenaDrives.{IsArenaDriveOf}
-use Rattle.outcomes.proofs.ReadText.{IsRun-read}
 use Rattle.outcomes.proofs.Reading.{made-status}
-use Rattle.plan_engines.specs.Drives.{IsTreeDriveAnswer, IsDriveRefusal, WasPassedForPlan}
 use Rattle.plan_engines.proofs.WholePlans.{IsDrivenAnswer-whole, IsDriveRefusal-whole, planned-whole}
 use Rattle.plan_engines.proofs.tree_drive.run_tree_drive.Goals as goal
 

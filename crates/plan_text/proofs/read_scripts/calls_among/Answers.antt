@@ -1,6 +1,5 @@
--- The value at hand spells no call that may stand in a script, so the values together spell no script.
-use Rattle.history_text.specs.Texts.{call_data}
-use Rattle.plan_text.specs.Scripts.{is_script_call}
+-- The value at hand spells no call that may be in a script, so the values together spell no script.
+use Rattle.plan_text.proofs.Common.{call_data, is_script_call}
 use Rattle.plan_text.proofs.AmongLemmas.{none_among}
 use Rattle.plan_text.proofs.read_scripts.calls_among.Goals as goal
 

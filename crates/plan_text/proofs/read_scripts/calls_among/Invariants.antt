@@ -1,9 +1,5 @@
--- The values read so far are those of the calls, which may stand in a script.
-use Rattle.std.proofs.Common.{◌≡◌, map, take}
-use Rattle.std.specs.Prelude.{IsTrue}
-use Rattle.serde_json.specs.View.{view}
-use Rattle.history_text.specs.Texts.{call_data}
-use Rattle.plan_text.specs.Scripts.{is_script}
+-- The values read so far are those of the calls, which may be in a script.
+use Rattle.plan_text.proofs.Common.{◌≡◌, map, take, IsTrue, view, call_data, is_script}
 use Rattle.plan_text.proofs.read_scripts.calls_among.Given as goal
 
 abbrev pub invariant-loop-item : goal.invariant-loop-item

@@ -1,6 +1,5 @@
 -- The items of an array that spells a script spell its calls.
-use Rattle.std.proofs.Common.{map}
-use Rattle.history_text.specs.Texts.{call_data}
+use Rattle.plan_text.proofs.Common.{map, call_data}
 use Rattle.plan_text.proofs.AmongLemmas.{none-follows, items_of_list}
 use Rattle.plan_text.proofs.read_scripts.script_of.Goals as goal
 

@@ -1,8 +1,5 @@
--- The values read so far are those of the scripts, whose calls may stand there.
-use Rattle.std.proofs.Common.{◌≡◌, map, take}
-use Rattle.std.specs.Prelude.{IsTrue}
-use Rattle.serde_json.specs.View.{view}
-use Rattle.plan_text.specs.Scripts.{script_data, are_scripts}
+-- The values read so far are those of the scripts, whose calls may be there.
+use Rattle.plan_text.proofs.Common.{◌≡◌, map, take, IsTrue, view, script_data, are_scripts}
 use Rattle.plan_text.proofs.read_scripts.scripts_among.Given as goal
 
 abbrev pub invariant-loop-item : goal.invariant-loop-item

@@ -1,6 +1,5 @@
 -- The items of an array that spells scripts spell them one by one.
-use Rattle.std.proofs.Common.{map}
-use Rattle.plan_text.specs.Scripts.{script_data}
+use Rattle.plan_text.proofs.Common.{map, script_data}
 use Rattle.plan_text.proofs.AmongLemmas.{none-follows, items_of_list}
 use Rattle.plan_text.proofs.read_scripts.scripts_of.Goals as goal
 

@@ -1,7 +1,5 @@
-use Rattle.std.proofs.Common.{arith, rules, ◌≡◌}
+use Rattle.pool.proofs.Common.{arith, rules, ◌≡◌, All-push, left_of}
 use Rattle.std.proofs.lemmas.Grind.{common_steps}
-use Rattle.std.proofs.lemmas.List.Elements.{All-push}
-use Rattle.tickets.specs.Hands.{left_of}
 use Rattle.pool.proofs.DealLemmas.{left_after, left_last}
 use Rattle.pool.proofs.hands.deal.Goals as goal
 

@@ -1,5 +1,4 @@
-use Rattle.std.proofs.Common.{◌≡◌, ◌+◌, ◌*◌, All, vec_len}
-use Rattle.tickets.specs.Hands.{counter, counter_of, left_of}
+use Rattle.pool.proofs.Common.{◌≡◌, ◌+◌, ◌*◌, All, vec_len, counter, counter_of, left_of}
 use Rattle.pool.proofs.hands.deal.Given as goal
 
 abbrev pub invariant-loop : goal.invariant-loop

@@ -1,10 +1,8 @@
-use Rattle.std.proofs.Common.{◌≡◌, length, arith}
-use Rattle.std.proofs.lemmas.List.{nil_from_length}
-use Rattle.search.specs.Exact.{IsExactAnswer}
+use Rattle.pool.proofs.Common.{◌≡◌, length, arith, nil_from_length, IsExactAnswer}
 use Rattle.pool.proofs.KnownLemmas.{IsHalfKnown-next, IsHalfKnown-known, IsHalfKnown-found, IsHalfKnown-all}
 use Rattle.pool.proofs.PassedLemmas.{passed_known, passed_rest, passed_more, all_passed}
-use Rattle.pool.proofs.known.complete.Goals as goal
 use Rattle.pool.proofs.known.complete.Goals.{in-Some-answer, in-None-answer+in_ok-found-in-None-answer}
+use Rattle.pool.proofs.known.complete.Goals as goal
 
 pub enter_and_search-requires-clause-known : goal.enter_and_search-requires-clause-known
 enter_and_search-requires-clause-known g c =

@@ -1,8 +1,4 @@
-use Rattle.std.proofs.Common.{length}
-use Rattle.std.specs.Prelude.{EachIndex}
-use Rattle.std.specs.Vec.Iter.{into_iter_items}
-use Rattle.search.specs.Exact.{IsExactAnswer}
-use Rattle.pool.specs.Known.{WerePassedIfKnown}
+use Rattle.pool.proofs.Common.{length, EachIndex, into_iter_items, IsExactAnswer, WerePassedIfKnown}
 use Rattle.pool.proofs.KnownLemmas.{IsHalfKnown}
 use Rattle.pool.proofs.known.complete.Given as goal
 

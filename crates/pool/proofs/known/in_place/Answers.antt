@@ -1,6 +1,4 @@
-use Rattle.std.proofs.Common.{◌≡◌, [], arith}
-use Rattle.std.proofs.lemmas.List.{nil_from_length}
-use Rattle.std.specs.Vec.Iter.{into_iter_items}
+use Rattle.pool.proofs.Common.{◌≡◌, [], arith, nil_from_length, into_iter_items}
 use Rattle.pool.proofs.KnownLemmas.{next_is_put}
 use Rattle.pool.proofs.known.in_place.Goals as goal
 

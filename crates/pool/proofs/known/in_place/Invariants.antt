@@ -1,6 +1,5 @@
-use Rattle.std.proofs.Common.{replicate}
+use Rattle.pool.proofs.Common.{replicate, into_iter_items}
 use Rattle.std.specs.declared.option.Option.TheVariants.{None}
-use Rattle.std.specs.Vec.Iter.{into_iter_items}
 use Rattle.pool.proofs.KnownLemmas.{IsStillToPut}
 use Rattle.pool.proofs.known.in_place.Given as goal
 

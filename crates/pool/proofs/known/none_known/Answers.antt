@@ -1,5 +1,4 @@
-use Rattle.std.proofs.Common.{◌∷◌, [], ◌++◌, None, ap, ◌∙◌}
-use Rattle.std.proofs.lemmas.List.{replicate-append-replicate}
+use Rattle.pool.proofs.Common.{◌∷◌, [], ◌++◌, None, ap, ◌∙◌, replicate-append-replicate}
 use Rattle.pool.proofs.known.none_known.Goals as goal
 
 pub loop-preserved : goal.loop-preserved

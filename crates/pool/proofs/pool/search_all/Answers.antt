@@ -1,8 +1,4 @@
-use Rattle.std.proofs.Common.{length}
-use Rattle.std.proofs.lemmas.Result.{IfOk-weaker}
-use Rattle.std.specs.List.{AllZip}
-use Rattle.search.specs.Exact.{IsExactAnswer}
-use Rattle.search.specs.Found.{IsSoundAnswer}
+use Rattle.pool.proofs.Common.{length, IfOk-weaker, AllZip, IsExactAnswer, IsSoundAnswer}
 use Rattle.pool.proofs.KnownLemmas.{none_wrong, exact_after, all_sound}
 use Rattle.pool.proofs.PassedLemmas.{none_passed, passed_after}
 use Rattle.pool.proofs.pool.search_all.Goals as goal

@@ -1,5 +1,4 @@
-use Rattle.std.proofs.Common.{length}
-use Rattle.search.specs.Exact.{IsExactAnswer}
+use Rattle.pool.proofs.Common.{length, IsExactAnswer}
 use Rattle.pool.proofs.KnownLemmas.{none_wrong}
 use Rattle.pool.proofs.PassedLemmas.{none_passed}
 use Rattle.pool.proofs.pool.search_alone.Goals as goal

@@ -1,6 +1,4 @@
-use Rattle.std.proofs.Common.{All, IfOk}
-use Rattle.std.proofs.lemmas.List.Elements.{All-head, All-rest}
-use Rattle.pool.specs.Answers.{AnswersOneOf}
+use Rattle.pool.proofs.Common.{All, IfOk, All-head, All-rest, AnswersOneOf}
 use Rattle.pool.proofs.GatherLemmas.{All-gathered}
 use Rattle.pool.proofs.pool.search_apart.Goals as goal
 

@@ -1,6 +1,4 @@
-use Rattle.std.proofs.Common.{All, IfOk}
-use Rattle.std.specs.Vec.Iter.{into_iter_items}
-use Rattle.pool.specs.Answers.{AnswersOneOf}
+use Rattle.pool.proofs.Common.{All, IfOk, into_iter_items, AnswersOneOf}
 use Rattle.pool.proofs.pool.search_apart.Given as goal
 
 abbrev pub invariant-loop-answers : goal.invariant-loop-answers

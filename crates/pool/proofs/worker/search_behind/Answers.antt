@@ -1,7 +1,4 @@
-use Rattle.std.proofs.lemmas.List.Elements.{at_read}
-use Rattle.std.proofs.lemmas.Result.{IfOk-weaker}
-use Rattle.std.specs.List.{HoldsAt}
-use Rattle.search.specs.Exact.{IsExactAnswer}
+use Rattle.pool.proofs.Common.{at_read, IfOk-weaker, HoldsAt, IsExactAnswer}
 use Rattle.pool.proofs.worker.search_behind.Goals as goal
 
 pub returns : goal.returns

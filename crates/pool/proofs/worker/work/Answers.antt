@@ -1,6 +1,4 @@
-use Rattle.std.proofs.Common.{rules}
-use Rattle.std.proofs.lemmas.List.Elements.{All-push}
-use Rattle.pool.specs.Answers.{AnswersOneOf}
+use Rattle.pool.proofs.Common.{rules, All-push, AnswersOneOf}
 use Rattle.pool.proofs.worker.work.Goals as goal
 
 pub loop-alloc-preserved : goal.loop-alloc-preserved

@@ -1,6 +1,4 @@
-use Rattle.std.proofs.Common.{◌≡◌, All}
-use Rattle.tickets.specs.Hands.{counter, counter_of, left_of}
-use Rattle.pool.specs.Answers.{AnswersOneOf}
+use Rattle.pool.proofs.Common.{◌≡◌, All, counter, counter_of, left_of, AnswersOneOf}
 use Rattle.pool.proofs.worker.work.Given as goal
 
 abbrev pub invariant-loop-alloc : goal.invariant-loop-alloc

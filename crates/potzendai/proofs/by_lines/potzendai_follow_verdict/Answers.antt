@@ -1,8 +1,4 @@
-use Rattle.std.proofs.Common.{Option, sym, subst}
-use Rattle.stream_text.specs.Cuts.{lines_of}
-use Rattle.stream_engines.specs.Handed.{IsHanded}
-use Rattle.stream_engines.specs.declared.handed.LineFollower.{LineFollower}
-use Rattle.potzendai.specs.Follows.{Follows}
+use Rattle.potzendai.proofs.Common.{Option, sym, subst, lines_of, IsHanded, LineFollower, Follows}
 use Rattle.potzendai.proofs.FollowLemmas.{told_yes, told_no}
 use Rattle.potzendai.proofs.by_lines.potzendai_follow_verdict.Goals as goal
 

@@ -1,6 +1,4 @@
-use Rattle.std.proofs.Common.{subst}
-use Rattle.stream_engines.specs.Handed.{IsHanded}
-use Rattle.stream_engines.specs.declared.handed.LineFollower.{LineFollower}
+use Rattle.potzendai.proofs.Common.{subst, IsHanded, LineFollower}
 use Rattle.potzendai.proofs.by_lines.tell_follower.Goals as goal
 
 pub returns-in-Going : goal.returns-in-Going

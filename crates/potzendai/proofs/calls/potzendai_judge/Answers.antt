@@ -1,5 +1,4 @@
-use Rattle.std.proofs.Common.{length, ap, sym, ◌∙◌}
-use Rattle.potzendai.specs.Calls.{written}
+use Rattle.potzendai.proofs.Common.{length, ap, sym, ◌∙◌, written}
 use Rattle.potzendai.proofs.CallLemmas.{IsCall-outcome, without_note, yes_is_linearizable, no_is_unlinearizable}
 use Rattle.potzendai.proofs.calls.potzendai_judge.Goals as goal
 

@@ -1,6 +1,5 @@
-use Rattle.std.proofs.Common.{◌≡◌, ◌-◌, ◌++◌, List, [], ℕ, length, take, drop, refl, ap, ◌∙◌, arith}
-use Rattle.std.proofs.lemmas.List.{append-nil, take_all, drop_all, length-drop}
-use Rattle.potzendai.specs.Calls.{written}
+use Rattle.potzendai.proofs.Common.{◌≡◌, ◌-◌, ◌++◌, List, [], ℕ, length, take, drop, refl, ap, ◌∙◌, arith, append-nil, take_all, drop_all}
+use Rattle.potzendai.proofs.Common.{length-drop, written}
 use Rattle.potzendai.proofs.RoomLemmas.{written-more}
 use Rattle.potzendai.proofs.told.write_both.Goals as goal
 

@@ -1,6 +1,4 @@
-use Rattle.std.proofs.Common.{◌≡◌, take}
-use Rattle.std.specs.Prelude.{flat_map}
-use Rattle.recorder.specs.Passes.{log_of}
+use Rattle.recorder.proofs.Common.{◌≡◌, take, flat_map, log_of}
 use Rattle.recorder.proofs.closing.all_events.Given as goal
 
 abbrev pub invariant-loop-pass : goal.invariant-loop-pass

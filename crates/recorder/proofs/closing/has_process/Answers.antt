@@ -1,7 +1,4 @@
-use Rattle.std.proofs.Common.{◌≢◌, subst}
-use Rattle.std.specs.Prelude.{All}
-use Rattle.std.proofs.lemmas.List.{take_all}
-use Rattle.recorder.specs.Passes.{process_number}
+use Rattle.recorder.proofs.Common.{◌≢◌, subst, All, take_all, process_number}
 use Rattle.recorder.proofs.PassLemmas.{none-here}
 use Rattle.recorder.proofs.closing.has_process.Goals as goal
 

@@ -1,6 +1,4 @@
-use Rattle.std.proofs.Common.{◌≢◌, take}
-use Rattle.std.specs.Prelude.{All}
-use Rattle.recorder.specs.Passes.{process_number}
+use Rattle.recorder.proofs.Common.{◌≢◌, take, All, process_number}
 use Rattle.recorder.proofs.closing.has_process.Given as goal
 
 abbrev pub invariant-loop-pass : goal.invariant-loop-pass

@@ -1,7 +1,4 @@
-use Rattle.std.proofs.Common.{◌≡◌, map, subst, ⊎_elim, arith, rules}
-use Rattle.std.specs.Prelude.{Contains}
-use Rattle.std.proofs.lemmas.Bool.{cases_lt}
-use Rattle.recorder.specs.Passes.{process_number}
+use Rattle.recorder.proofs.Common.{◌≡◌, map, subst, ⊎_elim, arith, rules, Contains, cases_lt, process_number}
 use Rattle.recorder.proofs.closing.has_processes.Goals as goal
 
 pub loop-process-preserved : goal.loop-process-preserved

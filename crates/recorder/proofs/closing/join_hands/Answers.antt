@@ -1,12 +1,5 @@
-use Rattle.std.proofs.Common.{◌≡◌, ◌++◌, ◌∷◌, length, subst, sym, ap, ◌∙◌, arith, append_assoc}
-use Rattle.std.specs.Prelude.{flat_map, sum_by, All}
-use Rattle.std.proofs.lemmas.List.{length-append}
-use Rattle.std.proofs.lemmas.List.Elements.{All-rest, All-head, All-tail}
-use Rattle.std.proofs.lemmas.List.Concat.{flat_map-cons}
-use Rattle.std.proofs.lemmas.List.Sums.{sum_by-cons}
-use Rattle.std.specs.Vec.Iter.{into_iter_items}
-use Rattle.tickets.specs.Hands.{counter, drawn_by}
-use Rattle.recorder.specs.Passes.{source_of, stamps_of, draws_of}
+use Rattle.recorder.proofs.Common.{◌≡◌, ◌++◌, ◌∷◌, length, subst, sym, ap, ◌∙◌, arith, append_assoc, flat_map, sum_by, All, length-append, All-rest}
+use Rattle.recorder.proofs.Common.{All-head, All-tail, flat_map-cons, sum_by-cons, into_iter_items, counter, drawn_by, source_of, stamps_of, draws_of}
 use Rattle.recorder.proofs.closing.join_hands.Goals as goal
 
 pub loop-pass-preserved : goal.loop-pass-preserved

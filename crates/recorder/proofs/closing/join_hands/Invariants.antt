@@ -1,9 +1,6 @@
-use Rattle.std.proofs.Common.{◌≡◌, ◌+◌, ◌++◌, All}
-use Rattle.std.specs.Prelude.{flat_map, sum_by}
-use Rattle.std.specs.Vec.Iter.{into_iter_items}
-use Rattle.tickets.specs.Hands.{counter, counter_of, drawn_by, share_of}
-use Rattle.recorder.specs.Passes.{source_of, stamps_of, draws_of}
-use Rattle.recorder.specs.Recorders.{all_stamps}
+use Rattle.recorder.proofs.Common.{◌≡◌, ◌+◌, ◌++◌, flat_map, sum_by, into_iter_items, counter, counter_of, drawn_by, share_of, source_of, stamps_of}
+use Rattle.recorder.proofs.Common.{draws_of, all_stamps}
+use Rattle.std.proofs.Common.{All}
 use Rattle.recorder.proofs.closing.join_hands.Given as goal
 
 abbrev pub invariant-loop-pass : goal.invariant-loop-pass

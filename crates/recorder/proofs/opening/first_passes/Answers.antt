@@ -1,10 +1,5 @@
-use Rattle.std.proofs.Common.{◌≡◌, ◌+◌, ◌*◌, ◌≤◌, ◌<◌, ◌++◌, ◌∷◌, [], map, ap, ◌∙◌, arith, rules}
-use Rattle.std.specs.List.{range_with_len}
-use Rattle.std.proofs.lemmas.List.{map-append}
-use Rattle.std.proofs.lemmas.List.Elements.{All-push}
-use Rattle.std.proofs.Math.Nat.{mul-le-mul_right}
-use Rattle.tickets.specs.Hands.{counter, counter_of}
-use Rattle.recorder.specs.Passes.{process_number, calls_of, log_of, source_of}
+use Rattle.recorder.proofs.Common.{◌≡◌, ◌+◌, ◌*◌, ◌≤◌, ◌<◌, ◌++◌, ◌∷◌, [], map, ap, ◌∙◌, arith, rules, range_with_len, map-append, All-push}
+use Rattle.recorder.proofs.Common.{mul-le-mul_right, counter, counter_of, process_number, calls_of, log_of, source_of}
 use Rattle.recorder.proofs.OpenLemmas.{range-push}
 use Rattle.recorder.proofs.opening.first_passes.Goals as goal
 

@@ -1,7 +1,6 @@
-use Rattle.std.proofs.Common.{◌≡◌, ◌+◌, ◌*◌, ◌<◌, [], map, All}
-use Rattle.std.specs.List.{range_with_len}
-use Rattle.tickets.specs.Hands.{left_of, counter, counter_of}
-use Rattle.recorder.specs.Passes.{process_number, calls_of, log_of, source_of}
+use Rattle.recorder.proofs.Common.{◌≡◌, ◌+◌, ◌*◌, ◌<◌, [], map, range_with_len, left_of, counter, counter_of, process_number, calls_of, log_of}
+use Rattle.recorder.proofs.Common.{source_of}
+use Rattle.std.proofs.Common.{All}
 use Rattle.recorder.proofs.opening.first_passes.Given as goal
 
 abbrev pub invariant-loop-process : goal.invariant-loop-process

@@ -1,6 +1,5 @@
-use Rattle.art_core.specs.Core.{opened_on}
-use Rattle.replay_text.specs.Replays.{plan_in}
-use Rattle.replay_text.specs.ReplayViews.{shown}
+use Rattle.replays.proofs.Common.{opened_on, plan_in}
+use Rattle.plan_text.specs.ReplayViews.{shown}
 use Rattle.replays.proofs.PlayLemmas.{if_ok, if_err, plays-as, unplayed-as}
 use Rattle.replays.proofs.play.play.Goals as goal
 

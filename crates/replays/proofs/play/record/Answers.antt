@@ -1,7 +1,4 @@
-use Rattle.std.proofs.Common.{◌∙◌, ap, subst, sym, refl, arith}
-use Rattle.map_object.specs.MapObject.{Contents}
-use Rattle.art_core.specs.Core.{history_of}
-use Rattle.replays.specs.Played.{IsUnrecorded, is_memory}
+use Rattle.replays.proofs.Common.{◌∙◌, ap, subst, sym, refl, arith, Contents, history_of, IsUnrecorded, is_memory}
 use Rattle.replays.proofs.PlayLemmas.{stops-at, unrecorded}
 use Rattle.replays.proofs.play.record.Goals as goal
 

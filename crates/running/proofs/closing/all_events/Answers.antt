@@ -1,7 +1,4 @@
-use Rattle.std.proofs.Common.{[], ◌∷◌, ◌++◌, take, sym, ap, ◌∙◌}
-use Rattle.std.specs.Prelude.{flat_map}
-use Rattle.std.proofs.lemmas.List.{take_more, take_all, flat_map_more}
-use Rattle.running.specs.Fitting.{Run}
+use Rattle.running.proofs.Common.{[], ◌∷◌, ◌++◌, take, sym, ap, ◌∙◌, flat_map, take_more, take_all, flat_map_more, Run}
 use Rattle.running.proofs.closing.all_events.Goals as goal
 
 pub loop-runner-preserved : goal.loop-runner-preserved

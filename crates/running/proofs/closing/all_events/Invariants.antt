@@ -1,6 +1,4 @@
-use Rattle.std.proofs.Common.{◌≡◌, take}
-use Rattle.std.specs.Prelude.{flat_map}
-use Rattle.running.specs.Fitting.{Run}
+use Rattle.running.proofs.Common.{◌≡◌, take, flat_map, Run}
 use Rattle.running.proofs.closing.all_events.Given as goal
 
 abbrev pub invariant-loop-runner : goal.invariant-loop-runner

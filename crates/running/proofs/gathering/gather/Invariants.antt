@@ -1,6 +1,4 @@
-use Rattle.std.proofs.Common.{◌≡◌, ◌+◌, ◌≤◌}
-use Rattle.std.specs.Prelude.{vec_len, vec_capacity}
-use Rattle.art_shared.specs.Views.{merge}
+use Rattle.running.proofs.Common.{◌≡◌, ◌+◌, ◌≤◌, vec_len, vec_capacity, merge}
 use Rattle.running.proofs.gathering.gather.Given as goal
 
 abbrev pub invariant-loop-taken : goal.invariant-loop-taken

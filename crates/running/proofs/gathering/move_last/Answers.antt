@@ -1,5 +1,4 @@
-use Rattle.std.proofs.Common.{ap, sym, ◌∙◌}
-use Rattle.art_shared.specs.Views.{merge}
+use Rattle.running.proofs.Common.{ap, sym, ◌∙◌, merge}
 use Rattle.running.proofs.GatherLemmas.{merge-last}
 use Rattle.running.proofs.gathering.move_last.Goals as goal
 

@@ -1,6 +1,4 @@
-use Rattle.std.proofs.Common.{◌≡◌, ◌++◌, take, drop}
-use Rattle.art_shared.specs.Views.{placed}
-use Rattle.running.specs.declared.runner.Runner.{Runner}
+use Rattle.running.proofs.Common.{◌≡◌, ◌++◌, take, drop, placed, Runner}
 use Rattle.running.proofs.gathering.place_for.Given as goal
 
 abbrev pub invariant-loop-place : goal.invariant-loop-place

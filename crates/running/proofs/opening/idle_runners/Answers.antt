@@ -1,6 +1,4 @@
-use Rattle.std.proofs.Common.{◌+◌, map, refl, sym, subst, arith}
-use Rattle.std.specs.List.{range_with_len}
-use Rattle.running.specs.Fitting.{Fit}
+use Rattle.running.proofs.Common.{◌+◌, map, refl, sym, subst, arith, range_with_len, Fit}
 use Rattle.running.proofs.FitLemmas.{first_process, fits-idle, fit-idle-more}
 use Rattle.running.proofs.opening.idle_runners.Goals as goal
 

@@ -1,8 +1,4 @@
-use Rattle.std.proofs.Common.{◌≡◌, ◌≤◌, map}
-use Rattle.std.specs.Prelude.{vec_len, vec_capacity}
-use Rattle.std.specs.List.{range_with_len}
-use Rattle.art_core.specs.Core.{idle}
-use Rattle.running.specs.Fitting.{Fit}
+use Rattle.running.proofs.Common.{◌≡◌, ◌≤◌, map, vec_len, vec_capacity, range_with_len, idle, Fit}
 use Rattle.running.proofs.opening.idle_runners.Given as goal
 
 abbrev pub invariant-loop-number : goal.invariant-loop-number

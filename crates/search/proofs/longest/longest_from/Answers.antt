@@ -1,6 +1,4 @@
-use Rattle.std.proofs.Common.{ap, ◌∙◌, arith}
-use Rattle.std.specs.Prelude.{map, slice_index}
-use Rattle.search.specs.Standing.{places}
+use Rattle.search.proofs.Common.{ap, ◌∙◌, arith, map, slice_index, places}
 use Rattle.search.proofs.LongestLemmas.{as_long_as, as_long, longest-open, longest-kept, longest-longer, longest-most}
 use Rattle.search.proofs.longest.longest_from.Goals as goal
 

@@ -1,10 +1,9 @@
-use Rattle.std.proofs.Common.{◌+◌, ◌≤◌, length}
-use Rattle.search.specs.Standing.{Stands}
-use Rattle.search.specs.Walk.{rest_of}
+use Rattle.search.proofs.Common.{◌+◌, ◌≤◌, length, Stands, rest_of}
 use Rattle.search.proofs.LongestLemmas.{IsLongestSoFar}
 use Rattle.search.proofs.longest.longest_from.Given as goal
 
--- the walk stands somewhere, within the budget, and of the configurations that it visited none has more calls taken than the longest front
+-- the walk is in some state, within the budget, and of the configurations that it visited none has
+-- more calls taken than the longest front
 abbrev pub invariant-loop-longest : goal.invariant-loop-longest
 invariant-loop-longest l =
     Stands l.segment.start l.segment.calls l.standing × IsLongestSoFar l.segment l.standing l.longest.items

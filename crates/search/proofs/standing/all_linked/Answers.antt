@@ -1,12 +1,7 @@
-use Rattle.std.proofs.Common.{◌≡◌, ◌+◌, ◌<◌, [], length, sym, subst, arith}
-use Rattle.std.specs.Prelude.{◌≢◌}
-use Rattle.std.specs.List.{range_with_len}
-use Rattle.std.proofs.lemmas.List.Elements.{All-weaker}
-use Rattle.list_laws.proofs.Lists.{All-from_contains}
-use Rattle.list_laws.proofs.RisingLemmas.{IsStrictlyIncreasing-range}
+use Rattle.search.proofs.Common.{◌≡◌, ◌+◌, ◌<◌, [], length, sym, subst, arith, ◌≢◌, range_with_len, All-weaker, All-from_contains}
+use Rattle.search.proofs.Common.{IsStrictlyIncreasing-range, IsChain}
 use Rattle.search.proofs.EarliestLemmas.{distinct_from_increasing}
 use Rattle.search.proofs.LinkLemmas.{range_below}
-use Rattle.search.specs.Links.{IsChain}
 use Rattle.search.proofs.OpenLemmas.{range_push, IsChain-none, IsChain-more}
 use Rattle.search.proofs.standing.all_linked.Goals as goal
 

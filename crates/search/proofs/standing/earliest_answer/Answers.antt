@@ -1,8 +1,4 @@
-use Rattle.std.proofs.Common.{◌≡◌, ◌<◌, Some, None, length, refl, sym, ap, ◌∙◌, arith}
-use Rattle.std.specs.Prelude.{slice_get}
-use Rattle.std.proofs.lemmas.Option.{slice_get_read}
-use Rattle.events.specs.declared.operation.Operation.{Operation}
-use Rattle.search.specs.Standing.{places}
+use Rattle.search.proofs.Common.{◌≡◌, ◌<◌, Some, None, length, refl, sym, ap, ◌∙◌, arith, slice_get, slice_get_read, Operation, places}
 use Rattle.search.proofs.WalkLemmas.{earliest-none, earliest-first}
 use Rattle.search.proofs.standing.earliest_answer.Goals as goal
 

@@ -1,11 +1,5 @@
-use Rattle.std.proofs.Common.{◌≡◌, ◌-◌, ◌<◌, List, [], ◌∷◌, ◌++◌, length, take, refl, sym, ap, ◌∙◌, subst, inl, arith}
-use Rattle.std.specs.Prelude.{slice_index, vec_len}
-use Rattle.std.proofs.lemmas.List.{append-nil, length-set}
-use Rattle.orders.specs.Orders.{IsOrder}
-use Rattle.search.specs.declared.standing.Level.{Level}
-use Rattle.search.specs.Cursor.{StandsAtCursor}
-use Rattle.search.specs.Links.{put_back}
-use Rattle.search.specs.Standing.{places, untried, StandsWith}
+use Rattle.search.proofs.Common.{◌≡◌, ◌-◌, ◌<◌, List, [], ◌∷◌, ◌++◌, length, take, refl, sym, ap, ◌∙◌, subst, inl, arith, slice_index, vec_len}
+use Rattle.search.proofs.Common.{append-nil, length-set, IsOrder, Level, StandsAtCursor, put_back, places, untried, StandsWith}
 use Rattle.search.proofs.WalkLemmas.{IsExhausted-from_past, below-popped, StandsWith-back, untried-back, StandsWith-same}
 use Rattle.search.proofs.standing.go_back.Goals as goal
 

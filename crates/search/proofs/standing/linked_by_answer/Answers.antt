@@ -1,6 +1,4 @@
-use Rattle.std.proofs.Common.{◌≡◌, ◌+◌, ◌<◌, ◌≤◌, [], length, take, sym, subst}
-use Rattle.std.proofs.lemmas.List.{take_all}
-use Rattle.search.specs.Links.{IsChain}
+use Rattle.search.proofs.Common.{◌≡◌, ◌+◌, ◌<◌, ◌≤◌, [], length, take, sym, subst, take_all, IsChain}
 use Rattle.search.proofs.OpenLemmas.{IsChain-none, IsChain-next, node_within}
 use Rattle.search.proofs.standing.linked_by_answer.Goals as goal
 

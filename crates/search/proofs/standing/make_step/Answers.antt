@@ -1,13 +1,9 @@
-use Rattle.std.proofs.Common.{◌≡◌, ℕ, ◌<◌, ◌≤◌, List, Some, length, refl, sym, ◌∙◌, subst, arith}
-use Rattle.std.specs.Prelude.{slice_get}
-use Rattle.std.proofs.lemmas.Option.{slice_get_read, same_Some, slice_get_within}
-use Rattle.events.specs.declared.operation.Operation.{Operation}
-use Rattle.search.specs.Remaining.{IsEarliestAnswer}
-use Rattle.search.specs.Standing.{places}
+use Rattle.search.proofs.Common.{◌≡◌, ℕ, ◌<◌, ◌≤◌, List, Some, length, refl, sym, ◌∙◌, subst, arith, slice_get, slice_get_read, same_Some}
+use Rattle.search.proofs.Common.{slice_get_within, Operation, IsEarliestAnswer, places}
 use Rattle.search.proofs.EarliestLemmas.{IsOrder-from_none, IsOrder-not_yet, preceded_from_earliest}
 use Rattle.search.proofs.WalkLemmas.{cursor-past}
-use Rattle.search.proofs.standing.make_step.Goals as goal
 use Rattle.search.proofs.standing.make_step.Goals.{else-next-calls-via-then-next-calls+else-calls-next, else-next-calls-via-else-next-calls}
+use Rattle.search.proofs.standing.make_step.Goals as goal
 
 -- a call at a place was invoked late where the one that was read there was
 late : (calls : List Operation) (n answered : ℕ) (a b : Operation) → slice_get calls n ≡ Some a → slice_get calls n ≡ Some b

@@ -1,5 +1,4 @@
-use Rattle.std.proofs.Common.{sym, subst, arith}
-use Rattle.search.specs.Standing.{IsByAnswer}
+use Rattle.search.proofs.Common.{sym, subst, arith, IsByAnswer}
 use Rattle.search.proofs.OpenLemmas.{IsByAnswer-nil, IsByAnswer-insert}
 use Rattle.search.proofs.standing.order_of_answers.Goals as goal
 

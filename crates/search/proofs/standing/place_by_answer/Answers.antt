@@ -1,7 +1,4 @@
-use Rattle.std.proofs.Common.{◌≡◌, ◌-◌, ◌<◌, Some, length, get_or, refl, arith}
-use Rattle.std.specs.Prelude.{slice_get}
-use Rattle.std.proofs.lemmas.Option.{slice_get_read}
-use Rattle.std.proofs.lemmas.List.Elements.{All-contains, Contains-get_or}
+use Rattle.search.proofs.Common.{◌≡◌, ◌-◌, ◌<◌, Some, length, get_or, refl, arith, slice_get, slice_get_read, All-contains, Contains-get_or}
 use Rattle.search.proofs.OpenLemmas.{IsNoLater-from_read, passed_back, stopped_back}
 use Rattle.search.proofs.standing.place_by_answer.Goals as goal
 

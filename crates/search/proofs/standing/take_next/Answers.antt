@@ -1,20 +1,11 @@
-use Rattle.std.proofs.Common.{Result, Ok, Err, ◌≡◌, false, ◌+◌, [], ◌∷◌, ◌++◌, Some, length, refl, sym, ap, ◌∙◌, subst, inl}
-use Rattle.std.proofs.Common.{inr, arith}
-use Rattle.std.specs.Prelude.{slice_get, slice_index, Contains, OnOk}
-use Rattle.std.proofs.lemmas.List.{length-append}
-use Rattle.std.proofs.lemmas.Option.{slice_get_read}
-use Rattle.configurations.specs.Configurations.{LeadsTo}
+use Rattle.search.proofs.Common.{Result, Ok, Err, ◌≡◌, false, ◌+◌, [], ◌∷◌, ◌++◌, Some, length, refl, sym, ap, ◌∙◌, subst, inl, inr, arith, slice_get}
+use Rattle.search.proofs.Common.{slice_index, Contains, OnOk, length-append, slice_get_read, LeadsTo, after_call, Level, unlinked, Standing, places}
+use Rattle.search.proofs.Common.{HasMoved, IsPushed}
 use Rattle.memo.specs.Taking.{after_one}
 use Rattle.memo.proofs.TakingLemmas.{Contains-with_place, with_place-rises}
-use Rattle.orders.specs.Orders.{after_call}
-use Rattle.search.specs.declared.standing.Level.{Level}
-use Rattle.search.specs.Links.{unlinked}
-use Rattle.search.specs.declared.standing.Standing.{Standing}
-use Rattle.search.specs.Standing.{places, HasMoved, IsPushed}
 use Rattle.search.proofs.MemoLemmas.{not_new}
-use Rattle.search.proofs.WalkLemmas.{StandsWith-passed, untried-passed, LeadsTo-taken, cursor-seen, StandsWith-push}
-use Rattle.search.proofs.WalkLemmas.{untried-pushed}
-use Rattle.search.proofs.WalkLemmas.{places-push, StandsWith-same}
+use Rattle.search.proofs.WalkLemmas.{StandsWith-passed, untried-passed, LeadsTo-taken, cursor-seen, StandsWith-push, untried-pushed, places-push}
+use Rattle.search.proofs.WalkLemmas.{StandsWith-same}
 use Rattle.search.proofs.standing.take_next.Goals as goal
 
 -- a result that is weaker said

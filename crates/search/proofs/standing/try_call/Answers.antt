@@ -1,7 +1,4 @@
-use Rattle.std.proofs.Common.{◌≡◌, Some, length, refl, inl, arith}
-use Rattle.std.specs.Prelude.{slice_get}
-use Rattle.std.proofs.lemmas.Bool.{iff_false}
-use Rattle.std.proofs.lemmas.Option.{slice_get_read}
+use Rattle.search.proofs.Common.{◌≡◌, Some, length, refl, inl, arith, slice_get, iff_false, slice_get_read}
 use Rattle.search.proofs.WalkLemmas.{cursor-illegal, StandsWith-passed, untried-passed}
 use Rattle.search.proofs.standing.try_call.Goals as goal
 

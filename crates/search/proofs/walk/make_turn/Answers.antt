@@ -1,14 +1,7 @@
-use Rattle.std.proofs.Common.{◌≡◌, ℕ, ◌+◌, ◌-◌, ◌<◌, ◌≤◌, [], ◌∷◌, length, refl, sym, subst, ap, ◌∙◌, ⊎_elim, arith}
-use Rattle.std.proofs.lemmas.List.{length-append}
-use Rattle.std.specs.Prelude.{min, map, slice_index}
+use Rattle.search.proofs.Common.{◌≡◌, ℕ, ◌+◌, ◌-◌, ◌<◌, ◌≤◌, [], ◌∷◌, length, refl, sym, subst, ap, ◌∙◌, ⊎_elim, arith, length-append, min, map}
+use Rattle.search.proofs.Common.{slice_index, IsOrder, Standing, SegmentView, HasCount, HasMetEnough, places, Stands, HasMoved, IsExhausted, walk_at}
+use Rattle.search.proofs.Common.{GoesOn}
 use Rattle.search.proofs.CountLemmas.{HasCount-unique}
-use Rattle.orders.specs.Orders.{IsOrder}
-use Rattle.search.specs.declared.standing.Standing.{Standing}
-use Rattle.segments.specs.SegmentView.{SegmentView}
-use Rattle.search.specs.LeastCounts.{HasCount}
-use Rattle.search.specs.LongestFront.{HasMetEnough}
-use Rattle.search.specs.Standing.{places, Stands, HasMoved, IsExhausted}
-use Rattle.search.specs.Walk.{walk_at, GoesOn}
 use Rattle.search.proofs.CursorLemmas.{counted_at_cursor, met_in_turn, CountIsAbove-at_cursor, IsLeastOrder-at_cursor, HasCount-at_order}
 use Rattle.search.proofs.walk.make_turn.Goals as goal
 

@@ -1,9 +1,7 @@
-use Rattle.std.proofs.Common.{length}
-use Rattle.search.specs.Standing.{Stands}
-use Rattle.search.specs.Walk.{rest_of}
+use Rattle.search.proofs.Common.{length, Stands, rest_of}
 use Rattle.search.proofs.walk.search_on.Given as goal
 
--- the walk stands somewhere
+-- the walk is in some state
 abbrev pub invariant-loop-found : goal.invariant-loop-found
 invariant-loop-found l = Stands l.segment.start l.segment.calls l.standing
 

@@ -1,6 +1,4 @@
-use Rattle.std.proofs.Common.{◌≡◌, Some, length, get_or, refl}
-use Rattle.std.specs.Prelude.{slice_get}
-use Rattle.std.proofs.lemmas.Option.{slice_get_read}
+use Rattle.segments.proofs.Common.{◌≡◌, Some, length, get_or, refl, slice_get, slice_get_read}
 use Rattle.orders.proofs.OrderLemmas.{calls_at-more}
 use Rattle.segments.proofs.segment.copies_of.Goals as goal
 

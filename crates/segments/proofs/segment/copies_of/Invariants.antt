@@ -1,5 +1,4 @@
-use Rattle.std.proofs.Common.{◌≡◌, take}
-use Rattle.orders.specs.Orders.{calls_at}
+use Rattle.segments.proofs.Common.{◌≡◌, take, calls_at}
 use Rattle.segments.proofs.segment.copies_of.Given as goal
 
 abbrev pub invariant-loop-number : goal.invariant-loop-number

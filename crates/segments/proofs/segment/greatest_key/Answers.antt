@@ -1,6 +1,4 @@
-use Rattle.std.proofs.Common.{ap}
-use Rattle.events.specs.Keys.{high_key}
-use Rattle.list_laws.proofs.NumberLemmas.{greatest_more}
+use Rattle.segments.proofs.Common.{ap, high_key, greatest_more}
 use Rattle.segments.proofs.segment.greatest_key.Goals as goal
 
 pub loop-operation-preserved : goal.loop-operation-preserved

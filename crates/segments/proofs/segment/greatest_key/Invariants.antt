@@ -1,7 +1,4 @@
-use Rattle.std.proofs.Common.{◌≡◌, take}
-use Rattle.std.specs.Prelude.{map}
-use Rattle.list_laws.specs.Lists.{greatest}
-use Rattle.events.specs.Keys.{high_key}
+use Rattle.segments.proofs.Common.{◌≡◌, take, map, greatest, high_key}
 use Rattle.segments.proofs.segment.greatest_key.Given as goal
 
 abbrev pub invariant-loop-operation : goal.invariant-loop-operation

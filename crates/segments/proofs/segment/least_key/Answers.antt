@@ -1,10 +1,7 @@
-use Rattle.std.proofs.Common.{◌≡◌, ℕ, ◌+◌, ◌<◌, List, length, take, map, get_or, ap, arith}
-use Rattle.events.specs.declared.operation.Operation.{Operation}
-use Rattle.list_laws.specs.Lists.{least}
-use Rattle.events.specs.Keys.{low_key}
-use Rattle.list_laws.proofs.NumberLemmas.{least_first, least_more}
-use Rattle.segments.proofs.segment.least_key.Goals as goal
+use Rattle.segments.proofs.Common.{◌≡◌, ℕ, ◌+◌, ◌<◌, List, length, take, get_or, ap, arith, Operation, least, low_key, least_first, least_more}
+use Rattle.std.proofs.Common.{map}
 use Rattle.segments.proofs.segment.least_key.Goals.{then-place-eq0, else-place-eq0}
+use Rattle.segments.proofs.segment.least_key.Goals as goal
 
 -- the least key after the first call
 first : (calls : List Operation) (i : ℕ) (a : Operation) → i ≡ 0 → i < length calls

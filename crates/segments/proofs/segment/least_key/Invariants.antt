@@ -1,7 +1,4 @@
-use Rattle.std.proofs.Common.{◌≡◌, take}
-use Rattle.std.specs.Prelude.{map}
-use Rattle.list_laws.specs.Lists.{least}
-use Rattle.events.specs.Keys.{low_key}
+use Rattle.segments.proofs.Common.{◌≡◌, take, map, least, low_key}
 use Rattle.segments.proofs.segment.least_key.Given as goal
 
 abbrev pub invariant-loop-place : goal.invariant-loop-place

@@ -1,9 +1,7 @@
-use Rattle.std.proofs.Common.{◌≡◌, Some, length, refl, arith}
-use Rattle.std.specs.Prelude.{slice_get}
-use Rattle.std.proofs.lemmas.Option.{slice_get_read}
+use Rattle.segments.proofs.Common.{◌≡◌, Some, length, refl, arith, slice_get, slice_get_read}
 use Rattle.segments.proofs.BelongingLemmas.{BelongBelow-take, BelongBelow-skip, BelongBelow-all}
-use Rattle.segments.proofs.segment.numbers_that_belong.Goals as goal
 use Rattle.segments.proofs.segment.numbers_that_belong.Goals.{then-belongs+in_ok-push, else-belongs}
+use Rattle.segments.proofs.segment.numbers_that_belong.Goals as goal
 
 pub loop-number-preserved : goal.loop-number-preserved
 loop-number-preserved c =

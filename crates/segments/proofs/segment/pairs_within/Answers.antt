@@ -1,11 +1,9 @@
-use Rattle.std.proofs.Common.{◌≡◌, ℕ, ◌+◌, ◌<◌, ◌≤◌, ◌&&◌, false, nat_le, List, [], ◌∷◌, ◌++◌, length, take, get_or, refl, arith}
-use Rattle.std.proofs.lemmas.Bool.{le-leb, lt-leb}
+use Rattle.segments.proofs.Common.{◌≡◌, ℕ, ◌+◌, ◌<◌, ◌≤◌, ◌&&◌, false, nat_le, List, [], ◌∷◌, ◌++◌, length, take, get_or, refl, arith, le-leb, lt-leb}
+use Rattle.segments.proofs.Common.{append-nil, filter_more, within}
 use Rattle.std.proofs.lemmas.Bool.Decides.{nat_tests}
-use Rattle.std.proofs.lemmas.List.{append-nil}
-use Rattle.std.proofs.lemmas.List.Elements.{filter_more}
-use Rattle.map_object.specs.MapObject.{within}
+use Rattle.segments.proofs.segment.pairs_within.Goals.{then-lo-pair+then-pair-hi+in_ok-push, else-lo-pair, else-lo-pair-via-then-lo-pair+else-pair-hi}
+use Rattle.segments.proofs.segment.pairs_within.Goals.{else-lo-pair-via-else-lo-pair}
 use Rattle.segments.proofs.segment.pairs_within.Goals as goal
-use Rattle.segments.proofs.segment.pairs_within.Goals.{then-lo-pair+then-pair-hi+in_ok-push, else-lo-pair, else-lo-pair-via-then-lo-pair+else-pair-hi, else-lo-pair-via-else-lo-pair}
 
 -- the pairs of a range, one pair further: a pair of the range is one more, and another is left out
 module _ (lo hi : ℕ) (pairs : List (ℕ × ℕ)) (i : ℕ) (inside : i < length pairs) where

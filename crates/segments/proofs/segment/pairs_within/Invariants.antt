@@ -1,5 +1,4 @@
-use Rattle.std.proofs.Common.{◌≡◌, take}
-use Rattle.map_object.specs.MapObject.{within}
+use Rattle.segments.proofs.Common.{◌≡◌, take, within}
 use Rattle.segments.proofs.segment.pairs_within.Given as goal
 
 abbrev pub invariant-loop-pair : goal.invariant-loop-pair

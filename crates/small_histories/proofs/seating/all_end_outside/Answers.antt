@@ -1,9 +1,4 @@
-use Rattle.std.proofs.Common.{refl, subst, arith}
-use Rattle.std.specs.Prelude.{All}
-use Rattle.events.specs.declared.operation.Operation.{Operation}
-use Rattle.std.proofs.lemmas.List.{take_all}
-use Rattle.std.proofs.lemmas.List.Elements.{All-more}
-use Rattle.small_histories.specs.Seats.{EndsOutside}
+use Rattle.small_histories.proofs.Common.{refl, subst, arith, All, Operation, take_all, All-more, EndsOutside}
 use Rattle.small_histories.proofs.seating.all_end_outside.Goals as goal
 
 pub loop-call-preserved : goal.loop-call-preserved

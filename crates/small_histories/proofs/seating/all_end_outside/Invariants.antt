@@ -1,6 +1,4 @@
-use Rattle.std.proofs.Common.{take}
-use Rattle.std.specs.Prelude.{All}
-use Rattle.small_histories.specs.Seats.{EndsOutside}
+use Rattle.small_histories.proofs.Common.{take, All, EndsOutside}
 use Rattle.small_histories.proofs.seating.all_end_outside.Given as goal
 
 -- the calls so far end outside

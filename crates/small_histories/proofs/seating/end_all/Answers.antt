@@ -1,7 +1,4 @@
-use Rattle.std.proofs.Common.{◌≡◌, ◌+◌, None, List, length, subst, arith}
-use Rattle.std.specs.Prelude.{All}
-use Rattle.small_histories.specs.Seats.{IsFirstAmong}
-use Rattle.small_histories.specs.declared.seats.Seat.{Seat}
+use Rattle.small_histories.proofs.Common.{◌≡◌, ◌+◌, None, List, length, subst, arith, All, IsFirstAmong, Seat}
 use Rattle.small_histories.proofs.SeatedLemmas.{seated_higher, seated_events}
 use Rattle.small_histories.proofs.StepLemmas.{first_ends}
 use Rattle.small_histories.proofs.seating.end_all.Goals as goal

@@ -1,8 +1,7 @@
-use Rattle.std.proofs.Common.{ℕ, length}
-use Rattle.small_histories.specs.Seats.{AreSeated}
+use Rattle.small_histories.proofs.Common.{ℕ, length, AreSeated}
 use Rattle.small_histories.proofs.seating.end_all.Given as goal
 
--- all calls stand as before, but for some that have ended
+-- all calls are seated as before, except for some that have ended
 abbrev pub invariant-loop-at : goal.invariant-loop-at
 invariant-loop-at l =
     (limit : ℕ) → AreSeated l.calls (length l.calls) limit l.initial.seats → (higher : ℕ) × AreSeated l.calls (length l.calls) higher l.seats

@@ -1,6 +1,4 @@
-use Rattle.std.proofs.Common.{◌<◌, List, subst}
-use Rattle.std.specs.Prelude.{IsSomeAnd, slice_get}
-use Rattle.small_histories.specs.declared.seats.Seat.{Seat}
+use Rattle.small_histories.proofs.Common.{◌<◌, List, subst, IsSomeAnd, slice_get, Seat}
 use Rattle.small_histories.proofs.seating.end_before.Goals as goal
 
 pub loop-at-preserved : goal.loop-at-preserved

@@ -1,8 +1,7 @@
-use Rattle.std.proofs.Common.{ℕ, length}
-use Rattle.small_histories.specs.Seats.{AreSeated}
+use Rattle.small_histories.proofs.Common.{ℕ, length, AreSeated}
 use Rattle.small_histories.proofs.seating.end_before.Given as goal
 
--- the calls stand as before, but for some that have ended
+-- the calls are seated as before, except for some that have ended
 abbrev pub invariant-loop-at : goal.invariant-loop-at
 invariant-loop-at l = (count : ℕ) → AreSeated l.calls count l.place l.initial.seats → AreSeated l.calls count l.place l.seats
 

@@ -1,6 +1,4 @@
-use Rattle.std.proofs.Common.{◌≤◌, ◌∙◌, sym, arith}
-use Rattle.std.proofs.lemmas.Bool.{false≢true}
-use Rattle.small_histories.specs.Seats.{begun_of}
+use Rattle.small_histories.proofs.Common.{◌≤◌, ◌∙◌, sym, arith, false≢true, begun_of}
 use Rattle.small_histories.proofs.SeatedLemmas.{seated_higher}
 use Rattle.small_histories.proofs.StepLemmas.{follows_at, refused_at, begun_rises}
 use Rattle.small_histories.proofs.seating.seat.Goals as goal

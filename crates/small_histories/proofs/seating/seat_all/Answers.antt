@@ -1,6 +1,4 @@
-use Rattle.std.proofs.Common.{◌≡◌, ◌+◌, ℕ, length, subst, arith}
-use Rattle.std.proofs.lemmas.Bool.{MatchBool-at_true}
-use Rattle.small_histories.specs.Seats.{AreSeated, NoEventsHave}
+use Rattle.small_histories.proofs.Common.{◌≡◌, ◌+◌, ℕ, length, subst, arith, MatchBool-at_true, AreSeated, NoEventsHave}
 use Rattle.small_histories.proofs.StepLemmas.{begun_more}
 use Rattle.small_histories.proofs.seating.seat_all.Goals as goal
 

@@ -1,5 +1,4 @@
-use Rattle.std.proofs.Common.{◌≡◌}
-use Rattle.small_histories.specs.Seats.{begun_of, AreSeated}
+use Rattle.small_histories.proofs.Common.{◌≡◌, begun_of, AreSeated}
 use Rattle.small_histories.proofs.seating.seat_all.Given as goal
 
 -- the calls so far are seated

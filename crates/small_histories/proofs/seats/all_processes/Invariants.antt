@@ -1,5 +1,4 @@
-use Rattle.std.proofs.Common.{◌≡◌, ◌≢◌, ◌+◌, ◌<◌, ◌≤◌, length}
-use Rattle.std.specs.Prelude.{All, AllPairs}
+use Rattle.small_histories.proofs.Common.{◌≡◌, ◌≢◌, ◌+◌, ◌<◌, ◌≤◌, length, All, AllPairs}
 use Rattle.small_histories.proofs.seats.all_processes.Given as goal
 
 -- the greatest processes, each once

@@ -1,6 +1,4 @@
-use Rattle.std.proofs.Common.{◌≡◌, take, None}
-use Rattle.std.specs.Prelude.{All, MatchOption}
-use Rattle.small_histories.specs.Seats.{IsFirstAmong}
+use Rattle.small_histories.proofs.Common.{◌≡◌, take, None, All, MatchOption, IsFirstAmong}
 use Rattle.small_histories.proofs.seats.first_answer.Given as goal
 
 -- the first of those so far, or none of these is answered

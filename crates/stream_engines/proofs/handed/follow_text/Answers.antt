@@ -1,7 +1,4 @@
-use Rattle.std.proofs.Common.{[], Some, refl, subst}
-use Rattle.stream_text.specs.Cuts.{lines_of}
-use Rattle.stream_engines.specs.declared.handed.LineFollower.{LineFollower}
-use Rattle.stream_engines.specs.Handed.{IsHanded}
+use Rattle.stream_engines.proofs.Common.{[], Some, refl, subst, lines_of, LineFollower, IsHanded}
 use Rattle.stream_engines.proofs.HandedLemmas.{ended_with}
 use Rattle.stream_engines.proofs.handed.follow_text.Goals as goal
 

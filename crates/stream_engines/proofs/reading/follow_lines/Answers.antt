@@ -1,8 +1,5 @@
-use Rattle.std.proofs.Common.{◌≡◌, ℕ, ◌+◌, [], ◌∷◌, ◌++◌, length, inr, ap, ◌∙◌, subst, arith}
-use Rattle.std.specs.Io.KnownBytes.{prepend_known}
-use Rattle.std.proofs.lemmas.List.{length-append}
-use Rattle.stream_engines.specs.Outcomes.{IsFollowOutcome}
-use Rattle.stream_engines.specs.Refusals.{most_lines}
+use Rattle.stream_engines.proofs.Common.{◌≡◌, ℕ, ◌+◌, [], ◌∷◌, ◌++◌, length, inr, ap, ◌∙◌, subst, arith, prepend_known, length-append}
+use Rattle.stream_engines.proofs.Common.{IsFollowOutcome, most_lines}
 use Rattle.stream_engines.proofs.ReadingLemmas.{many_at}
 use Rattle.stream_engines.proofs.reading.follow_lines.Goals as goal
 

@@ -1,8 +1,5 @@
 -- So many lines were read, and are followed; the others are to come.
-use Rattle.std.proofs.Common.{◌≡◌, ℕ, List, length}
-use Rattle.std.specs.Io.KnownBytes.{prepend_known}
-use Rattle.stream_engines.specs.Followed.{IsFollowed}
-use Rattle.stream_engines.specs.Reading.{HasRead}
+use Rattle.stream_engines.proofs.Common.{◌≡◌, ℕ, List, length, prepend_known, IsFollowed, HasRead}
 use Rattle.stream_engines.proofs.reading.follow_lines.Given as goal
 
 abbrev pub invariant-loop-before : goal.invariant-loop-before

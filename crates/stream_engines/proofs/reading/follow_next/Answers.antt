@@ -1,6 +1,4 @@
-use Rattle.std.proofs.Common.{ℕ, ◌+◌, [], ◌∷◌, ◌++◌, Err, inr, ap}
-use Rattle.std.specs.Io.KnownBytes.{prepend_known}
-use Rattle.stream_text.specs.Cuts.{TakesLine}
+use Rattle.stream_engines.proofs.Common.{ℕ, ◌+◌, [], ◌∷◌, ◌++◌, Err, inr, ap, prepend_known, TakesLine}
 use Rattle.stream_engines.proofs.ReadingLemmas.{HasRead-more, BeginsWith-read, AreLinesOf-end, took, ended, long_at, went_on, came_out}
 use Rattle.stream_engines.proofs.reading.follow_next.Goals as goal
 

@@ -1,7 +1,5 @@
 -- The values so far are those of the keys.
-use Rattle.std.proofs.Common.{◌≡◌, map, take}
-use Rattle.serde_json.specs.View.{view}
-use Rattle.stream_engines.specs.Reports.{key_data}
+use Rattle.stream_engines.proofs.Common.{◌≡◌, map, take, view, key_data}
 use Rattle.stream_engines.proofs.reports.keys_value.Given as goal
 
 abbrev pub invariant-loop-loss : goal.invariant-loop-loss

@@ -1,6 +1,5 @@
 -- The value has no float, so its text is the compact one.
-use Rattle.std.proofs.Common.{ap, ◌∙◌}
-use Rattle.serde_json.specs.Written.{has_float, compact_text}
+use Rattle.stream_engines.proofs.Common.{ap, ◌∙◌, has_float, compact_text}
 use Rattle.stream_engines.proofs.ReportLemmas.{has_float-lost}
 use Rattle.stream_engines.proofs.reports.lost_line.Goals as goal
 

@@ -1,8 +1,5 @@
-use Rattle.std.proofs.Common.{ℕ, List, ◌++◌, ap, ◌∙◌, string_bytes}
-use Rattle.serde_json.specs.Written.{compact_text}
+use Rattle.stream_engines.proofs.Common.{ℕ, List, ◌++◌, ap, ◌∙◌, string_bytes, compact_text, KeyLoss, lost_data}
 use Rattle.outcomes.specs.Lines.{line}
-use Rattle.losses.specs.declared.lost_keys.KeyLoss.{KeyLoss}
-use Rattle.stream_engines.specs.Reports.{lost_data}
 use Rattle.stream_engines.proofs.reports.lost_lines.Goals as goal
 
 pub returns : goal.returns

@@ -1,7 +1,5 @@
 -- The values so far are those of the numbers.
-use Rattle.std.proofs.Common.{◌≡◌, map, take}
-use Rattle.serde_json.specs.View.{view}
-use Rattle.history_text.specs.Texts.{number_data}
+use Rattle.stream_engines.proofs.Common.{◌≡◌, map, take, view, number_data}
 use Rattle.stream_engines.proofs.reports.numbers_value.Given as goal
 
 abbrev pub invariant-loop-number : goal.invariant-loop-number

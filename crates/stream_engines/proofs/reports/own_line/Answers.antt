@@ -1,10 +1,6 @@
-use Rattle.std.proofs.Common.{◌≡◌, List, [], Option, Some, Result, IfOk, sym, ap, ◌∙◌, subst, Global, String, string_bytes}
-use Rattle.std.specs.Prelude.{IfSome, MatchOption}
+use Rattle.stream_engines.proofs.Common.{◌≡◌, List, [], Option, Some, Result, IfOk, sym, ap, ◌∙◌, subst, Global, String, string_bytes, IfSome}
+use Rattle.stream_engines.proofs.Common.{MatchOption, Contents, IsLinearizable, IsSmallLine, OwnPart}
 use Rattle.events.specs.declared.operation.Operation.{Operation}
-use Rattle.map_object.specs.MapObject.{Contents}
-use Rattle.orders.specs.Orders.{IsLinearizable}
-use Rattle.stream_engines.specs.Answers.{IsSmallLine}
-use Rattle.losses.specs.OwnParts.{OwnPart}
 use Rattle.stream_engines.proofs.OwnLemmas.{IsRefuted, own_refuted}
 use Rattle.stream_engines.proofs.reports.own_line.Goals as goal
 

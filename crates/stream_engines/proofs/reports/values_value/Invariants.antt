@@ -1,7 +1,5 @@
 -- The values so far are those of the origins.
-use Rattle.std.proofs.Common.{◌≡◌, map, take}
-use Rattle.serde_json.specs.View.{view}
-use Rattle.small_histories.specs.Values.{value_data}
+use Rattle.stream_engines.proofs.Common.{◌≡◌, map, take, view, value_data}
 use Rattle.stream_engines.proofs.reports.values_value.Given as goal
 
 abbrev pub invariant-loop-origin : goal.invariant-loop-origin

@@ -1,5 +1,4 @@
-use Rattle.std.proofs.Common.{inl, inr}
-use Rattle.std.proofs.lemmas.Result.{IfOk-weaker}
+use Rattle.stream_engines.proofs.Common.{inl, inr, IfOk-weaker}
 use Rattle.stream_engines.proofs.small_lines.small_line.Goals as goal
 
 pub returns-in-Some : goal.returns-in-Some

@@ -1,6 +1,4 @@
-use Rattle.std.proofs.Common.{ℕ, List, ◌++◌, map, subst, sym, ap}
-use Rattle.history_text.specs.Texts.{pair_data}
-use Rattle.stream_text.specs.Compact.{ArePlain}
+use Rattle.stream_text.proofs.Common.{ℕ, List, ◌++◌, map, subst, sym, ap, pair_data, ArePlain}
 use Rattle.stream_text.proofs.CompactLemmas.{pairs_before, pairs_go_on, pairs_close, pairs_plain, left_shorter}
 use Rattle.stream_text.proofs.compact.pairs_in.Goals as goal
 

@@ -1,7 +1,5 @@
--- What was read so far is the pairs, each with a comma behind it.
-use Rattle.std.proofs.Common.{◌≡◌, ◌++◌, length, map}
-use Rattle.history_text.specs.Texts.{pair_data}
-use Rattle.stream_text.specs.Compact.{ArePlain}
+-- What was read so far is the pairs, each with a comma after it.
+use Rattle.stream_text.proofs.Common.{◌≡◌, ◌++◌, length, map, pair_data, ArePlain}
 use Rattle.stream_text.proofs.CompactLemmas.{pairs_before}
 use Rattle.stream_text.proofs.compact.pairs_in.Given as goal
 

@@ -1,9 +1,7 @@
 -- The bytes at hand are looked at from where the last look ended.
-use Rattle.std.proofs.Common.{◌≡◌, ◌+◌, ℕ, List, length, take, drop, Ok, length-append, subst, refl, sym, ap, ◌∙◌, arith}
+use Rattle.stream_text.proofs.Common.{◌≡◌, ◌+◌, ℕ, List, length, take, drop, Ok, length-append, subst, refl, sym, ap, ◌∙◌, arith, take_all, drop_all}
+use Rattle.stream_text.proofs.Common.{take_at, Keeps, prepend_known, HasNoLineFeed}
 use Rattle.std.proofs.KnownBytes.{Keeps-trans}
-use Rattle.std.proofs.lemmas.List.{take_all, drop_all, take_at}
-use Rattle.std.specs.Io.KnownBytes.{Keeps, prepend_known}
-use Rattle.stream_text.specs.Cuts.{HasNoLineFeed}
 use Rattle.stream_text.proofs.CutLemmas.{whole_all, IsFedAt-found, takes_fed, long_fed, long_unfed, last_line, GrowsBy-none, Keeps-grown}
 use Rattle.stream_text.proofs.cutting.next_line.Goals as goal
 

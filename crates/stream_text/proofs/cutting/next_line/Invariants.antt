@@ -1,7 +1,6 @@
--- What was looked at has no line feed, and the bytes at hand stand before those that the source still has.
-use Rattle.std.proofs.Common.{◌≡◌, ◌-◌, ◌≤◌, [], length, take}
-use Rattle.std.specs.Io.KnownBytes.{Keeps, prepend_known}
-use Rattle.stream_text.specs.Cuts.{HasNoLineFeed}
+-- What was looked at has no line feed, and the bytes at hand come before those that the source
+-- still has.
+use Rattle.stream_text.proofs.Common.{◌≡◌, ◌-◌, ◌≤◌, [], length, take, Keeps, prepend_known, HasNoLineFeed}
 use Rattle.stream_text.proofs.cutting.next_line.Given as goal
 
 abbrev pub invariant-loop-more : goal.invariant-loop-more

@@ -1,6 +1,5 @@
 -- No line feed so far.
-use Rattle.std.proofs.Common.{take}
-use Rattle.stream_text.specs.Cuts.{HasNoLineFeed}
+use Rattle.stream_text.proofs.Common.{take, HasNoLineFeed}
 use Rattle.stream_text.proofs.feeds.first_line_feed.Given as goal
 
 abbrev pub invariant-loop-place : goal.invariant-loop-place

@@ -1,5 +1,4 @@
-use Rattle.std.proofs.lemmas.Result.{err_from_is_err_and}
-use Rattle.history_text.proofs.DataLemmas.{number_found}
+use Rattle.stream_text.proofs.Common.{err_from_is_err_and, number_found}
 use Rattle.stream_text.proofs.ValueLemmas.{too_many-invocation}
 use Rattle.stream_text.proofs.read_line.invocation_of.Goals as goal
 

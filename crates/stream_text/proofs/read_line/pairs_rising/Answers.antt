@@ -1,11 +1,9 @@
 -- The value at hand spells no pair, or one whose key is not above those before it.
-use Rattle.std.proofs.Common.{sym, ap, ◌∙◌}
-use Rattle.serde_json.specs.View.{view}
-use Rattle.events.specs.HistoryFaults.{is_above}
+use Rattle.stream_text.proofs.Common.{sym, ap, ◌∙◌, view, is_above}
 use Rattle.stream_text.proofs.FirstLineLemmas.{KeysRise-push}
 use Rattle.stream_text.proofs.ValueLemmas.{pairs_more, faulty_pair, same_pair}
-use Rattle.stream_text.proofs.read_line.pairs_rising.Goals as goal
 use Rattle.stream_text.proofs.read_line.pairs_rising.Goals.{in_default-via-in-Some+else-is_above, in_default-via-in_default}
+use Rattle.stream_text.proofs.read_line.pairs_rising.Goals as goal
 
 pub returns-in_default-clause-refused : goal.returns-in_default-clause-refused
 returns-in_default-clause-refused c =

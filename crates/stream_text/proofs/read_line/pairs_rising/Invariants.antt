@@ -1,8 +1,5 @@
 -- The values so far are those of the pairs, whose keys rise.
-use Rattle.std.proofs.Common.{◌≡◌, map, take}
-use Rattle.serde_json.specs.View.{view}
-use Rattle.events.specs.Starts.{KeysRise}
-use Rattle.history_text.specs.Texts.{pair_data}
+use Rattle.stream_text.proofs.Common.{◌≡◌, map, take, view, KeysRise, pair_data}
 use Rattle.stream_text.proofs.read_line.pairs_rising.Given as goal
 
 abbrev pub invariant-loop-place : goal.invariant-loop-place

@@ -1,6 +1,5 @@
+use Rattle.stream_text.proofs.Common.{err_from_is_err_and, number_found}
 use Rattle.std.proofs.lemmas.Option.{MatchOption-at_some}
-use Rattle.std.proofs.lemmas.Result.{err_from_is_err_and}
-use Rattle.history_text.proofs.DataLemmas.{number_found}
 use Rattle.stream_text.proofs.ValueLemmas.{too_many-response}
 use Rattle.stream_text.proofs.read_line.response_of.Goals as goal
 

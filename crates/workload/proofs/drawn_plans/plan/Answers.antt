@@ -11,7 +11,7 @@ from_scripts-requires c =
     (scripts_of-are_scripts c.args.seed c.args.processes c.args.calls c.args.mix.now c.in_ok-test_arguments.ensures.small
     sound.1 sound.2).calls
 
--- what fails only where something holds that does not, does not fail
+-- a result that fails only if a statement is false does not fail, since the statement is true
 IfErr-never : {A E : Type 0} (result : Result A E) (P : E → Type 0) (Q : Type 0) → Q → OnErr result (Q → ⊥) → IfErr result P
 IfErr-never (Ok a) P Q q never = tt
 IfErr-never (Err e) P Q q never = absurd (never q)

@@ -1,14 +1,8 @@
-use Rattle.std.proofs.Common.{◌≡◌, false, true, Some, get_or, sym, refl, ◌∙◌, arith, rules, below_more}
-use Rattle.std.specs.Prelude.{slice_get}
-use Rattle.std.proofs.lemmas.Bool.{false≢true}
-use Rattle.std.proofs.lemmas.Grind.{common_steps}
-use Rattle.std.proofs.lemmas.Option.{slice_get_read}
-use Rattle.orders.specs.Orders.{IsCompletedAt}
-use Rattle.orders.proofs.OrderLemmas.{IsCompletedAt-below}
+use Rattle.certificate.proofs.Common.{◌≡◌, false, true, Some, get_or, sym, refl, ◌∙◌, arith, rules, below_more, slice_get, false≢true, common_steps}
+use Rattle.certificate.proofs.Common.{slice_get_read, IsCompletedAt, IsCompletedAt-below}
 use Rattle.certificate.proofs.PrefixLemmas.{Contains-taken, not_Contains-taken, IsCompletedAt-response, response-IsCompletedAt}
+use Rattle.certificate.proofs.prefix.Prefix.least_missing.Goals.{else-is_some-via-then-is_some+else-not-index, else-is_some-via-else-is_some}
 use Rattle.certificate.proofs.prefix.Prefix.least_missing.Goals as goal
-use Rattle.certificate.proofs.prefix.Prefix.least_missing.Goals.{else-is_some-via-then-is_some+else-not-index}
-use Rattle.certificate.proofs.prefix.Prefix.least_missing.Goals.{else-is_some-via-else-is_some}
 
 pub returns-then-not-index-clause-missing : goal.returns-then-not-index-clause-missing
 returns-then-not-index-clause-missing c = λ start order h.

@@ -1,5 +1,4 @@
-use Rattle.std.proofs.Common.{◌≡◌, ℕ, ◌<◌, true, false, get_or}
-use Rattle.orders.specs.Orders.{IsCompletedAt}
+use Rattle.certificate.proofs.Common.{◌≡◌, ℕ, ◌<◌, true, false, get_or, IsCompletedAt}
 use Rattle.certificate.proofs.prefix.Prefix.least_missing.Given as goal
 
 abbrev pub invariant-loop-number : goal.invariant-loop-number

@@ -1,13 +1,8 @@
-use Rattle.std.proofs.Common.{◌≡◌, false, true, Some, get_or, refl, arith, rules}
-use Rattle.std.specs.Prelude.{slice_get}
-use Rattle.std.proofs.lemmas.Bool.{false≢true}
-use Rattle.std.proofs.lemmas.Grind.{common_steps}
-use Rattle.std.proofs.lemmas.Option.{slice_get_read}
+use Rattle.certificate.proofs.Common.{◌≡◌, false, true, Some, get_or, refl, arith, rules, slice_get, false≢true, common_steps, slice_get_read}
 use Rattle.certificate.proofs.PrefixLemmas.{take-next, Contains-taken, not_Contains-taken, IsNewAt-taken, PrecedesSome-latest}
-use Rattle.certificate.proofs.PrefixLemmas.{not_PrecedesSome-latest}
-use Rattle.certificate.proofs.PrefixLemmas.{IsPrefixOf-push}
-use Rattle.certificate.proofs.prefix.Prefix.take.Goals as goal
+use Rattle.certificate.proofs.PrefixLemmas.{not_PrecedesSome-latest, IsPrefixOf-push}
 use Rattle.certificate.proofs.prefix.Prefix.take.Goals.{After-is_before}
+use Rattle.certificate.proofs.prefix.Prefix.take.Goals as goal
 
 module _ (c : After-is_before) where
   -- the call has the number that comes next

@@ -1,5 +1,4 @@
-use Rattle.std.proofs.Common.{inl, inr, refl}
-use Rattle.std.proofs.lemmas.Result.{err_from_is_err_and}
+use Rattle.events.proofs.Common.{inl, inr, refl, err_from_is_err_and}
 use Rattle.events.proofs.FirstFaultLemmas.{IsFirstPairFault-not_start, IsFirstEventFault-not_events, IsRefusedFor-from_first}
 use Rattle.events.proofs.histories.History.with_start.Goals as goal
 

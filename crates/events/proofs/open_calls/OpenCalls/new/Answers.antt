@@ -1,5 +1,4 @@
-use Rattle.std.proofs.Common.{refl}
-use Rattle.std.proofs.lemmas.List.{get_or-replicate}
+use Rattle.events.proofs.Common.{refl, get_or-replicate}
 use Rattle.events.proofs.open_calls.OpenCalls.new.Goals as goal
 
 pub returns : goal.returns

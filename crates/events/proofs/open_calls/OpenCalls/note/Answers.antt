@@ -1,5 +1,4 @@
-use Rattle.std.proofs.Common.{◌≡◌, true, false, refl, ap, arith, rules}
-use Rattle.events.specs.Events.{is_invocation}
+use Rattle.events.proofs.Common.{◌≡◌, true, false, refl, ap, arith, rules, is_invocation}
 use Rattle.events.proofs.OpenCallLemmas.{AreOpenAfter-push}
 use Rattle.events.proofs.open_calls.OpenCalls.note.Goals as goal
 

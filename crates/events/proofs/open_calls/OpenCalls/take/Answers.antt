@@ -1,5 +1,4 @@
-use Rattle.std.proofs.Common.{◌≡◌, None}
-use Rattle.events.specs.HistoryFaults.{fault_after}
+use Rattle.events.proofs.Common.{◌≡◌, None, fault_after}
 use Rattle.events.proofs.HistoryLemmas.{AreHistoryEvents-push}
 use Rattle.events.proofs.OpenCallLemmas.{fault_after-open}
 use Rattle.events.proofs.open_calls.OpenCalls.take.Goals as goal

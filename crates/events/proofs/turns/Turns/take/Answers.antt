@@ -1,5 +1,4 @@
-use Rattle.std.proofs.Common.{◌≡◌, [], length, refl}
-use Rattle.std.proofs.lemmas.Result.{err_from_is_err_and}
+use Rattle.events.proofs.Common.{◌≡◌, [], length, refl, err_from_is_err_and}
 use Rattle.events.proofs.HistoryLemmas.{AreHistoryEvents-next}
 use Rattle.events.proofs.FirstFaultLemmas.{IsRefusedAfter-from_fault}
 use Rattle.events.proofs.turns.Turns.take.Goals as goal
@@ -18,7 +17,7 @@ returns-in_err-take c =
       unchanged = refl;
     })
 
--- want of memory: the event is not taken
+-- out of memory: the event is not taken
 pub returns-in_err-push : goal.returns-in_err-push
 returns-in_err-push c =
     let p = err_from_is_err_and c.from_residual-in_err-push.result c.from_residual-in_err-push.ensures.1 in

@@ -1,6 +1,4 @@
-use Rattle.std.proofs.Common.{[], sym, ◌∙◌, refl}
-use Rattle.std.proofs.lemmas.Option.{none-some}
-use Rattle.std.proofs.lemmas.Result.{err_from_is_err_and}
+use Rattle.events.proofs.Common.{[], sym, ◌∙◌, refl, none-some, err_from_is_err_and}
 use Rattle.events.proofs.StartLemmas.{IsStart-next}
 use Rattle.events.proofs.FirstFaultLemmas.{IsPairRefusedAfter-from_fault}
 use Rattle.events.proofs.turns.Turns.take_pair.Goals as goal
@@ -18,7 +16,7 @@ returns-in_err-test_pair c =
       unchanged = refl;
     })
 
--- want of memory: the pair is not taken
+-- out of memory: the pair is not taken
 pub returns-in_err-push : goal.returns-in_err-push
 returns-in_err-push c =
     let p = err_from_is_err_and c.from_residual-in_err-push.result c.from_residual-in_err-push.ensures.1 in

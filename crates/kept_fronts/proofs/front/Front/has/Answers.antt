@@ -1,7 +1,4 @@
-use Rattle.std.proofs.Common.{false, sym, ◌∙◌}
-use Rattle.std.proofs.lemmas.List.{get_or_default}
-use Rattle.list_laws.proofs.NumberLemmas.{has_number-Contains, has_number-from_Contains}
-use Rattle.kept_fronts.specs.Standing.{places}
+use Rattle.kept_fronts.proofs.Common.{false, sym, ◌∙◌, get_or_default, has_number-Contains, has_number-from_Contains, places}
 use Rattle.kept_fronts.proofs.front.Front.has.Goals as goal
 
 pub returns : goal.returns

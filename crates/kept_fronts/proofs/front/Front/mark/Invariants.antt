@@ -1,5 +1,4 @@
-use Rattle.std.proofs.Common.{◌≡◌, ◌-◌, ◌<◌, ◌≤◌, ℕ, true, false, length}
-use Rattle.std.specs.Prelude.{◌⊎◌, slice_index_or}
+use Rattle.kept_fronts.proofs.Common.{◌≡◌, ◌-◌, ◌<◌, ◌≤◌, ℕ, true, false, length, ◌⊎◌, slice_index_or}
 use Rattle.kept_fronts.proofs.front.Front.mark.Given as goal
 
 -- all but the place below which all are in the front

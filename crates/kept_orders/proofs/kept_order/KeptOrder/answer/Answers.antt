@@ -1,12 +1,5 @@
-use Rattle.std.proofs.Common.{◌≡◌, ◌<◌, List, length, sym, ap, ◌∙◌, subst, arith}
-use Rattle.std.specs.Prelude.{IfOk}
-use Rattle.std.proofs.lemmas.Option.{slice_get_within}
-use Rattle.events.specs.declared.operation.Operation.{Operation}
-use Rattle.map_object.specs.MapObject.{Contents}
-use Rattle.kept_orders.specs.Views.{KeptOrderView, MayBeAnswered, answered}
-use Rattle.kept_fronts.specs.Standing.{Stands, AreCalls, IsWhole}
-use Rattle.kept_orders.specs.Keeping.{IsKept, view_of}
-use Rattle.kept_orders.specs.Answers.{IsAnswer, Keeps}
+use Rattle.kept_orders.proofs.Common.{◌≡◌, ◌<◌, List, length, sym, ap, ◌∙◌, subst, arith, IfOk, slice_get_within, Operation, Contents, KeptOrderView}
+use Rattle.kept_orders.proofs.Common.{MayBeAnswered, answered, Stands, AreCalls, IsWhole, IsKept, view_of, IsAnswer, Keeps}
 use Rattle.kept_orders.proofs.AnswerLemmas.{length_answered, written}
 use Rattle.kept_orders.proofs.FindLemmas.{keeps}
 use Rattle.kept_orders.proofs.kept_order.KeptOrder.answer.Goals as goal

@@ -1,10 +1,4 @@
-use Rattle.std.proofs.Common.{◌+◌, ◌<◌, List, length, sym, subst, arith}
-use Rattle.std.specs.Prelude.{◌^◌, All}
-use Rattle.events.specs.declared.operation.Operation.{Operation}
-use Rattle.kept_orders.specs.Views.{KeptOrderView}
-use Rattle.kept_fronts.specs.Standing.{places}
-use Rattle.kept_orders.specs.Keeping.{IsKept}
-use Rattle.kept_fronts.specs.declared.front.Front.{Front}
+use Rattle.kept_orders.proofs.Common.{◌+◌, ◌<◌, List, length, sym, subst, arith, ◌^◌, All, Operation, KeptOrderView, places, IsKept, Front}
 use Rattle.kept_orders.proofs.BeginLemmas.{stands_more, whole_more, are_calls_more}
 use Rattle.kept_orders.proofs.kept_order.KeptOrder.begin.Goals as goal
 

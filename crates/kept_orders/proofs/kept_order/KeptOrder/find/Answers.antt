@@ -1,10 +1,5 @@
-use Rattle.std.proofs.Common.{◌+◌, ◌<◌, List, length, sym, ◌∙◌, subst, arith}
-use Rattle.std.specs.Prelude.{◌^◌, AllPairs, IfOk}
-use Rattle.events.specs.declared.operation.Operation.{Operation}
-use Rattle.events.specs.Precedence.{NonePrecedesItself}
-use Rattle.map_object.specs.MapObject.{Contents}
-use Rattle.kept_fronts.specs.Standing.{Stands, IsWhole}
-use Rattle.kept_orders.specs.Answers.{IsAnswer}
+use Rattle.kept_orders.proofs.Common.{◌+◌, ◌<◌, List, length, sym, ◌∙◌, subst, arith, ◌^◌, AllPairs, IfOk, Operation, NonePrecedesItself, Contents}
+use Rattle.kept_orders.proofs.Common.{Stands, IsWhole, IsAnswer}
 use Rattle.kept_orders.proofs.FindLemmas.{keeps}
 use Rattle.kept_orders.proofs.kept_order.KeptOrder.find.Goals as goal
 

@@ -1,9 +1,5 @@
-use Rattle.std.proofs.Common.{sym, ap, ◌∙◌, subst}
-use Rattle.std.specs.Prelude.{IfOk}
-use Rattle.map_object.specs.MapObject.{Contents}
-use Rattle.kept_orders.specs.Views.{KeptOrderView, MayCome, HasCome}
+use Rattle.kept_orders.proofs.Common.{sym, ap, ◌∙◌, subst, IfOk, Contents, KeptOrderView, MayCome, HasCome, IsAnswer}
 use Rattle.kept_orders.specs.declared.kept.Kept.TheVariants.{Order}
-use Rattle.kept_orders.specs.Answers.{IsAnswer}
 use Rattle.kept_orders.proofs.FindLemmas.{keeps}
 use Rattle.kept_orders.proofs.InsertLemmas.{with_call, ok_with_call}
 use Rattle.kept_orders.proofs.kept_order.KeptOrder.insert.Goals as goal

@@ -1,10 +1,9 @@
-use Rattle.std.proofs.Common.{◌≡◌, ◌≤◌, length, Some, ap, sym, subst, ◌∙◌, IsTrue}
-use Rattle.std.specs.Prelude.{◌↔◌, slice_get, filter_map, Contains}
-use Rattle.std.proofs.lemmas.Option.{slice_get-get_or, same_Some, none-some}
-use Rattle.events.specs.declared.event.Reply.TheVariants as replies
-use Rattle.art_core.specs.Core.{answered}
+use Rattle.machine.proofs.Common.{◌≡◌, ◌≤◌, length, ap, sym, subst, ◌∙◌, IsTrue, ◌↔◌, slice_get, filter_map, Contains, slice_get-get_or, same_Some}
+use Rattle.machine.proofs.Common.{none-some, answered}
+use Rattle.std.proofs.Common.{Some}
 use Rattle.machine.proofs.MachineLemmas.{process-at}
 use Rattle.machine.proofs.RunningLemmas.{absent}
+use Rattle.events.specs.declared.event.Reply.TheVariants as replies
 use Rattle.machine.proofs.machines.Machine.has_refused.Goals as goal
 
 pub returns-in-Some : goal.returns-in-Some

@@ -1,10 +1,5 @@
-use Rattle.std.proofs.Common.{◌≡◌, IfOk, flat_map, ap, sym, subst, ◌∙◌}
-use Rattle.std.proofs.lemmas.Result.{IfOk-weaker}
-use Rattle.events.specs.Histories.{AreHistoryEvents}
-use Rattle.events.specs.HistoryView.{HistoryView}
-use Rattle.events.specs.Starts.{IsStart}
-use Rattle.logs.specs.Logs.{events_by_stamp}
-use Rattle.machine.specs.Machines.{start_of}
+use Rattle.machine.proofs.Common.{◌≡◌, IfOk, ap, sym, subst, ◌∙◌, IfOk-weaker, AreHistoryEvents, HistoryView, IsStart, events_by_stamp, start_of}
+use Rattle.std.proofs.Common.{flat_map}
 use Rattle.machine.proofs.RecordLemmas.{reached, shown-history, recorded-history, recorded-start, does-the-map, is-linearizable}
 use Rattle.machine.proofs.ReadMomentLemmas.{scans-have-moments, gets-have-moments}
 use Rattle.machine.proofs.machines.Machine.history.Goals as goal

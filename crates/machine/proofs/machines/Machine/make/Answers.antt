@@ -1,9 +1,5 @@
-use Rattle.std.proofs.Common.{◌≡◌, true, arith, subst, ap, ◌∙◌, slice_get}
-use Rattle.std.specs.Prelude.{IsSomeAnd}
-use Rattle.std.proofs.lemmas.Result.{err_from_is_err_and}
-use Rattle.art_core.specs.Core.{step}
-use Rattle.art_core.specs.NamedTurns.{finished_count}
-use Rattle.machine.specs.Machines.{Shows}
+use Rattle.machine.proofs.Common.{◌≡◌, true, arith, subst, ap, ◌∙◌, IsSomeAnd, err_from_is_err_and, step, finished_count, Shows}
+use Rattle.std.proofs.Common.{slice_get}
 use Rattle.machine.proofs.RunningLemmas.{turns-more, turns-whole, turns-stopped}
 use Rattle.machine.proofs.machines.Machine.make.Goals as goal
 

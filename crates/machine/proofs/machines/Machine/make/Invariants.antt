@@ -1,6 +1,4 @@
-use Rattle.std.proofs.Common.{◌≡◌, ◌+◌}
-use Rattle.art_core.specs.Core.{Plan, State}
-use Rattle.machine.specs.Machines.{Shows, start_of, turns_left}
+use Rattle.machine.proofs.Common.{◌≡◌, ◌+◌, Plan, State, Shows, start_of, turns_left}
 use Rattle.machine.proofs.RunningLemmas.{HasMadeTurns}
 use Rattle.machine.proofs.machines.Machine.make.Given as goal
 

@@ -1,8 +1,4 @@
-use Rattle.std.proofs.Common.{[], map, length, refl, ◌∙◌, arith}
-use Rattle.std.proofs.lemmas.List.{length-replicate}
-use Rattle.art_core.specs.Core.{idle, opened_on}
-use Rattle.art_core.proofs.HistoryLemmas.{start-length}
-use Rattle.machine.specs.Running.{plan_of}
+use Rattle.machine.proofs.Common.{[], map, length, refl, ◌∙◌, arith, length-replicate, idle, opened_on, start-length, plan_of}
 use Rattle.machine.proofs.OpeningLemmas.{zip-length, few-left, fits-idle, tasks-idle}
 use Rattle.machine.proofs.machines.Machine.open_on.Goals as goal
 

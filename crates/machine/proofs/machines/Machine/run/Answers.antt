@@ -1,8 +1,4 @@
-use Rattle.std.proofs.Common.{take, sym, subst, ◌∙◌}
-use Rattle.std.proofs.lemmas.List.{take_more, take_all}
-use Rattle.std.proofs.lemmas.Option.{slice_get-get_or}
-use Rattle.machine.specs.Machines.{turns_left}
-use Rattle.machine.specs.Running.{HasMadeAll}
+use Rattle.machine.proofs.Common.{take, sym, subst, ◌∙◌, take_more, take_all, slice_get-get_or, turns_left, HasMadeAll}
 use Rattle.machine.proofs.RunningLemmas.{all-more, all-stopped}
 use Rattle.machine.proofs.ReadMomentLemmas.{scans-have-moments, gets-have-moments}
 use Rattle.machine.proofs.machines.Machine.run.Goals as goal

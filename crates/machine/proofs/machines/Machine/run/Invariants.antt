@@ -1,7 +1,4 @@
-use Rattle.std.proofs.Common.{◌≡◌, take}
-use Rattle.art_core.specs.Core.{Plan, State}
-use Rattle.machine.specs.Machines.{Shows, start_of, turns_left}
-use Rattle.machine.specs.Running.{HasMadeAll}
+use Rattle.machine.proofs.Common.{◌≡◌, take, Plan, State, Shows, start_of, turns_left, HasMadeAll}
 use Rattle.machine.proofs.machines.Machine.run.Given as goal
 
 abbrev pub invariant-loop-place : goal.invariant-loop-place

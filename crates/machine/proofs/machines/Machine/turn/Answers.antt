@@ -1,12 +1,8 @@
-use Rattle.std.proofs.Common.{◌≤◌, ◌-◌, length, set, Some, sym, subst, rules, arith, ap, ◌∙◌}
-use Rattle.std.proofs.lemmas.List.{with_items_is, length-set}
-use Rattle.std.proofs.lemmas.Option.{slice_get-get_or}
-use Rattle.art_core.specs.Core.{step}
-use Rattle.machine.specs.Fitting.{ShowsState}
-use Rattle.machine.specs.Machines.{start_of}
-use Rattle.machine.specs.UnderWay.{IsUnderWay}
-use Rattle.machine.proofs.MachineLemmas.{is-for, within-limits, are-for, steps, some-and, refits, under-way-steps, under-way-kept, no-move}
-use Rattle.machine.proofs.MachineLemmas.{has-move, positive}
+use Rattle.machine.proofs.Common.{◌≤◌, ◌-◌, length, set, sym, subst, rules, arith, ap, ◌∙◌, with_items_is, length-set, slice_get-get_or, step}
+use Rattle.machine.proofs.Common.{ShowsState, start_of, IsUnderWay}
+use Rattle.std.proofs.Common.{Some}
+use Rattle.machine.proofs.MachineLemmas.{is-for, within-limits, are-for, steps, some-and, refits, under-way-steps, under-way-kept, no-move, has-move}
+use Rattle.machine.proofs.MachineLemmas.{positive}
 use Rattle.machine.proofs.machines.Machine.turn.Goals as goal
 
 pub turn-requires-clause-is_for : goal.turn-requires-clause-is_for

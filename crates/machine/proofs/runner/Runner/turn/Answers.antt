@@ -1,6 +1,4 @@
-use Rattle.std.proofs.Common.{refl, sym, subst, ◌∙◌}
-use Rattle.art.specs.Doings.{after_access}
-use Rattle.machine.specs.Fitting.{Advances}
+use Rattle.machine.proofs.Common.{refl, sym, subst, ◌∙◌, after_access, Advances}
 use Rattle.machine.proofs.TurnLemmas.{goes-on}
 use Rattle.machine.proofs.runner.Runner.turn.Goals as goal
 

@@ -1,6 +1,5 @@
-use Rattle.std.proofs.Common.{◌∙◌, sym}
+use Rattle.memo.proofs.Common.{◌∙◌, sym, Decides-is_same_pair}
 use Rattle.std.proofs.lemmas.Slice.Eq.{slice_eq-Decides}
-use Rattle.memo.specs.Equality.{Decides-is_same_pair}
 use Rattle.memo.proofs.base.Base.is_same.Goals as goal
 
 pub returns : goal.returns

@@ -1,7 +1,4 @@
-use Rattle.std.proofs.Common.{◌≡◌, ◌∙◌, Bool, sym, ⊎_elim}
-use Rattle.std.specs.Bool.{Decides}
-use Rattle.std.proofs.lemmas.Bool.{both_ways, cases_Bool}
-use Rattle.memo.specs.Equality.{is_same, Decides-is_same}
+use Rattle.memo.proofs.Common.{◌≡◌, ◌∙◌, Bool, sym, ⊎_elim, Decides, both_ways, cases_Bool, is_same, Decides-is_same}
 use Rattle.memo.proofs.config.ConfigPartialEq.eq.Goals as goal
 
 -- two tests of one fact are the same

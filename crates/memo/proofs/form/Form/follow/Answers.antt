@@ -1,9 +1,5 @@
-use Rattle.std.proofs.Common.{◌≡◌, ◌∙◌, ◌+◌, ◌-◌, ◌%◌, ◌^◌, ◌<◌, Some, ap, subst, rules}
-use Rattle.map_object.specs.MapObject.{Contents, value_at}
-use Rattle.memo.specs.Differences.{with_value, value_put, value_gone, value_from}
-use Rattle.memo.specs.Keys.{AgreeBut}
-use Rattle.memo.specs.Kept.{Kept, configuration_from}
-use Rattle.memo.specs.Taking.{with_place}
+use Rattle.memo.proofs.Common.{◌≡◌, ◌∙◌, ◌+◌, ◌-◌, ◌%◌, ◌^◌, ◌<◌, Some, ap, subst, rules, Contents, value_at, with_value, value_put, value_gone}
+use Rattle.memo.proofs.Common.{value_from, AgreeBut, Kept, configuration_from, with_place}
 use Rattle.memo.proofs.KeptLemmas.{IsKept-unchanged, IsKept-changed, configuration_from-changed}
 use Rattle.memo.proofs.form.Form.follow.Goals as goal
 

@@ -1,14 +1,11 @@
-use Rattle.std.proofs.Common.{◌≡◌, ◌∙◌, sym, ap, subst}
-use Rattle.map_object.specs.MapObject.{Contents, IsRising}
-use Rattle.memo.specs.Differences.{pairs_from, IsDifference}
-use Rattle.memo.specs.Kept.{Kept}
+use Rattle.memo.proofs.Common.{◌≡◌, ◌∙◌, sym, ap, subst, Contents, IsRising, pairs_from, IsDifference, Kept}
 use Rattle.memo.proofs.DifferenceLemmas.{pairs_from-rises}
 use Rattle.memo.proofs.KeptLemmas.{IsKept-over, configuration_from-over}
 use Rattle.memo.specs.contracts.form.Form.{the_view}
-use Rattle.memo.proofs.form.Form.over.Goals as goal
 use Rattle.memo.proofs.form.Form.over.Goals.{After-drop-held-2}
+use Rattle.memo.proofs.form.Form.over.Goals as goal
 
--- what a form tells, by other names
+-- what a form gives, by other names
 told_by : (base start put gone : Contents) (kept : Kept) → start ≡ base → put ≡ kept.put → gone ≡ kept.gone
     → pairs_from start put gone ≡ pairs_from base kept.put kept.gone
 told_by base start put gone kept start_is put_is gone_is =

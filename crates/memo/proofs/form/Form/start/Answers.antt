@@ -1,8 +1,4 @@
-use Rattle.std.proofs.Common.{◌≡◌, ◌∙◌, ◌%◌, ◌^◌, ap}
-use Rattle.std.specs.List.{sum_by}
-use Rattle.map_object.specs.MapObject.{Contents}
-use Rattle.memo.specs.Digest.{mix_pair}
-use Rattle.memo.specs.Kept.{Kept}
+use Rattle.memo.proofs.Common.{◌≡◌, ◌∙◌, ◌%◌, ◌^◌, ap, sum_by, Contents, mix_pair, Kept}
 use Rattle.memo.proofs.KeptLemmas.{IsKept-start, configuration_from-start}
 use Rattle.memo.specs.contracts.form.Form.{the_view}
 use Rattle.memo.proofs.form.Form.start.Goals as goal

@@ -1,14 +1,8 @@
-use Rattle.std.proofs.Common.{◌≡◌, ◌∙◌, ◌+◌, ◌-◌, ◌%◌, ◌^◌, ap, subst}
-use Rattle.std.specs.List.{sum_by}
-use Rattle.map_object.specs.MapObject.{Contents}
-use Rattle.memo.specs.Differences.{pairs_from, IsDifference}
-use Rattle.memo.specs.Digest.{mix_pair}
-use Rattle.memo.specs.Kept.{Kept}
-use Rattle.memo.specs.Taking.{with_place}
+use Rattle.memo.proofs.Common.{◌≡◌, ◌∙◌, ◌+◌, ◌-◌, ◌%◌, ◌^◌, ap, subst, sum_by, Contents, pairs_from, IsDifference, mix_pair, Kept, with_place}
 use Rattle.memo.proofs.KeptLemmas.{IsKept-anew, configuration_from-anew}
 use Rattle.memo.specs.contracts.form.Form.{the_view}
-use Rattle.memo.proofs.form.Form.with.Goals as goal
 use Rattle.memo.proofs.form.Form.with.Goals.{After-drop-held-2}
+use Rattle.memo.proofs.form.Form.with.Goals as goal
 
 module _ (c : After-drop-held-2) where
   abbrev new : Kept

@@ -1,10 +1,8 @@
-use Rattle.std.proofs.Common.{◌≡◌, ◌∙◌, ◌⊎◌, [], List, sym, subst}
-use Rattle.std.specs.Prelude.{◌↔◌, IsTrue, Contains, All}
-use Rattle.configurations.specs.Configurations.{Configuration}
-use Rattle.memo.specs.Kept.{IsKept}
+use Rattle.memo.proofs.Common.{◌≡◌, ◌∙◌, [], List, sym, subst, ◌↔◌, IsTrue, Contains, All, Configuration, IsKept}
+use Rattle.std.proofs.Common.{◌⊎◌}
 use Rattle.memo.proofs.KeptLemmas.{all_kept, new_told, each_shared, told_shared}
-use Rattle.memo.proofs.memo.Memo.visit.Goals as goal
 use Rattle.memo.proofs.memo.Memo.visit.Goals.{in-Ok-insert, in-Err-insert}
+use Rattle.memo.proofs.memo.Memo.visit.Goals as goal
 
 module _ (c : goal.Joined-self-base) where
   shares : (c.self.inside.visited.keys ≡ []) ⊎ (c.self.inside.base ≡ c.config.inside.base)

@@ -1,10 +1,7 @@
-use Rattle.std.proofs.Common.{◌≡◌, ◌++◌, ◌∷◌, [], Bool, List, Some, Result, Ok, Err, slice_get, sym, subst}
-use Rattle.std.specs.Prelude.{◌↔◌, IsTrue, IfOk, IsSomeAnd, Contains, if◌then◌else◌}
-use Rattle.configurations.specs.Configurations.{Configuration}
-use Rattle.memo.specs.Keys.{key_changed, AgreeBut}
-use Rattle.memo.specs.Kept.{Kept, configuration_from}
-use Rattle.memo.specs.Taking.{after_one, IsOneMore}
-use Rattle.memo.specs.Visits.{configurations_from}
+use Rattle.memo.proofs.Common.{◌≡◌, ◌++◌, ◌∷◌, [], Bool, List, Some, Result, Ok, Err, sym, subst, ◌↔◌, IsTrue, IfOk, IsSomeAnd, Contains}
+use Rattle.memo.proofs.Common.{if◌then◌else◌, Configuration, key_changed, AgreeBut, Kept, configuration_from, after_one, IsOneMore}
+use Rattle.memo.proofs.Common.{configurations_from}
+use Rattle.std.proofs.Common.{slice_get}
 use Rattle.memo.proofs.KeptLemmas.{kept_at, all_kept, new_told, visited_told}
 use Rattle.memo.proofs.KeyLemmas.{agree-after_call}
 use Rattle.memo.proofs.memo.Memo.visit_next.Goals as goal

@@ -1,6 +1,5 @@
-use Rattle.std.proofs.Common.{◌≡◌, ◌+◌, ◌-◌, ◌<◌, ◌≤◌, ◌∙◌, ℕ, List, subst, sym, ap, refl, inl, inr, arith, ltb-true}
-use Rattle.std.specs.Prelude.{◌↔◌, Contains}
-use Rattle.memo.specs.Words.{bit_of, places_of}
+use Rattle.memo.proofs.Common.{◌≡◌, ◌+◌, ◌-◌, ◌<◌, ◌≤◌, ◌∙◌, ℕ, List, subst, sym, ap, refl, inl, inr, arith, ltb-true, ◌↔◌, Contains, bit_of}
+use Rattle.memo.proofs.Common.{places_of}
 use Rattle.memo.proofs.WordLemmas.{IsAmong, Contains-places_of}
 use Rattle.memo.proofs.places.Places.contains.Goals as goal
 
@@ -16,7 +15,7 @@ bit_above : (least : ℕ) (words : List ℕ) (place : ℕ) → least < place →
 bit_above least words place above (inl low) = absurd (omega (arith, above, low))
 bit_above least words place above (inr high) = high.1
 
--- and none is that is neither below the least missing one nor above it
+-- no number is among them that is neither below the least missing one nor above it
 not_among : (least : ℕ) (words : List ℕ) (place : ℕ) → least ≤ place → place ≤ least → IsAmong least words place → ⊥
 not_among least words place ge le (inl low) = omega (arith, ge, low)
 not_among least words place ge le (inr high) = omega (arith, le, high.0)

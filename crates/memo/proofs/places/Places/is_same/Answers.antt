@@ -1,9 +1,6 @@
-use Rattle.std.proofs.Common.{◌≡◌, ◌∙◌, sym, ap₂, eqb}
-use Rattle.std.specs.Bool.{Decides}
+use Rattle.memo.proofs.Common.{◌≡◌, ◌∙◌, sym, ap₂, eqb, Decides, Decides-at, Decides-eqb, places_of}
 use Rattle.std.specs.Cmp.{unsigned_Decides}
 use Rattle.std.specs.Cmp.Lexicographic.{pointwise, pointwise_decides}
-use Rattle.std.proofs.lemmas.Bool.Decides.{Decides-at, Decides-eqb}
-use Rattle.memo.specs.Words.{places_of}
 use Rattle.memo.proofs.WordLemmas.{same_places}
 use Rattle.memo.proofs.places.Places.is_same.Goals as goal
 

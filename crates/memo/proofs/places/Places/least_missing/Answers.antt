@@ -1,5 +1,4 @@
-use Rattle.std.proofs.Common.{ℕ, List, subst, sym, inl}
-use Rattle.std.specs.Prelude.{Contains}
+use Rattle.memo.proofs.Common.{ℕ, List, subst, sym, inl, Contains}
 use Rattle.memo.proofs.WordLemmas.{Contains-places_of, least-not_among}
 use Rattle.memo.proofs.places.Places.least_missing.Goals as goal
 

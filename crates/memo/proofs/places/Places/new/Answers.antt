@@ -1,5 +1,4 @@
-use Rattle.std.proofs.Common.{◌∙◌, sym, ap, subst}
-use Rattle.memo.specs.Words.{places_of, ArePlaces}
+use Rattle.memo.proofs.Common.{◌∙◌, sym, ap, subst, places_of, ArePlaces}
 use Rattle.memo.proofs.WordLemmas.{ArePlaces-none, places_of-none}
 use Rattle.memo.proofs.places.Places.new.Goals as goal
 

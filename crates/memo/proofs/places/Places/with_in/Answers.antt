@@ -1,8 +1,5 @@
-use Rattle.std.proofs.Common.{◌≡◌, ◌+◌, ◌-◌, ◌-◌, ◌*◌, ◌^◌, ◌<◌, ◌∙◌, ℕ, List, drop, sym, subst, ap, arith}
-use Rattle.std.specs.Prelude.{◌↔◌, ◌⊎◌, Contains}
-use Rattle.std.proofs.lemmas.List.{take_rest}
-use Rattle.memo.specs.Taking.{with_place}
-use Rattle.memo.specs.Words.{bit_of, places_of, ArePlaces}
+use Rattle.memo.proofs.Common.{◌≡◌, ◌+◌, ◌-◌, ◌-◌, ◌*◌, ◌^◌, ◌<◌, ◌∙◌, ℕ, List, drop, sym, subst, ap, arith, ◌↔◌, ◌⊎◌, Contains, take_rest}
+use Rattle.memo.proofs.Common.{with_place, bit_of, places_of, ArePlaces}
 use Rattle.memo.proofs.BitLemmas.{bit_of-drop}
 use Rattle.memo.proofs.PlacesLemmas.{places_of-with, ArePlaces-with, IsAmong-set, IsAmong-run, place_above}
 use Rattle.memo.proofs.WordLemmas.{IsAmong, places_of-rises, run_small}

@@ -1,5 +1,4 @@
-use Rattle.std.proofs.Common.{◌∙◌, ap, sym, subst}
-use Rattle.memo.specs.Words.{places_of, IsTrimmed}
+use Rattle.memo.proofs.Common.{◌∙◌, ap, sym, subst, places_of, IsTrimmed}
 use Rattle.memo.proofs.places.Places.words.Goals as goal
 
 pub returns-clause-told : goal.returns-clause-told

@@ -1,6 +1,4 @@
-use Rattle.std.proofs.Common.{◌≡◌, ◌≤◌, length, None, Some, refl, sym, ap, ◌∙◌, arith}
-use Rattle.monitor.specs.Faults.{event_limit}
-use Rattle.monitor.specs.MonitorView.{MonitorView, known_call}
+use Rattle.monitor.proofs.Common.{◌≡◌, ◌≤◌, length, None, Some, refl, sym, ap, ◌∙◌, arith, event_limit, MonitorView, known_call}
 use Rattle.monitor.proofs.FaultLemmas.{waits, idles, idle_answer, many_answers}
 use Rattle.monitor.proofs.monitor.Monitor.answer.Goals as goal
 

@@ -1,12 +1,5 @@
-use Rattle.std.proofs.Common.{◌≡◌, ℕ, ◌+◌, ◌<◌, ◌==◌, ◌++◌, ◌∷◌, [], List, None, Some, cond, sym, ap, ◌∙◌, subst, arith}
-use Rattle.events.specs.declared.event.Event.{Event}
-use Rattle.events.specs.declared.event.Event.TheVariants.{Invoke}
-use Rattle.events.specs.Operations.{operations}
-use Rattle.map_object.specs.MapObject.{Contents}
-use Rattle.monitor.specs.Faults.{event_limit}
-use Rattle.monitor.specs.MonitorView.{MonitorView, known_call}
-use Rattle.monitor.specs.Following.{IsFollowing}
-use Rattle.monitor.specs.declared.open_calls.OpenCall.{OpenCall}
+use Rattle.monitor.proofs.Common.{◌≡◌, ℕ, ◌+◌, ◌<◌, ◌==◌, ◌++◌, ◌∷◌, [], List, None, Some, cond, sym, ap, ◌∙◌, subst, arith, Event, Invoke}
+use Rattle.monitor.proofs.Common.{operations, Contents, event_limit, MonitorView, known_call, IsFollowing, OpenCall}
 use Rattle.monitor.proofs.FollowLemmas.{call_taken, call_more}
 use Rattle.monitor.proofs.OpenLemmas.{at_process}
 use Rattle.monitor.proofs.PutLemmas.{puts_invoked}

@@ -1,8 +1,5 @@
-use Rattle.std.proofs.Common.{◌≡◌, ◌≤◌, ◌<◌, length, None, sym, ap, ◌∙◌, arith}
+use Rattle.monitor.proofs.Common.{◌≡◌, ◌≤◌, ◌<◌, length, None, sym, ap, ◌∙◌, arith, low_key, high_key, event_limit, MonitorView, known_call}
 use Rattle.std.proofs.lemmas.Result.{err_from_is_err_and}
-use Rattle.events.specs.Keys.{low_key, high_key}
-use Rattle.monitor.specs.Faults.{event_limit}
-use Rattle.monitor.specs.MonitorView.{MonitorView, known_call}
 use Rattle.monitor.proofs.FaultLemmas.{some_known, none_known, waits, idles, open_fault, many_fault, no_fault}
 use Rattle.monitor.proofs.monitor.Monitor.invoke.Goals as goal
 

@@ -1,15 +1,8 @@
-use Rattle.std.proofs.Common.{◌≡◌, ℕ, ◌<◌, ◌==◌, ◌++◌, ◌∷◌, [], List, None, cond, sym, ap, ◌∙◌, subst}
-use Rattle.events.specs.declared.event.Event.{Event}
-use Rattle.events.specs.declared.event.Event.TheVariants.{Answer}
-use Rattle.map_object.specs.MapObject.{Contents}
-use Rattle.monitor.specs.Answering.{AreAnswered}
-use Rattle.monitor.specs.Faults.{event_limit}
-use Rattle.monitor.specs.Following.{IsFollowing}
-use Rattle.monitor.specs.LossAt.{IsLossAt}
-use Rattle.monitor.specs.MonitorView.{MonitorView, known_call}
+use Rattle.monitor.proofs.Common.{◌≡◌, ℕ, ◌<◌, ◌==◌, ◌++◌, ◌∷◌, [], List, None, cond, sym, ap, ◌∙◌, subst, Event, Answer, Contents, begun, IsEndedBy}
+use Rattle.monitor.proofs.Common.{response_at, AreAnswered, IsLostBy, MayReply, event_limit, IsFollowing, IsLossAt, MonitorView, known_call}
 use Rattle.monitor.proofs.FollowLemmas.{seen_so, around_it, state_before}
 use Rattle.monitor.proofs.JudgeLemmas.{accepted, is_shaped}
-use Rattle.monitor.proofs.JudgedLemmas.{calls_with, pending, goes_on, recent_then, known_then, is_lost, is_spent}
+use Rattle.monitor.proofs.JudgedLemmas.{calls_before, calls_with, pending, goes_on, recent_then, known_then, is_lost, is_spent}
 use Rattle.monitor.proofs.OpenLemmas.{at_process}
 use Rattle.monitor.proofs.monitor.Monitor.judge.Goals as goal
 
@@ -65,7 +58,7 @@ next c start events h =
     let around = around_it start events m process known reply follows here in
     let calls = calls_with start events m process known reply follows here in
     let answered = subst (AreAnswered start c.args.budget m.parts calls known.call reply) c.in-Going.is
-    (c.in_ok-parts.ensures start around.front around.back (state_before start events m process known reply follows here)) in
+    (c.in_ok-parts.ensures.answered start around.front around.back (state_before start events m process known reply follows here)) in
     let changed : (p : ℕ) → known_call c.remove.new.self.entries p ≡ cond (p == process) None (known_call m.open_calls p) = λ p.
     c.remove.ensures.updates.0 p ∙ ap (λ b. cond b None (known_call m.open_calls p)) (at_process process p) in
     goes_on start events m process known reply follows here c.kept_parts_decide.ensures c.in-Going.parts c.remove.new.self.entries recent answered changed
@@ -107,15 +100,20 @@ returns-in_ok-loss-in-Lost c = λ start events h.
     let around = around_it start events m process known reply follows here in
     let calls = calls_with start events m process known reply follows here in
     let answered = subst (AreAnswered start c.args.budget m.parts calls known.call reply) c.in-Lost.is
-    (c.in_ok-parts.ensures start around.front around.back (state_before start events m process known reply follows here)) in
+    (c.in_ok-parts.ensures.answered start around.front around.back (state_before start events m process known reply follows here)) in
     let made : IsLossAt m.parts.now known part recent open_calls loss =
     subst (λ (n : ℕ). IsLossAt n known part recent open_calls loss) c.now-event.ensures c.in_ok-loss-in-Lost.ensures in
     let changed : (p : ℕ) → known_call c.remove.new.self.entries p ≡ cond (p == process) None (known_call m.open_calls p) = λ p.
     c.remove.ensures.updates.0 p ∙ ap (λ b. cond b None (known_call m.open_calls p)) (at_process process p) in
     let puts = known_then start events m process known reply follows here inside.puts.capacity c.self.invariant.1 recent c.note_answer.ensures.puts
     open_calls loss.puts.items changed made.puts in
+    let before = calls_before start events m process known reply follows here in
+    let ended : MayReply known.call reply
+    → IsEndedBy start m.parts.now before (begun known.call known.event) (response_at reply m.parts.now) part =
+    subst (IsLostBy start m.parts.now before (begun known.call known.event) reply) c.in-Lost.is
+    (c.in_ok-parts.ensures.ended start around.front around.back (state_before start events m process known reply follows here)) in
     is_lost start events m process known reply follows here part recent open_calls loss made c.kept_parts_decide.ensures
-    c.orders_are_keyed_orders.ensures answered c.prefixes_have_orders.ensures room puts
+    c.orders_are_keyed_orders.ensures answered c.kept_pasts_are_reached.ensures c.prefixes_have_orders.ensures room puts ended
 
 pub returns-in_ok-loss-in-Spent : goal.returns-in_ok-loss-in-Spent
 returns-in_ok-loss-in-Spent c = λ start events h.
@@ -138,7 +136,7 @@ returns-in_ok-loss-in-Spent c = λ start events h.
     let around = around_it start events m process known reply follows here in
     let calls = calls_with start events m process known reply follows here in
     let answered = subst (AreAnswered start c.args.budget m.parts calls known.call reply) c.in-Spent.is
-    (c.in_ok-parts.ensures start around.front around.back (state_before start events m process known reply follows here)) in
+    (c.in_ok-parts.ensures.answered start around.front around.back (state_before start events m process known reply follows here)) in
     let made : IsLossAt m.parts.now known part recent open_calls loss =
     subst (λ (n : ℕ). IsLossAt n known part recent open_calls loss) c.now-event.ensures c.in_ok-loss-in-Spent.ensures in
     let changed : (p : ℕ) → known_call c.remove.new.self.entries p ≡ cond (p == process) None (known_call m.open_calls p) = λ p.

@@ -1,7 +1,4 @@
-use Rattle.std.proofs.Common.{ap, []}
-use Rattle.circular_buffer.specs.Buffer.{Buffer}
-use Rattle.losses.specs.declared.puts.Put.{Put}
-use Rattle.monitor.specs.Following.{IsFollowing}
+use Rattle.monitor.proofs.Common.{ap, [], Buffer, Put, IsFollowing}
 use Rattle.monitor.proofs.StartLemmas.{nothing_followed}
 use Rattle.monitor.proofs.monitor.Monitor.new.Goals as goal
 

@@ -1,9 +1,5 @@
 -- The keys of the entries of the leaves.
-use Rattle.std.proofs.Common.{◌<◌, ◌≡◌, ℕ, List, map, subst, sym}
-use Rattle.std.specs.Prelude.{◌↔◌, AllPairs, Contains}
-use Rattle.std.specs.Option.{IsSome}
-use Rattle.packed_map.specs.Entries.{value_at}
-use Rattle.packed_map.specs.Leaves.{entries_of}
+use Rattle.packed_map.proofs.Common.{◌<◌, ◌≡◌, ℕ, List, map, subst, sym, ◌↔◌, AllPairs, Contains, IsSome, value_at, entries_of}
 use Rattle.packed_map.proofs.RangeLemmas.{all_each, all_rise, if_ok}
 use Rattle.packed_map.proofs.packed.PackedMap.keys.Goals as goal
 

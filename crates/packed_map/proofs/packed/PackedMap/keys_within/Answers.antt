@@ -1,10 +1,6 @@
 -- The keys of the entries of the leaves.
-use Rattle.std.proofs.Common.{◌≤◌, ◌<◌, ℕ, List, subst, sym}
-use Rattle.std.specs.Prelude.{◌↔◌, ◌≡◌, AllPairs, Contains}
-use Rattle.std.specs.Option.{IsSome}
-use Rattle.packed_map.specs.Entries.{value_at}
-use Rattle.packed_map.specs.Leaves.{entries_of}
-use Rattle.packed_map.specs.Ranges.{keys_between}
+use Rattle.packed_map.proofs.Common.{◌≤◌, ◌<◌, ℕ, List, subst, sym, ◌↔◌, AllPairs, Contains, IsSome, value_at, entries_of, keys_between}
+use Rattle.std.specs.Prelude.{◌≡◌}
 use Rattle.packed_map.proofs.RangeLemmas.{between_each, between_rise, if_ok}
 use Rattle.packed_map.proofs.packed.PackedMap.keys_within.Goals as goal
 

@@ -1,6 +1,4 @@
-use Rattle.std.proofs.Common.{◌≡◌, ◌∷◌, map, take}
-use Rattle.part_cuts.specs.PartCuts.{kept_of}
-use Rattle.part_pasts.specs.Views.{past_of}
+use Rattle.part_pasts.proofs.Common.{◌≡◌, ◌∷◌, map, take, kept_of, past_of}
 use Rattle.part_pasts.proofs.part.Part.pasts.Given as goal
 
 -- the first one, and the others so far

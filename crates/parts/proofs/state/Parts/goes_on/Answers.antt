@@ -1,7 +1,4 @@
-use Rattle.std.proofs.Common.{subst}
-use Rattle.std.specs.Prelude.{All}
-use Rattle.kept_parts.specs.Steps.{GoesOn}
-use Rattle.parts.specs.Views.{PartsView, kept_parts}
+use Rattle.parts.proofs.Common.{subst, All, GoesOn, PartsView, kept_parts}
 use Rattle.parts.proofs.GoesOnLemmas.{parts_go_on}
 use Rattle.parts.proofs.state.Parts.goes_on.Goals as goal
 

@@ -1,6 +1,6 @@
 -- `into_loose` reads whether there is a follower, and has the box's parts back from the handle.
-use Rattle.std.proofs.Common.{◌≡◌, Bool, true, false, List, [], ◌∷◌, ◌++◌, refl, sym, ap, ◌∙◌, subst, lit<, Option, Some, None}
-use Rattle.std.specs.Prelude.{option_map}
+use Rattle.potzendai.proofs.Common.{◌≡◌, Bool, true, false, List, [], ◌∷◌, ◌++◌, refl, sym, ap, ◌∙◌, subst, lit<, Option, Some, None, option_map}
+use Rattle.potzendai.proofs.Common.{Goes-blank, after, Good, one, proved_at, leaves, and_tt, box_owns}
 use mir.Val.{Val, vptr, vbool, vcons, vnil}
 use base.Logic.{SProp, ent, emp, id⊢}
 use prog.Wp.{WpFn}
@@ -19,23 +19,17 @@ use denote.Steps.{nothing}
 use denote.Param.{layout}
 use denote.Triple.Entry.{alive}
 use denote.Triple.Walked.{Stays, stay_dropped, walk_of, Goes-dropped}
-use Rattle.std.proofs.alloc.Calls.{Goes-blank}
-use Rattle.std.proofs.alloc.Shapes.{after}
-use Rattle.std.proofs.cell.Inside.{Good, one}
 use Rattle.std.proofs.option.Made.{Some-of, none_of}
-use Rattle.std.specs.contracts.alloc.Global as heap
-use Rattle.std.proofs.alloc.Global.TheLaws as heap_laws
 use Rattle.std.specs.contracts.impls.GlobalAllocator.TheImpl.{ghosts}
-use Rattle.std.proofs.raw_atomic.Walks.{proved_at, leaves}
-use Rattle.std.proofs.ResultValues.{and_tt}
-use Rattle.std.specs.Box.Ownership.{box_owns}
-use Rattle.stream_engines.specs.contracts.handed.LineFollower as follower
 use Rattle.potzendai.proofs.LooseValues.{both, Loose, loose_good, loose_in}
 use Rattle.potzendai.proofs.HandleValues.{handle_out, handle_good, either_held, Ptr-Good}
-use Rattle.potzendai.specs.contracts.handle.PotzendaiFollower as handle
 use Rattle.potzendai.specs.contracts.handle.PotzendaiFollower.into_loose.{ended, clauses}
 use Rattle.potzendai.specs.contracts.handle.PotzendaiFollower.into_loose.Key.{name as #self}
 use Rattle.potzendai.proofs.handle.PotzendaiFollower.into_loose.Statement.{statement}
+use Rattle.std.specs.contracts.alloc.Global as heap
+use Rattle.std.proofs.alloc.Global.TheLaws as heap_laws
+use Rattle.stream_engines.specs.contracts.handed.LineFollower as follower
+use Rattle.potzendai.specs.contracts.handle.PotzendaiFollower as handle
 use Rattle.potzendai.proofs.handle.PotzendaiFollower.into_loose.Code as code
 
 pub into_loose_spec : {M : Type 1} → statement M

@@ -1,5 +1,5 @@
 -- `with_follower` hands what the box's parts own to the handle.
-use Rattle.std.proofs.Common.{◌≡◌, List, [], ◌∷◌, ◌++◌, refl, sym, subst, true, Some}
+use Rattle.potzendai.proofs.Common.{◌≡◌, List, [], ◌∷◌, ◌++◌, refl, sym, subst, true, Some, Goes-blank, proved_at, leaves, boxed}
 use mir.Val.{Val, vptr, vbool}
 use base.Logic.{SProp, ent, emp, id⊢}
 use prog.Wp.{WpFn}
@@ -16,19 +16,16 @@ use denote.RawPtr.{block_ptr}
 use denote.Steps.{nothing}
 use denote.Triple.Entry.{alive}
 use denote.Triple.Walked.{Stays, stay_dropped, walk_of}
-use Rattle.std.proofs.alloc.Calls.{Goes-blank}
-use Rattle.std.specs.contracts.alloc.Global as heap
-use Rattle.std.proofs.alloc.Global.TheLaws as heap_laws
 use Rattle.std.specs.contracts.impls.GlobalAllocator.TheImpl.{ghosts}
-use Rattle.std.proofs.raw_atomic.Walks.{proved_at, leaves}
-use Rattle.stream_engines.specs.contracts.handed.LineFollower as follower
-use Rattle.potzendai.specs.Handle.{boxed}
-use Rattle.potzendai.specs.contracts.handle.PotzendaiFollower as handle
 use Rattle.potzendai.proofs.LooseValues.{both, Loose, loose_good, loose_out}
 use Rattle.potzendai.proofs.HandleValues.{handle_in, held_in}
 use Rattle.potzendai.specs.contracts.handle.PotzendaiFollower.with_follower.{ended, clauses}
 use Rattle.potzendai.specs.contracts.handle.PotzendaiFollower.with_follower.Key.{name as #self}
 use Rattle.potzendai.proofs.handle.PotzendaiFollower.with_follower.Statement.{statement}
+use Rattle.std.specs.contracts.alloc.Global as heap
+use Rattle.std.proofs.alloc.Global.TheLaws as heap_laws
+use Rattle.stream_engines.specs.contracts.handed.LineFollower as follower
+use Rattle.potzendai.specs.contracts.handle.PotzendaiFollower as handle
 use Rattle.potzendai.proofs.handle.PotzendaiFollower.with_follower.Code as code
 
 pub with_follower_spec : {M : Type 1} → statement M

@@ -1,5 +1,5 @@
 -- `without_follower` puts a null pointer and false together.
-use Rattle.std.proofs.Common.{◌≡◌, [], ◌∷◌, refl, false, lit<, Option, None}
+use Rattle.potzendai.proofs.Common.{◌≡◌, [], ◌∷◌, refl, false, lit<, Option, None, proved, leaves, LineFollower}
 use mir.Val.{Val, vnull, vbool}
 use base.Logic.{SProp, emp}
 use base.Fml.{ftrue}
@@ -13,8 +13,6 @@ use denote.RawPtr.{null_ptr}
 use denote.Steps.{nothing}
 use denote.Triple.Entry.{alive}
 use denote.Triple.Walked.{walk_of}
-use Rattle.std.proofs.raw_atomic.Walks.{proved, leaves}
-use Rattle.stream_engines.specs.declared.handed.LineFollower.{LineFollower}
 use Rattle.potzendai.proofs.LooseValues.{both}
 use Rattle.potzendai.proofs.HandleValues.{handle_in, held_none}
 use Rattle.potzendai.specs.contracts.handle.PotzendaiFollower.without_follower.{ended, clauses}

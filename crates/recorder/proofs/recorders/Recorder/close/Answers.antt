@@ -1,5 +1,4 @@
-use Rattle.std.proofs.Common.{rules}
-use Rattle.recorder.specs.Recorders.{AreAll}
+use Rattle.recorder.proofs.Common.{rules, AreAll}
 use Rattle.recorder.proofs.CloseLemmas.{all-there}
 use Rattle.recorder.proofs.recorders.Recorder.close.Goals as goal
 

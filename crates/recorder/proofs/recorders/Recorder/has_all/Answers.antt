@@ -1,8 +1,7 @@
-use Rattle.std.proofs.Common.{arith}
+use Rattle.recorder.proofs.Common.{arith}
 use Rattle.recorder.proofs.CloseLemmas.{all-idle, all-there, as-many}
+use Rattle.recorder.proofs.recorders.Recorder.has_all.Goals.{else-self-gt0-via-then-self-gt0+else-passes-from, else-self-gt0-via-else-self-gt0}
 use Rattle.recorder.proofs.recorders.Recorder.has_all.Goals as goal
-use Rattle.recorder.proofs.recorders.Recorder.has_all.Goals.{else-self-gt0-via-then-self-gt0+else-passes-from}
-use Rattle.recorder.proofs.recorders.Recorder.has_all.Goals.{else-self-gt0-via-else-self-gt0}
 
 pub returns-then-passes-from : goal.returns-then-passes-from
 returns-then-passes-from c = (

@@ -1,12 +1,9 @@
-use Rattle.std.proofs.Common.{◌≡◌, IfOk, subst, sym, ap, ◌∙◌}
+use Rattle.recorder.proofs.Common.{◌≡◌, IfOk, subst, sym, ap, ◌∙◌, AreHistoryEvents, events_by_stamp, history_of}
 use Rattle.events.specs.HistoryView.{HistoryView, with_no_start}
-use Rattle.events.specs.Histories.{AreHistoryEvents}
-use Rattle.logs.specs.Logs.{events_by_stamp}
-use Rattle.recorder.specs.Recorders.{history_of}
 use Rattle.recorder.proofs.MergeLemmas.{together-is}
 use Rattle.recorder.proofs.CloseLemmas.{all-history, all-own}
-use Rattle.recorder.proofs.recorders.Recorder.history.Goals as goal
 use Rattle.recorder.proofs.recorders.Recorder.history.Goals.{In_ok-stamped}
+use Rattle.recorder.proofs.recorders.Recorder.history.Goals as goal
 
 -- the events of all logs make the history of the passes
 same : (c : In_ok-stamped) → events_by_stamp c.in_ok-stamped.stamped.items ≡ history_of c.args.passes.now

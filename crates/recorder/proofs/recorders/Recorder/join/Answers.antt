@@ -1,8 +1,4 @@
-use Rattle.std.proofs.Common.{◌≡◌}
-use Rattle.std.proofs.lemmas.List.Elements.{All-weaker}
-use Rattle.tickets.specs.Hands.{counter}
-use Rattle.recorder.specs.Passes.{source_of}
-use Rattle.recorder.specs.Recorders.{IsPassOf}
+use Rattle.recorder.proofs.Common.{◌≡◌, All-weaker, counter, source_of, IsPassOf}
 use Rattle.recorder.proofs.CloseLemmas.{some-pass}
 use Rattle.recorder.proofs.recorders.Recorder.join.Goals as goal
 

@@ -1,12 +1,9 @@
-use Rattle.std.proofs.Common.{◌≡◌, ◌<◌, ◌++◌, ◌∷◌, [], Bool, true, false, cond, refl, sym, ap, ◌∙◌, subst}
-use Rattle.std.specs.Prelude.{All}
+use Rattle.recorder.proofs.Common.{◌≡◌, ◌<◌, ◌++◌, ◌∷◌, [], Bool, true, false, cond, refl, sym, ap, ◌∙◌, subst, All, map-append, is_invocation}
+use Rattle.recorder.proofs.Common.{stamps_in}
 use mir.Val.{bool_byte}
-use Rattle.std.proofs.lemmas.List.{map-append}
-use Rattle.events.specs.Events.{is_invocation}
-use Rattle.recorder.specs.Records.{stamps_in}
 use Rattle.recorder.proofs.RecordLemmas.{IsRecord-push}
-use Rattle.recorder.proofs.recorders.Recorder.record.Goals as goal
 use Rattle.recorder.proofs.recorders.Recorder.record.Goals.{In_default-push}
+use Rattle.recorder.proofs.recorders.Recorder.record.Goals as goal
 
 byte : (b : Bool) → bool_byte b ≡ cond b 1 0
 byte true = refl

@@ -1,12 +1,6 @@
-use Rattle.std.proofs.Common.{ap, sym, subst, ◌∙◌}
-use Rattle.std.specs.Prelude.{flat_map}
+use Rattle.running.proofs.Common.{ap, sym, subst, ◌∙◌, flat_map, AreHistoryEvents, HistoryView, with_no_start, events_by_stamp, HasOwnEvents, Run}
+use Rattle.running.proofs.Common.{shows, opened_for}
 use Rattle.std.proofs.lemmas.Result.{IfOk-weaker}
-use Rattle.events.specs.Histories.{AreHistoryEvents}
-use Rattle.events.specs.HistoryView.{HistoryView, with_no_start}
-use Rattle.logs.specs.Logs.{events_by_stamp}
-use Rattle.art_shared.specs.Ends.{HasOwnEvents}
-use Rattle.running.specs.Fitting.{Run}
-use Rattle.running.specs.Groups.{shows, opened_for}
 use Rattle.running.proofs.CloseLemmas.{logged-history}
 use Rattle.running.proofs.ReadMomentLemmas.{scans-have-moments, gets-have-moments, is-linearizable}
 use Rattle.running.proofs.arena.Arena.history.Goals as goal

@@ -1,7 +1,4 @@
-use Rattle.std.proofs.Common.{length, ap, sym, subst, ◌∙◌, arith}
-use Rattle.art_shared.specs.Views.{merge}
-use Rattle.running.specs.Fitting.{Fit}
-use Rattle.running.specs.Groups.{shows}
+use Rattle.running.proofs.Common.{length, ap, sym, subst, ◌∙◌, arith, merge, Fit, shows}
 use Rattle.running.proofs.FitLemmas.{fit-merge}
 use Rattle.running.proofs.GatherLemmas.{merge-length}
 use Rattle.running.proofs.CloseLemmas.{as-many, same-setup, same-processes}

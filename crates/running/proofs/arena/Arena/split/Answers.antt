@@ -1,6 +1,4 @@
-use Rattle.std.proofs.Common.{◌≡◌, ◌-◌, length, take, drop, ap, sym, subst, ◌∙◌, arith}
-use Rattle.running.specs.Fitting.{Fit}
-use Rattle.running.specs.Groups.{shows}
+use Rattle.running.proofs.Common.{◌≡◌, ◌-◌, length, take, drop, ap, sym, subst, ◌∙◌, arith, Fit, shows}
 use Rattle.running.proofs.FitLemmas.{fit-cut}
 use Rattle.running.proofs.CloseLemmas.{as-many}
 use Rattle.running.proofs.arena.Arena.split.Goals as goal

@@ -1,6 +1,4 @@
-use Rattle.std.proofs.Common.{◌+◌, IsTrue, refl, sym, subst, arith}
-use Rattle.art_shared.specs.Places.{shown}
-use Rattle.running.specs.Steps.{is_open, Ran}
+use Rattle.running.proofs.Common.{◌+◌, IsTrue, refl, sym, subst, arith, shown, is_open, Ran}
 use Rattle.running.proofs.StepLemmas.{ran-step, beside-same, beside-after, told-some, told-none}
 use Rattle.running.proofs.runner.Runner.advance.Goals as goal
 

@@ -1,7 +1,4 @@
-use Rattle.std.proofs.Common.{IsTrue}
-use Rattle.art_shared.specs.Places.{shown, IsPlaceOf}
-use Rattle.running.specs.Fitting.{IsFirst, IsBeside}
-use Rattle.running.specs.Steps.{is_open, Ran}
+use Rattle.running.proofs.Common.{IsTrue, shown, IsPlaceOf, IsFirst, IsBeside, is_open, Ran}
 use Rattle.running.proofs.runner.Runner.advance.Given as goal
 
 abbrev pub invariant-loop-made : goal.invariant-loop-made

@@ -1,5 +1,4 @@
-use Rattle.std.proofs.Common.{refl, sym, ◌∙◌, ap, rules, arith}
-use Rattle.art_steps.specs.Act.{act}
+use Rattle.running.proofs.Common.{refl, sym, ◌∙◌, ap, rules, arith, act}
 use Rattle.running.proofs.FitLemmas.{left-is}
 use Rattle.running.proofs.StepLemmas.{invoke-first}
 use Rattle.running.proofs.runner.Runner.begin.Goals as goal

@@ -1,6 +1,4 @@
-use Rattle.std.proofs.Common.{refl, sym, ap, ◌∙◌}
-use Rattle.art.specs.Tasks.{rest_of}
-use Rattle.art.specs.Doings.{after_access}
+use Rattle.running.proofs.Common.{refl, sym, ap, ◌∙◌, rest_of, after_access}
 use Rattle.running.proofs.StepLemmas.{access-first}
 use Rattle.running.proofs.runner.Runner.step.Goals as goal
 

@@ -1,5 +1,4 @@
-use Rattle.std.proofs.Common.{◌≡◌, ℕ, zero, suc, ◌+◌, ◌-◌, List, [], ◌++◌, take, replicate, refl, ap, ◌∙◌, arith}
-use Rattle.search.specs.Links.{LinksView}
+use Rattle.search.proofs.Common.{◌≡◌, ℕ, zero, suc, ◌+◌, ◌-◌, List, [], ◌++◌, take, replicate, refl, ap, ◌∙◌, arith, LinksView}
 use Rattle.search.proofs.links.Links.new.Goals as goal
 
 take_none : (n : ℕ) → take {A = ℕ} n [] ≡ []

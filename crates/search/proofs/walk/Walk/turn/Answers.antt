@@ -1,5 +1,4 @@
-use Rattle.std.proofs.Common.{◌≡◌, Option, None, Some, Result, Ok, Err, ap, refl, sym, ◌∙◌}
-use Rattle.std.specs.Prelude.{IfOk}
+use Rattle.search.proofs.Common.{◌≡◌, Option, None, Some, Result, Ok, Err, ap, refl, sym, ◌∙◌, IfOk}
 use Rattle.std.specs.Result.{result_map_both, result_transpose}
 use Rattle.search.specs.declared.walk.Turn.TheVariants.{Done}
 use Rattle.search.specs.Turn.{IsTurn}

@@ -1,7 +1,4 @@
-use Rattle.std.proofs.Common.{◌<◌, length, arith}
-use Rattle.events.specs.Operations.{operations}
-use Rattle.list_laws.proofs.Lists.{All-from_contains}
-use Rattle.events.proofs.OperationLemmas.{length-operations_le}
+use Rattle.segments.proofs.Common.{◌<◌, length, arith, operations, All-from_contains, length-operations_le}
 use Rattle.segments.proofs.BelongingLemmas.{BelongsAt-below}
 use Rattle.segments.proofs.segment.Segment.whole.Goals as goal
 

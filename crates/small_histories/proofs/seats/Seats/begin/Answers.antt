@@ -1,5 +1,4 @@
-use Rattle.std.proofs.Common.{◌∙◌, sym}
-use Rattle.std.proofs.lemmas.List.{nil_from_length}
+use Rattle.small_histories.proofs.Common.{◌∙◌, sym, nil_from_length}
 use Rattle.small_histories.proofs.StepLemmas.{none_free, begin_step}
 use Rattle.small_histories.proofs.seats.Seats.begin.Goals as goal
 

@@ -1,5 +1,4 @@
-use Rattle.std.proofs.Common.{ℕ, List, [], refl, subst}
-use Rattle.monitor.specs.Following.{IsFollowing}
+use Rattle.stream_engines.proofs.Common.{ℕ, List, [], refl, subst, IsFollowing}
 use Rattle.stream_engines.proofs.FirstLemmas.{start_alone}
 use Rattle.stream_engines.proofs.followed.Followed.from_start.Goals as goal
 

@@ -1,8 +1,5 @@
-use Rattle.history_text.specs.declared.version.TextVersion.TheVariants.{One}
-use Rattle.std.proofs.Common.{[], refl, subst}
-use Rattle.history_text.specs.declared.version.TextVersion.{TextVersion}
+use Rattle.stream_engines.proofs.Common.{One, [], refl, subst, TextVersion, as_event, SpellsEvent, SpellsFirst}
 use Rattle.stream_text.specs.declared.event.FirstLine.{FirstLine}
-use Rattle.stream_text.specs.Lines.{as_event, SpellsEvent, SpellsFirst}
 use Rattle.stream_engines.proofs.FirstLemmas.{no_start}
 use Rattle.stream_engines.proofs.RefusalLemmas.{refused_at}
 use Rattle.stream_engines.proofs.followed.Followed.take_first.Goals as goal
@@ -12,7 +9,7 @@ returns-in-Ok-Event-clause-taken c = λ followed.
     let line = c.args.line.now in
     let spelled : SpellsEvent One line (as_event c.in-Ok-Event.event) =
     subst (λ (first : FirstLine). SpellsFirst line first) c.in-Ok-Event.field-0-is c.in-Ok-Event.ensures.spelled in
-    c.take_event.ensures.taken [] followed
+    c.take_spelled.ensures.taken [] followed
     (subst (λ (version : TextVersion). SpellsEvent version line (as_event c.in-Ok-Event.event)) (no_start c.args.self followed) spelled)
 
 pub returns-in-Ok-Event-clause-stopped : goal.returns-in-Ok-Event-clause-stopped
@@ -20,7 +17,7 @@ returns-in-Ok-Event-clause-stopped c = λ known followed begins.
     let line = c.args.line.now in
     let spelled : SpellsEvent One line (as_event c.in-Ok-Event.event) =
     subst (λ (first : FirstLine). SpellsFirst line first) c.in-Ok-Event.field-0-is c.in-Ok-Event.ensures.spelled in
-    c.take_event.ensures.stopped known [] refl followed
+    c.take_spelled.ensures.stopped known [] refl followed
     (subst (λ (version : TextVersion). SpellsEvent version line (as_event c.in-Ok-Event.event)) (no_start c.args.self followed) spelled) begins
 
 pub returns-in-Err-clause-stopped : goal.returns-in-Err-clause-stopped

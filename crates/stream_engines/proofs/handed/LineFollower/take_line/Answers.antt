@@ -1,41 +1,7 @@
-use Rattle.std.proofs.Common.{◌≡◌, ℕ, ◌+◌, ◌≤◌, List, [], ◌∷◌, ◌++◌, length, Option, Some, None, refl, sym, ap, ◌∙◌, subst, append_assoc, arith}
-use Rattle.std.proofs.lemmas.List.{length-append}
-use Rattle.outcomes.specs.declared.outcome.RunOutcome.{RunOutcome}
-use Rattle.stream_engines.specs.declared.followed.Followed.{Followed}
-use Rattle.stream_engines.specs.declared.handed.LineFollower.{LineFollower}
-use Rattle.stream_engines.specs.declared.handed.LineFollower.TheVariants.{Going, Ended}
-use Rattle.stream_engines.specs.Followed.{IsFollowed}
-use Rattle.stream_engines.specs.Handed.{IsHanded}
-use Rattle.stream_engines.specs.Outcomes.{IsStreamOutcome}
-use Rattle.stream_engines.specs.Refusals.{most_lines}
-use Rattle.stream_engines.specs.StreamTexts.{BeginsWith}
+use Rattle.stream_engines.proofs.Common.{◌+◌, ◌≤◌, refl, subst, arith, LineFollower, IsHanded, most_lines}
 use Rattle.stream_engines.proofs.HandedLemmas.{handed_many}
+use Rattle.stream_engines.proofs.LineLemmas.{went_on, came_out, begins_before}
 use Rattle.stream_engines.proofs.handed.LineFollower.take_line.Goals as goal
-
--- a line more is followed
-went_on : (budget given count : ℕ) (lines : List (List ℕ)) (line : List ℕ) (f next : Followed) → IsHanded budget lines (Going f count given)
-    → count + 1 ≤ most_lines → ((read : List (List ℕ)) → length read ≡ count → IsFollowed read f → IsFollowed (read ++ line ∷ []) next)
-    → IsHanded budget (lines ++ line ∷ []) (Going next (count + 1) given)
-went_on budget given count lines line f next handed few taken = (
-  handed.0,
-  ap (λ (n : ℕ). n + 1) handed.1 ∙ sym (length-append lines (line ∷ [])),
-  few,
-  taken lines (sym handed.1) handed.3,
-)
-
--- or ends the stream
-came_out : (budget given count : ℕ) (lines : List (List ℕ)) (line : List ℕ) (f : Followed) (outcome : RunOutcome)
-    → IsHanded budget lines (Going f count given)
-    → ((known : Option (List ℕ)) (read : List (List ℕ)) → length read ≡ count → IsFollowed read f → BeginsWith known (read ++ line ∷ [])
-    → IsStreamOutcome given known outcome)
-    → IsHanded budget (lines ++ line ∷ []) (Ended outcome)
-came_out budget given count lines line f outcome handed stopped = λ known begins.
-    subst (λ (b : ℕ). IsStreamOutcome b known outcome) handed.0 (stopped known lines (sym handed.1) handed.3 begins)
-
--- a text that begins with these lines and one more begins with these
-begins_before : (known : Option (List ℕ)) (lines : List (List ℕ)) (line : List ℕ) → BeginsWith known (lines ++ line ∷ []) → BeginsWith known lines
-begins_before None lines line begins = tt
-begins_before (Some text) lines line begins = (line ∷ begins.0, begins.1 ∙ append_assoc lines (line ∷ []) begins.0)
 
 pub returns-then-lines-ge-MOST_LINES : goal.returns-then-lines-ge-MOST_LINES
 returns-then-lines-ge-MOST_LINES c = λ budget lines handed.

@@ -1,5 +1,4 @@
-use Rattle.std.proofs.Common.{◌≡◌, ℕ, List, length, [], ◌∷◌, ◌++◌, take, refl, sym, ap, ◌∙◌, subst, append_assoc, append-nil}
-use Rattle.stream_engines.specs.Handed.{IsHanded}
+use Rattle.stream_engines.proofs.Common.{◌≡◌, ℕ, List, length, [], ◌∷◌, ◌++◌, take, refl, sym, ap, ◌∙◌, subst, append_assoc, append-nil, IsHanded}
 use Rattle.stream_engines.proofs.HandedLemmas.{lines_of-cut, handed_next, handed_all, handed_last, none_left}
 use Rattle.stream_engines.proofs.handed.LineFollower.take_lines.Goals as goal
 

@@ -1,7 +1,5 @@
 -- Some lines were taken, and those of the bytes at hand are to come.
-use Rattle.std.proofs.Common.{◌≡◌, ℕ, List, ◌++◌, length}
-use Rattle.stream_text.specs.Cuts.{lines_of}
-use Rattle.stream_engines.specs.Handed.{IsHanded}
+use Rattle.stream_engines.proofs.Common.{◌≡◌, ℕ, List, ◌++◌, length, lines_of, IsHanded}
 use Rattle.stream_engines.proofs.handed.LineFollower.take_lines.Given as goal
 
 abbrev pub invariant-loop-count : goal.invariant-loop-count

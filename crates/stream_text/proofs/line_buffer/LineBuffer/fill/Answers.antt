@@ -1,13 +1,10 @@
--- The bytes stand where room was made for others, and those that were read stand behind them.
-use Rattle.std.proofs.Common.{◌≡◌, ◌+◌, List, ℕ, length, ap, ◌∙◌, arith}
-use Rattle.std.specs.List.{between}
-use Rattle.std.proofs.lemmas.Result.{err_from_is_err_and}
-use Rattle.stream_text.specs.LineBuffers.{LineBufferView}
+-- The bytes are where room was made for others, and those that were read come after them.
+use Rattle.stream_text.proofs.Common.{◌≡◌, ◌+◌, List, ℕ, length, ap, ◌∙◌, arith, between, err_from_is_err_and, LineBufferView}
 use Rattle.stream_text.proofs.LineBufferLemmas.{kept_before, grown_behind, length_between}
-use Rattle.stream_text.proofs.line_buffer.LineBuffer.fill.Goals as goal
 use Rattle.stream_text.proofs.line_buffer.LineBuffer.fill.Goals.{After-make_room-from}
+use Rattle.stream_text.proofs.line_buffer.LineBuffer.fill.Goals as goal
 
--- the bytes stand where room was made
+-- the bytes are where room was made
 moved : (g : _) (c : After-make_room-from g)
     → between c.make_room-from.result.0 c.make_room-from.result.1 c.make_room-from.new.buffer ≡ c.args.self.now.bytes
 moved g c =

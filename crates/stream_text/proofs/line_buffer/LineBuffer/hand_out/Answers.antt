@@ -1,6 +1,4 @@
-use Rattle.std.proofs.Common.{◌≡◌, ◌≤◌, ◌+◌, List, ℕ, length, take, drop, ap, ap₂, ◌∙◌, arith}
-use Rattle.std.specs.List.{between}
-use Rattle.stream_text.specs.LineBuffers.{LineBufferView}
+use Rattle.stream_text.proofs.Common.{◌≡◌, ◌≤◌, ◌+◌, List, ℕ, length, take, drop, ap, ap₂, ◌∙◌, arith, between, LineBufferView}
 use Rattle.stream_text.proofs.LineBufferLemmas.{between_front, between_rest, length_between}
 use Rattle.stream_text.proofs.line_buffer.LineBuffer.hand_out.Goals as goal
 

@@ -1,3 +1,0 @@
-mod Common
-pub mod versions
-pub mod moments

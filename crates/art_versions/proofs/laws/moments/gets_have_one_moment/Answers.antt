@@ -1,5 +1,0 @@
-use Rattle.art_versions.proofs.moments.MomentLemmas.{get-has-moment}
-use Rattle.art_versions.proofs.laws.moments.gets_have_one_moment.Goals as goal
-
-pub returns : goal.returns
-returns c = get-has-moment

@@ -1,5 +1,0 @@
-use Rattle.art_versions.proofs.moments.MomentLemmas.{scan-has-moment}
-use Rattle.art_versions.proofs.laws.moments.scans_have_one_moment.Goals as goal
-
-pub returns : goal.returns
-returns c = scan-has-moment

@@ -1,2 +1,0 @@
-pub mod versions
-pub mod moments

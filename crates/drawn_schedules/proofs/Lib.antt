@@ -1,3 +1,0 @@
-mod PlanLemmas
-mod RestLemmas
-mod TurnLemmas

@@ -1,0 +1,49 @@
+-- Laws of what is said where a stream goes wrong.
+use Rattle.std.specs.Prelude.{◌≡◌, ℕ, suc, true, false, List, [], ◌∷◌, ◌++◌, length, All, Any, Some}
+use Rattle.events.specs.declared.event.Call.TheVariants.{Get}
+use Rattle.events.specs.declared.event.Event.{Event}
+use Rattle.events.specs.declared.event.Event.TheVariants.{Answer, Invoke}
+use Rattle.events.specs.declared.event.Reply.{Reply}
+use Rattle.events.specs.declared.operation.Operation.{Operation}
+use Rattle.events.specs.Events.{IsWellFormed}
+use Rattle.events.specs.HistoryFaults.{has_open_call}
+use Rattle.events.specs.Operations.{operations}
+use Rattle.map_object.specs.MapObject.{Contents, IsRising}
+use Rattle.orders.specs.Orders.{IsLinearizable}
+use Rattle.key_effects.specs.KeyedCalls.{is_refusal}
+use Rattle.kept_parts.specs.KeptParts.{KeptPart, AreKept}
+use Rattle.part_pasts.specs.Ranges.{covered}
+use Rattle.parts.specs.Keeping.{pasts_of}
+use Rattle.losses.specs.KeyLosses.{AreKeyLosses}
+use Rattle.losses.specs.Laws.{MayHave}
+use Rattle.losses.specs.declared.loss.Loss.{Loss}
+use Rattle.losses.specs.declared.lost_keys.KeyLoss.{KeyLoss}
+use Rattle.monitor.specs.Calls.{MayReply}
+use Rattle.monitor.specs.Outcomes.{IsLost}
+
+-- if some map answers the call so, all that is said of keys is of keys of the lost part, and may be so with those calls left that have the key
+abbrev pub LossesAreReached : Type 0
+LossesAreReached =
+    (start : Contents) (events : List Event) (process : ℕ) (reply : Reply) (loss : Loss) (losses : List KeyLoss) → IsRising start
+    → IsLost start events process reply loss → MayReply loss.call reply
+    → AreKeyLosses (Some loss.call) (pasts_of loss.part) loss.puts.items losses → let calls = operations (events ++ Answer process reply ∷ []) in
+    All (λ said. (covered loss.part.ranges.items said.key ≡ true) × All (MayHave start calls said.key said.invoked.items) said.from.items) losses
+
+-- a get of a key that begins after some events, and is answered at once
+abbrev pub read_after : List Event → ℕ → Reply → Operation
+read_after events key reply = record {
+  call = Get key;
+  inv = length events;
+  response = Some
+      (record { res = suc (length events); reply = reply });
+}
+
+-- The pasts of a part that is kept after some events miss nothing. If a get of one of its keys may be given a reply then, it may be given it after
+-- the calls that are left in one of these pasts.
+abbrev pub NothingIsMissed : Type 0
+NothingIsMissed =
+    (start : Contents) (events : List Event) (part : KeptPart) (rest : List KeptPart) (process key : ℕ) (reply : Reply) → IsRising start
+    → IsWellFormed events → AreKept start (length events) (operations events) (part ∷ rest) → has_open_call process events ≡ false
+    → part.keys key ≡ true → is_refusal reply ≡ false
+    → IsLinearizable start (operations (events ++ Invoke process (Get key) ∷ Answer process reply ∷ []))
+    → Any (λ past. IsLinearizable past.pairs (past.left ++ read_after events key reply ∷ [])) part.pasts

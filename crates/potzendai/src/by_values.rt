@@ -1,0 +1,139 @@
+// The calls on a stream whose events are given by their values.
+ghost use Rattle.std.specs.Prelude.{◌≡◌, ℕ, List, [], ◌∷◌, ◌++◌, Option, None, IfOk, IfSome};
+ghost use Rattle.events.specs.declared.event.Reply.{Reply as Answer};
+ghost use Rattle.potzendai.specs.Follows.{Follows, standing_of};
+ghost use Rattle.potzendai.specs.Streams.{BeginUnlinearizable};
+ghost use Rattle.potzendai.specs.Values.{call_line, call_of, reply_line, reply_of};
+ghost use Rattle.stream_engines.specs.EventLines.{CallHasWords, ReplyHasWords};
+ghost use Rattle.stream_engines.specs.Handed.{IsHanded};
+ghost use Rattle.stream_text.specs.Cuts.{lines_of};
+
+use crate::handle::{PotzendaiFollower, put, take};
+use crate::kinds::{PotzendaiPair, call_of, reply_of};
+use crate::told::stream_status;
+use events::{Call, Memory, Reply};
+use outcomes::{RunOutcome, WORDS};
+use std::alloc::Global;
+use std::mem::replace;
+use stream_engines::LineFollower;
+
+/// Takes the invocation of a call by a process: what `potzendai_follow_event` makes of its line
+/// (`call_line`). The numbers after the kind are the key and the value of an insert, both ends of a
+/// scan, or the key, the old value and the new value of a replace. If there is no such kind, the line
+/// spells no event. Returns the status of the stream so far, as that call does.
+#[unsafe(no_mangle)]
+pub extern "C" fn potzendai_follow_invoke(
+    alloc: Global,
+    handle: &mut PotzendaiFollower,
+    process: u32,
+    kind: u32,
+    key: u64,
+    value: u64,
+    other: u64,
+) -> u32
+    ensures handed { (budget : ℕ) (lines : List (List ℕ)) → Follows budget lines handle.old.follows
+        → Follows budget (lines ++ call_line process (call_of kind key value other) ∷ [])
+        handle.new.follows }
+    ensures closed { handle.old.follows ≡ None → handle.new.follows ≡ None }
+    ensures status { result ≡ standing_of handle.new.follows }
+
+    // What a no says of a stream if all its lines so far were given.
+    ensures no { (budget : ℕ) (all : List ℕ) → Follows budget (lines_of all) handle.new.follows
+        → result ≡ 1 → BeginUnlinearizable (lines_of all) }
+{
+    let Some(boxed) = take(alloc, handle) else {
+        return u32::from(WORDS);
+    };
+    let mut boxed = boxed;
+    let follower = replace(&mut *boxed, LineFollower::Ended(RunOutcome::Memory));
+    *boxed = take_call(alloc, follower, process, call_of(kind, key, value, other));
+    let status = stream_status(&boxed);
+    put(alloc, handle, boxed);
+    status
+}
+
+/// Takes the answer of the open call of a process: what `potzendai_follow_event` makes of its line
+/// (`reply_line`). The value and the pairs count only if an answer of this kind has them. If there is
+/// no such kind, the line spells no event. Returns the status of the stream so far, as that call does.
+#[unsafe(no_mangle)]
+pub extern "C" fn potzendai_follow_answer_with(
+    alloc: Global,
+    handle: &mut PotzendaiFollower,
+    process: u32,
+    kind: u32,
+    value: u64,
+    pairs: &[PotzendaiPair],
+) -> u32
+    ensures handed { (budget : ℕ) (lines : List (List ℕ)) → Follows budget lines handle.old.follows
+        → Follows budget (lines ++ reply_line process (reply_of kind value pairs.now) ∷ [])
+        handle.new.follows }
+    ensures closed { handle.old.follows ≡ None → handle.new.follows ≡ None }
+    ensures status { result ≡ standing_of handle.new.follows }
+
+    // What a no says of a stream if all its lines so far were given.
+    ensures no { (budget : ℕ) (all : List ℕ) → Follows budget (lines_of all) handle.new.follows
+        → result ≡ 1 → BeginUnlinearizable (lines_of all) }
+{
+    let Some(boxed) = take(alloc, handle) else {
+        return u32::from(WORDS);
+    };
+    let mut boxed = boxed;
+    let follower = replace(&mut *boxed, LineFollower::Ended(RunOutcome::Memory));
+    let reply = reply_of(alloc, kind, value, pairs);
+    *boxed = take_answer(alloc, follower, process, reply);
+    let status = stream_status(&boxed);
+    put(alloc, handle, boxed);
+    status
+}
+
+/// Takes the invocation of a call, if there is one; otherwise a line that spells no event.
+fn take_call(
+    alloc: Global,
+    follower: LineFollower,
+    process: u32,
+    call: Option<Call>,
+) -> LineFollower
+    ensures { (budget : ℕ) (lines : List (List ℕ)) → IfSome call CallHasWords
+        → IsHanded budget lines follower
+        → IsHanded budget (lines ++ call_line process call ∷ []) result }
+{
+    match call {
+        Some(call) => follower.take_call(alloc, process, call),
+        None => follower.take_lines(alloc, b"{\"invoke\":null}"),
+    }
+}
+
+/// Takes the answer of a call, unless memory ran out for it.
+fn take_answer(
+    alloc: Global,
+    follower: LineFollower,
+    process: u32,
+    reply: Result<Option<Reply>, Memory>,
+) -> LineFollower
+    ensures { (budget : ℕ) (lines : List (List ℕ)) (given : Option Answer)
+        → IfOk reply (λ found. found ≡ given) → IfOk reply (λ found. IfSome found ReplyHasWords)
+        → IsHanded budget lines follower
+        → IsHanded budget (lines ++ reply_line process given ∷ []) result }
+{
+    match reply {
+        Ok(reply) => take_reply(alloc, follower, process, reply),
+        Err(_) => follower.out_of_memory(),
+    }
+}
+
+/// Takes the answer of a call, if there is one; otherwise a line that spells no event.
+fn take_reply(
+    alloc: Global,
+    follower: LineFollower,
+    process: u32,
+    reply: Option<Reply>,
+) -> LineFollower
+    ensures { (budget : ℕ) (lines : List (List ℕ)) → IfSome reply ReplyHasWords
+        → IsHanded budget lines follower
+        → IsHanded budget (lines ++ reply_line process reply ∷ []) result }
+{
+    match reply {
+        Some(reply) => follower.take_reply(alloc, process, reply),
+        None => follower.take_lines(alloc, b"{\"answer\":[null]}"),
+    }
+}

@@ -1,6 +1,0 @@
--- The keys rise so far, from each pair to the next.
-use Rattle.replay_text.proofs.RisingPairLemmas.{RisesNext}
-use Rattle.replay_text.proofs.starting_pairs.keys_rise.Given as goal
-
-abbrev pub invariant-loop-place : goal.invariant-loop-place
-invariant-loop-place l = RisesNext l.pairs l.place

@@ -1,8 +1,0 @@
--- The values so far are those of the items.
-use Rattle.std.proofs.Common.{◌≡◌, map, take}
-use Rattle.serde_json.specs.View.{view}
-use Rattle.replay_text.specs.ReplayTexts.{item_data}
-use Rattle.replay_text.proofs.write_parts.schedule_value.Given as goal
-
-abbrev pub invariant-loop-item : goal.invariant-loop-item
-invariant-loop-item l = map view l.items.items ≡ map item_data (take l.item-index l.schedule)

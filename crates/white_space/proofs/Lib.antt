@@ -1,3 +1,0 @@
-mod WordLemmas
-mod ContentLemmas
-mod TextLemmas

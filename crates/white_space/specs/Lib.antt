@@ -1,2 +1,0 @@
-pub mod WhiteSpace
-pub mod Laws
