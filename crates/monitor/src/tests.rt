@@ -93,17 +93,27 @@ fn a_scan_without_keys(rt: HostRuntime) -> Result<(), FollowFault> {
     Ok(())
 }
 
-// insert 1 5, 6 and 7 are pending together, and the first is answered 7: an order has the third
-// before it, and with budget 1 it is not known whether there is one
+// insert 1 5 and 6 are pending together, and gets one after another answer 5, 6 and 5: that has no
+// order. The orders before are guessed, and with budget 1 no search says that there is none
 #[test]
 fn a_search_beyond_its_budget(rt: HostRuntime) -> Result<(), FollowFault> {
     let alloc = rt.alloc();
     let monitor = Monitor::new(alloc, &[])?;
     let monitor = monitor.invoke(alloc, 0, Call::Insert(1, 5))?;
-    let monitor = monitor.invoke(alloc, 1, Call::Insert(1, 6))?;
-    let monitor = monitor.invoke(alloc, 2, Call::Insert(1, 7))?;
-    match monitor.answer(alloc, 0, Reply::Some(7), 1)? {
-        Answered::Spent(loss) => assert!(rt; loss.event == 3 && loss.number == 0),
+    let mut monitor = monitor.invoke(alloc, 1, Call::Insert(1, 6))?;
+    for value in 5..7 {
+        monitor = monitor.invoke(alloc, 2, Call::Get(1))?;
+        match monitor.answer(alloc, 2, Reply::Some(value), 1)? {
+            Answered::Going(next) => monitor = next,
+            _ => {
+                assert!(rt; false);
+                return Ok(());
+            }
+        }
+    }
+    let monitor = monitor.invoke(alloc, 2, Call::Get(1))?;
+    match monitor.answer(alloc, 2, Reply::Some(5), 1)? {
+        Answered::Spent(loss) => assert!(rt; loss.event == 7 && loss.number == 4),
         _ => assert!(rt; false),
     }
     Ok(())
