@@ -3,10 +3,13 @@ use Rattle.kept_fronts.proofs.Common.{◌≡◌, ℕ, ◌<◌, Bool, true, false
 use Rattle.kept_fronts.proofs.Common.{arith, ◌≢◌, slice_get, slice_index, map, IsTrue, IsSomeAnd, All, AllPairs, Contains, false_from_ne_true}
 use Rattle.kept_fronts.proofs.Common.{both_ways, cases_order, All-append, All-head, All-tail, All-contains, Contains-append_left}
 use Rattle.kept_fronts.proofs.Common.{Contains-append_right, slice_get-get_or, get_or_from_slice_get, Operation, is_completed, precedes}
-use Rattle.kept_fronts.proofs.Common.{NonePrecedesItself, Contents, calls_at, IsLegal, KeepsPrecedence, IsCompletedAt, IsOrder, after_calls}
-use Rattle.kept_fronts.proofs.Common.{IsLegal-append, calls_at-append, IsCompletedAt-below, IsFront, IsLegalOrder-from_front, pairs_after}
-use Rattle.kept_fronts.proofs.Common.{AllPairs-append, AllPairs-at, AllPairs-from_at, All-at, All-from_contains, Contains-at, place_of-Contains}
-use Rattle.kept_fronts.proofs.Common.{place_before-Contains, has_number-Contains, has_number-from_Contains, AreLeft}
+use Rattle.kept_fronts.proofs.Common.{NonePrecedesItself, calls_at, IsLegal, KeepsPrecedence, IsCompletedAt, IsOrder, after_calls, IsLegal-append}
+use Rattle.kept_fronts.proofs.Common.{calls_at-append, IsCompletedAt-below, IsLegalOrder-from_front, AllPairs-append, AllPairs-at, AllPairs-from_at}
+use Rattle.kept_fronts.proofs.Common.{All-at, All-from_contains, Contains-at, place_of-Contains, place_before-Contains, AreLeft}
+use Rattle.map_object.specs.MapObject.{Contents}
+use Rattle.configurations.specs.Fronts.{IsFront}
+use Rattle.search.specs.Standing.{pairs_after}
+use Rattle.list_laws.proofs.NumberLemmas.{has_number-Contains, has_number-from_Contains}
 use Rattle.std.specs.List.{cons_option}
 use Rattle.orders.proofs.CallsAtLemmas.{slice_get-calls_at, length-calls_at, number_at}
 use Rattle.list_laws.specs.Lists.{has_number}

@@ -1,7 +1,8 @@
 -- The calls that are not in a front, so far.
 use Rattle.kept_fronts.proofs.Common.{◌≡◌, ℕ, ◌+◌, ◌<◌, List, [], ◌∷◌, ◌++◌, length, sym, subst, ⊎_elim, arith, ◌↔◌, AllPairs, Contains, cases_lt}
-use Rattle.kept_fronts.proofs.Common.{Contains-push, Contains-push_cases, Contains-append_left, all_pairs_push, Operation, AllPairs-nil}
-use Rattle.kept_fronts.proofs.Common.{All-from_contains, Contains-nil, AreLeft}
+use Rattle.kept_fronts.proofs.Common.{Contains-push, Contains-push_cases, Contains-append_left, Operation, AllPairs-nil, All-from_contains}
+use Rattle.kept_fronts.proofs.Common.{Contains-nil, AreLeft}
+use Rattle.std.proofs.lemmas.List.Quantifiers.{all_pairs_push}
 
 -- the places below one that are not in a front, by rising place
 pub record AreLeftBelow (path left : List ℕ) (place : ℕ) : Type 0 where

@@ -1,3 +1,1 @@
-pub mod Standing
-pub mod Closed
-pub mod Mending
+pub mod Searching

@@ -1,11 +1,10 @@
 // An order is guessed by the values that calls found and put.
 ghost use Rattle.std.specs.Prelude.{◌≡◌, ◌<◌, AllPairs, OnOk};
 ghost use Rattle.events.specs.Precedence.{NonePrecedesItself};
-ghost use Rattle.kept_fronts.specs.Standing.{Stands};
+ghost use Rattle.fronts.specs.Standing.{Stands};
 
-use crate::front::Front;
-use crate::guessing::{first_left, try_after};
 use events::{Call, Memory, Operation, Reply};
+use fronts::{Front, first_left, try_after};
 use map_object::SortedMap;
 use orders::may_come_next;
 use quiet_cuts::is_read;
@@ -58,7 +57,8 @@ fn next_place(calls: &[Operation], front: &Front, from: usize) -> Option<u32>
     }
 }
 
-/// The call that is guessed to come next, where all completed calls before a place are in the front.
+/// The call that is guessed to come next, where all completed calls before a place are in the
+/// front.
 fn next_of_chain(calls: &[Operation], front: &Front, from: usize) -> Option<usize>
     requires { Stands calls.now front.now }
 {

@@ -1,13 +1,11 @@
 // An order is repaired: calls that hinder another one are taken out, and put at other places.
 ghost use Rattle.std.specs.Prelude.{◌≡◌, ◌<◌, true, length, AllPairs, IfOk, IfSome, OnOk};
 ghost use Rattle.events.specs.Precedence.{NonePrecedesItself};
-ghost use Rattle.kept_fronts.specs.Standing.{Stands, IsWhole};
+ghost use Rattle.fronts.specs.Standing.{Stands, IsWhole};
 
 use crate::chains::{Need, need_of, puts};
-use crate::front::{Front, Level};
-use crate::guessing::{is_whole, try_next};
-use crate::pushing::{go_back, pop};
 use events::{Memory, Operation};
+use fronts::{Front, Level, go_back, is_whole, pop, try_next};
 use quiet_cuts::is_ended;
 use std::alloc::Global;
 

@@ -1,16 +1,14 @@
 // The calls that are left after a front are searched.
 ghost use Rattle.std.specs.Prelude.{◌≡◌, ◌<◌, ◌++◌, true, IfSome, length, map, slice_index, All, IfOk, OnOk};
 ghost use Rattle.orders.specs.Orders.{calls_at, IsOrder};
-ghost use Rattle.kept_fronts.specs.Closed.{AreLeft};
-ghost use Rattle.kept_fronts.specs.Standing.{places, Stands, AreCalls, IsWhole};
+ghost use Rattle.fronts.specs.Standing.{places, Stands, IsWhole};
+ghost use Rattle.kept_fronts.specs.Searching.{AreCalls, AreLeft};
 
 use crate::chains::follow_chains;
-use crate::front::Front;
-use crate::guessing::{follow, is_whole};
-use crate::pushing::{go_back, push_all};
 use crate::repairing::repair;
 use call_search::{SearchEnd, search_calls};
 use events::{Memory, Operation};
+use fronts::{Front, follow, go_back, is_whole, push_all};
 use std::alloc::Global;
 
 /// How many of the last calls are taken back before each search that comes before a repair.
@@ -33,8 +31,8 @@ const NEAR_BUDGET: u32 = 1_000;
 
 /// Takes the last calls of the front back, guesses an order of what is left, and searches if the
 /// guess is none. It does so with more calls taken back each time, and says whether that led to an
-/// order. After the second time, the front as it was is repaired. When no call of the front would be
-/// left, it takes all back and does not search.
+/// order. After the second time, the front as it was is repaired. When no call of the front would
+/// be left, it takes all back and does not search.
 pub fn search_windows(
     alloc: Global,
     calls: &[Operation],

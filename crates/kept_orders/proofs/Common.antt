@@ -19,12 +19,13 @@ pub use Rattle.configurations.specs.Fronts.{IsFront, PrecedesAt}
 pub use Rattle.events.specs.Precedence.{NonePrecedesItself, is_before, is_completed, precedes}
 pub use Rattle.events.specs.declared.operation.Operation.{Operation}
 pub use Rattle.events.specs.declared.operation.Response.{Response}
-pub use Rattle.kept_fronts.proofs.ClosedLemmas.{IsClosed-from_front}
-pub use Rattle.kept_fronts.specs.Closed.{IsClosed}
-pub use Rattle.kept_fronts.specs.Mending.{HasCompleted}
-pub use Rattle.kept_fronts.specs.Standing.{AreCalls, IsFromOn, IsUndone, IsWhole, Stands, StandsWith, again_or, places}
-pub use Rattle.kept_fronts.specs.declared.front.Front.{Front}
-pub use Rattle.kept_fronts.specs.declared.front.Level.{Level}
+pub use Rattle.fronts.proofs.ClosedLemmas.{IsClosed-from_front}
+pub use Rattle.fronts.specs.Closed.{IsClosed}
+pub use Rattle.fronts.specs.Mending.{HasCompleted}
+pub use Rattle.fronts.specs.Standing.{IsFromOn, IsUndone, IsWhole, Stands, StandsWith, again_or, places}
+pub use Rattle.fronts.specs.declared.front.Front.{Front}
+pub use Rattle.fronts.specs.declared.front.Level.{Level}
+pub use Rattle.kept_fronts.specs.Searching.{AreCalls}
 pub use Rattle.list_laws.proofs.FilterLemmas.{AllPairs-map, AllPairs-weaker, Contains-from_map, Contains-map}
 pub use Rattle.list_laws.proofs.Lists.{All-at, All-back, All-from_contains, All-front, AllPairs-at, AllPairs-from_at, Contains-at, Contains-first}
 pub use Rattle.list_laws.proofs.Lists.{Contains-later, place-push, place_before-Contains, place_of-Contains, slice_get-append_left, slice_get-middle}

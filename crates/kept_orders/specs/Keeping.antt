@@ -1,8 +1,9 @@
 -- A front that is kept as an order.
 use Rattle.std.specs.Prelude.{List}
 use Rattle.events.specs.declared.operation.Operation.{Operation}
-use Rattle.kept_fronts.specs.Standing.{places, Stands, AreCalls, IsWhole}
-use Rattle.kept_fronts.specs.declared.front.Front.{Front}
+use Rattle.fronts.specs.Standing.{places, Stands, IsWhole}
+use Rattle.fronts.specs.declared.front.Front.{Front}
+use Rattle.kept_fronts.specs.Searching.{AreCalls}
 use Rattle.kept_orders.specs.Views.{KeptOrderView}
 
 -- a kept order: a front that is an order of all calls

@@ -1,6 +1,6 @@
 -- Places of calls after another call was inserted.
 use Rattle.std.specs.Prelude.{ℕ, ◌+◌, nat_lt, cond}
-use Rattle.kept_fronts.specs.declared.front.Level.{Level}
+use Rattle.fronts.specs.declared.front.Level.{Level}
 
 -- the place of a call after another one was inserted at a place
 abbrev pub moved_up : ℕ → ℕ → ℕ

@@ -1,16 +1,17 @@
 // A call is answered.
 ghost use Rattle.std.specs.Prelude.{◌≡◌, ◌<◌, ◌++◌, true, length, IfOk, OnOk};
 ghost use Rattle.kept_orders.specs.Views.{answered, MayBeAnswered};
-ghost use Rattle.kept_fronts.specs.Closed.{IsClosed};
-ghost use Rattle.kept_fronts.specs.Mending.{HasCompleted};
-ghost use Rattle.kept_fronts.specs.Standing.{places, Stands, AreCalls, IsWhole, again_or};
+ghost use Rattle.fronts.specs.Closed.{IsClosed};
+ghost use Rattle.fronts.specs.Mending.{HasCompleted};
+ghost use Rattle.fronts.specs.Standing.{places, Stands, IsWhole, again_or};
+ghost use Rattle.kept_fronts.specs.Searching.{AreCalls};
 ghost use Rattle.kept_orders.specs.Answers.{IsAnswer};
 
 use crate::finding::search_on;
 use crate::kept::Kept;
 use crate::kept_order::KeptOrder;
 use events::{Memory, Operation, Response};
-use kept_fronts::{Front, mend, push_all, take_back};
+use fronts::{Front, mend, push_all, take_back};
 use std::alloc::Global;
 
 impl KeptOrder {

@@ -3,13 +3,15 @@ ghost use Rattle.std.specs.Prelude.{◌≡◌, ◌<◌, AllPairs, IfOk};
 ghost use Rattle.events.specs.Precedence.{NonePrecedesItself};
 ghost use Rattle.orders.specs.Orders.{IsOrder};
 ghost use Rattle.kept_orders.specs.Answers.{IsAnswer};
-ghost use Rattle.kept_fronts.specs.Standing.{places, Stands, AreCalls};
+ghost use Rattle.fronts.specs.Standing.{places, Stands};
+ghost use Rattle.kept_fronts.specs.Searching.{AreCalls};
 
 use crate::kept::Kept;
 use crate::kept_order::KeptOrder;
 use call_search::{SearchEnd, search_calls};
 use events::{Memory, Operation};
-use kept_fronts::{Front, follow, is_whole, push_all, search_windows};
+use fronts::{Front, follow, is_whole, push_all};
+use kept_fronts::search_windows;
 use map_object::SortedMap;
 use std::alloc::Global;
 

@@ -1,7 +1,8 @@
 // A completed call is inserted.
 ghost use Rattle.std.specs.Prelude.{◌≡◌, ◌≢◌, ◌<◌, ◌≤◌, ◌+◌, ◌^◌, true, length, take, drop, All, AllPairs, IfOk, OnOk};
 ghost use Rattle.kept_orders.specs.Views.{MayCome, HasCome};
-ghost use Rattle.kept_fronts.specs.Standing.{Stands, AreCalls, IsWhole};
+ghost use Rattle.fronts.specs.Standing.{Stands, IsWhole};
+ghost use Rattle.kept_fronts.specs.Searching.{AreCalls};
 ghost use Rattle.kept_orders.specs.Answers.{IsAnswerWith};
 
 use crate::finding::search_on;
@@ -9,7 +10,7 @@ use crate::kept::Kept;
 use crate::kept_order::{CALL_LIMIT, KeptOrder};
 use crate::moving::make_room;
 use events::{Memory, Operation};
-use kept_fronts::{Front, mend};
+use fronts::{Front, mend};
 use std::alloc::Global;
 
 impl KeptOrder {

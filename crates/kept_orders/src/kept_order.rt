@@ -1,10 +1,10 @@
 // An order of calls that is kept.
 ghost use Rattle.std.specs.Prelude.{◌≡◌, ◌<◌, ◌++◌, ◌∷◌, [], None, All, IfOk, OnOk, OnErr};
 ghost use Rattle.kept_orders.specs.Views.{IsKeptOrder};
-ghost use Rattle.kept_fronts.specs.Standing.{places};
+ghost use Rattle.fronts.specs.Standing.{places};
 
 use events::{Memory, Operation};
-use kept_fronts::{Front, Level};
+use fronts::{Front, Level};
 use map_object::SortedMap;
 use std::alloc::Global;
 use std::marker::Model;

@@ -1,11 +1,11 @@
 // Places of calls after another call was inserted.
 ghost use Rattle.std.specs.Prelude.{◌≡◌, ℕ, ◌<◌, ◌≤◌, ◌+◌, ◌^◌, false, length, map, min, take, drop, All, OnOk};
 ghost use Rattle.std.specs.List.{insert};
-ghost use Rattle.kept_fronts.specs.Standing.{Stands};
+ghost use Rattle.fronts.specs.Standing.{Stands};
 ghost use Rattle.kept_orders.specs.Moving.{moved, moved_up};
 
 use events::{Memory, Operation};
-use kept_fronts::{Front, Level};
+use fronts::{Front, Level};
 use quiet_cuts::is_ended;
 
 /// Makes room for a call that is inserted at a place of the list, and is not in the front. It costs

@@ -1,4 +1,5 @@
-use Rattle.kept_fronts.proofs.Common.{get_or, take, [], ◌∷◌, ◌++◌, ap, sym, ◌∙◌, arith, map, slice_index, take_all, take_more, map-append}
+use Rattle.kept_fronts.proofs.Common.{get_or, take, [], ◌∷◌, ◌++◌, ap, sym, ◌∙◌, arith, map, slice_index}
+use Rattle.std.proofs.lemmas.List.{take_all, take_more, map-append}
 use Rattle.kept_fronts.proofs.windows.places_of.Goals as goal
 
 pub loop-place-preserved : goal.loop-place-preserved

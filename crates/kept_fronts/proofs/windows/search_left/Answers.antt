@@ -1,5 +1,6 @@
-use Rattle.kept_fronts.proofs.Common.{◌++◌, sym, ◌∙◌, ap, subst, IsOrder, IsFront-from_order, IsClosed, places}
-use Rattle.kept_fronts.proofs.ClosedLemmas.{IsClosed-from_front}
+use Rattle.kept_fronts.proofs.Common.{◌++◌, sym, ◌∙◌, ap, subst, IsOrder, IsFront-from_order, places}
+use Rattle.fronts.specs.Closed.{IsClosed}
+use Rattle.fronts.proofs.ClosedLemmas.{IsClosed-from_front}
 use Rattle.kept_fronts.proofs.windows.search_left.Goals as goal
 
 pub push_all-requires-clause-closed : goal.push_all-requires-clause-closed

@@ -2,7 +2,7 @@ use Rattle.kept_orders.proofs.Common.{◌≤◌, ◌<◌, ◌++◌, ◌∷◌, [
 use Rattle.kept_orders.proofs.Common.{IsClosed, HasCompleted, moved, places, Stands, AreCalls, IsClosed-from_front}
 use Rattle.kept_orders.proofs.MoveLemmas.{places_moved, stands_moved, closed_last, complete_last}
 use Rattle.kept_orders.proofs.InsertLemmas.{few_places, came, are_calls_with}
-use Rattle.kept_fronts.proofs.StandingLemmas.{stands-as}
+use Rattle.fronts.proofs.StandingLemmas.{stands-as}
 use Rattle.kept_orders.proofs.inserting.insert_in_order.Goals as goal
 
 pub make_room-requires-clause-few : goal.make_room-requires-clause-few

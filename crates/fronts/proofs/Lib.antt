@@ -1,0 +1,6 @@
+mod Common
+pub mod StandingLemmas
+pub mod ClosedLemmas
+mod GuessLemmas
+mod TakeLemmas
+mod MendLemmas
