@@ -53,6 +53,20 @@ OTHER_TOP_LEVELS = [
     '{"events":[],"note":0,"start":[],"version":3}',
 ]
 
+# Texts that are no JSON, and differ from the compact form in a few bytes.
+NO_JSON = [
+    '{"events":[],"version":01}',
+    '{"events":[],"version":1}1',
+    '{"events":[],"version":1}}',
+    '{"events":[]],"version":1}',
+    '{"events":[,"version":1}',
+    '{"events":[],"start":[[5,7],],"version":2}',
+    '{"events":[{"invoke":["get",05],"process":0}],"version":1}',
+    '{"events":[{"invoke":["get",5],"process":00}],"version":1}',
+    '{"events":[{"invoke":["get",5],"process":0},],"version":1}',
+    '{"events":[{"invoke":["get",5],"process":0}{"answer":null,"process":0}],"version":1}',
+]
+
 # First events of another form.
 OTHER_FORMS = [
     "0",
@@ -188,7 +202,7 @@ def refused_texts():
     """Texts of histories, and the two lines of their faults."""
     for end in range(len(INSERT_THEN_GET)):
         yield INSERT_THEN_GET[:end], "history: 2 NotJson\n" + JSON
-    for text in (b'{"events":[],"version":1}\xff', b'"\xff"', b"[" * 100_000):
+    for text in (*NO_JSON, b'{"events":[],"version":1}\xff', b'"\xff"', b"[" * 100_000):
         yield text, "history: 2 NotJson\n" + JSON
     for text in (*OTHER_TOP_LEVELS, "[" * 100 + "]" * 100):
         yield text, OTHER_TOP_LEVEL

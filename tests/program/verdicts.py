@@ -315,6 +315,21 @@ SPELLED = [
         """{"version": 2, "start": [[5, 7], [6, 0]], "events": [{"invoke": ["replace", 5, 7, 8], "process": 0},
  {"answer": 7, "process": 0}, {"process": 0, "invoke": ["get", 5]}, {"process": 0, "answer": 8}]}""", "0,1",
     ),
+    # A line feed may follow the compact form. The others differ from it in a few bytes.
+    ('{"events":[{"invoke":["get",5],"process":0},{"answer":null,"process":0}],"version":1}\n', "0"),
+    ('{"events":[{"invoke":["get",5],"process":0},{"answer":null,"process":0}],"version":1}\n\n', "0"),
+    ('{"events":[{"invoke":["get",5],"process":0},{"answer":null,"process":0}],"version":1} ', "0"),
+    ('{"events":[{"invoke":["get",5],"process":0},{"answer":null,"process":0} ],"version":1}', "0"),
+    ('{"events":[{"invoke":["\\u0067et",5],"process":0},{"answer":null,"process":0}],"version":1}', "0"),
+    ('{"events":[{"invoke":["get",5],"process":9,"process":0},{"answer":null,"process":0}],"version":1}', "0"),
+    ('{"events":[7],"events":[{"invoke":["get",5],"process":0},{"answer":null,"process":0}],"version":1}', "0"),
+    ('{"events":[{"invoke":["get",5],"process":0},{"answer":null,"process":0}],"version":2,"version":1}', "0"),
+    ('{"events":[{"invoke":["get",5],"process":0},{"answer":null,"process":0}],"start":[],"start":[],"version":3}', "0"),
+    ('{"events":[{"invoke":["get",5],"note":"","process":0},{"answer":null,"process":0}],"start":[],"version":3}', "0"),
+    (
+        '{"events":[{"invoke":["scan",0,9],"process":63},{"answer":[[0,18446744073709551615],[9,0]],"process":63}],'
+        '"start":[[0,18446744073709551615],[9,0],[10,1]],"version":2}', "0",
+    ),
 ]
 
 WELL = '{"verdict":"yes"}'

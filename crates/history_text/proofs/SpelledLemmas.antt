@@ -26,7 +26,7 @@ plain_stand (Invoke p call ∷ events) = ap (λ b. not (is_replace call) && b) (
 plain_stand (Answer p reply ∷ events) = ap (λ b. is_told reply && b) (plain_stand events)
 
 -- the values of events spell them in each version
-values_spell : (version : TextVersion) (events : List Event) → SpellEvents version (map event_data events) events
+pub values_spell : (version : TextVersion) (events : List Event) → SpellEvents version (map event_data events) events
 values_spell version [] = tt
 values_spell version (e ∷ events) = (inl refl, values_spell version events)
 

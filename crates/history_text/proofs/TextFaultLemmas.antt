@@ -7,8 +7,7 @@ use Rattle.history_text.proofs.Common.{HistoryView, start_limit, IsStart, is_sha
 use Rattle.history_text.proofs.Common.{pair_data, IsEventData, AreSpelled, SpellEvents, document, IsDocument, start_data, start_pairs, may_stand}
 use Rattle.history_text.proofs.Common.{IsJson, SpellsAs, Spells, IsPairFaultAfter, ShowsPairFault, SpellsNoEvent, IsFaultAfter, AreEventsOfText}
 use Rattle.history_text.proofs.Common.{ShowsEventFault, IsDocumentFault, IsTextFault, ShowsFaultAmong, IsFaultAmong, HasOneFault}
-use Rattle.history_text.proofs.Common.{FaultySpellsNoHistory}
-use Rattle.history_text.specs.Limits.{text_limit}
+use Rattle.history_text.proofs.Common.{FaultySpellsNoHistory, text_limit}
 use Rattle.events.proofs.HistoryLemmas.{AreHistoryEvents-next}
 use Rattle.events.proofs.StartLemmas.{IsStart-next}
 use Rattle.history_text.proofs.TextLemmas.{one_event}

@@ -1,9 +1,9 @@
 -- The value of a history has no float, and nests five deep at most.
 use Rattle.events.specs.declared.event.Reply.TheVariants as replies
-use Rattle.history_text.proofs.Common.{One, Two, Three, ◌≡◌, ℕ, ◌≤◌, List, [], ◌∷◌, map, false, refl, arith, Data, depth, items_depth, items_of}
-use Rattle.history_text.proofs.Common.{has_float, items_have_float, Call, Get, Insert, Remove, Scan, Replace, Reply, Event, Invoke, Answer}
-use Rattle.history_text.proofs.Common.{TextVersion, pair_data, call_data, reply_data, event_data, document, least_version, written_start}
-use Rattle.history_text.proofs.Common.{history_data, HistoryView}
+use Rattle.history_text.proofs.Common.{One, Two, Three, ◌≡◌, ℕ, ◌≤◌, List, [], ◌∷◌, map, Option, Some, None, false, refl, arith, Data, depth}
+use Rattle.history_text.proofs.Common.{items_depth, items_of, has_float, items_have_float, Call, Get, Insert, Remove, Scan, Replace, Reply, Event}
+use Rattle.history_text.proofs.Common.{Invoke, Answer, TextVersion, pair_data, call_data, reply_data, event_data, document, least_version}
+use Rattle.history_text.proofs.Common.{written_start, history_data, start_data, HistoryView}
 
 module _ {A : Type 0} (f : A → Data) where
   -- a list has no float where no item has one
@@ -78,18 +78,19 @@ pub depth-event : (e : Event) → depth (event_data e) ≤ 3
 depth-event (Invoke p call) = omega (arith, depth-call call)
 depth-event (Answer p reply) = omega (arith, depth-reply reply)
 
+-- a document nests five deep at most
+pub depth-document : (version : TextVersion) (start : Option (List (ℕ × ℕ))) (events : List Event)
+    → depth (document version (start_data start) (map event_data events)) ≤ 5
+depth-document version None events = omega (arith, items_depth-map event_data 3 depth-event events)
+depth-document version (Some pairs) events =
+    omega (arith, items_depth-map event_data 3 depth-event events, items_depth-map pair_data 1 (λ pair. omega arith) pairs)
+
 -- a history nests five deep at most
 pub depth-history : (history : HistoryView) → depth (history_data history) ≤ 5
 depth-history history = by_version (least_version history)
   where
-    events : items_depth (items_of (map event_data history.events)) ≤ 3
-    events = items_depth-map event_data 3 depth-event history.events
-
-    pairs : items_depth (items_of (map pair_data history.start)) ≤ 1
-    pairs = items_depth-map pair_data 1 (λ pair. omega arith) history.start
-
     by_version : (version : TextVersion)
         → depth (document version (written_start version history.start) (map event_data history.events)) ≤ 5
-    by_version One = omega (arith, events)
-    by_version Two = omega (arith, events, pairs)
-    by_version Three = omega (arith, events, pairs)
+    by_version One = depth-document One None history.events
+    by_version Two = depth-document Two (Some history.start) history.events
+    by_version Three = depth-document Three (Some history.start) history.events

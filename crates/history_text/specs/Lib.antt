@@ -1,3 +1,4 @@
+pub mod Compact
 pub mod JsonFaults
 pub mod Limits
 pub mod TextFaults
@@ -5,3 +6,5 @@ pub mod TextLaws
 pub mod Texts
 pub mod ValueFaults
 pub mod Versions
+pub mod WhiteSpace
+pub mod WhiteSpaceLaws

@@ -13,6 +13,7 @@ ghost use Rattle.history_text.specs.Texts.{number_data, pair_data, SpellEvents, 
 ghost use Rattle.history_text.specs.TextFaults.{IsDocumentFault, IsTextFault};
 ghost use Rattle.history_text.specs.ValueFaults.{IsFaultAmong, IsPairFaultAmong};
 
+use crate::compact_text::compact_turns;
 use crate::json_fault::JsonFault;
 use crate::json_text::json_of;
 use crate::parts::{is_number, items_of, three_members, two_members};
@@ -29,6 +30,21 @@ use std::alloc::Global;
 /// shape, then the limits, then the turn. Without the reading of the JSON it takes time in
 /// proportion to the pairs and the events.
 pub fn read_history(alloc: Global, text: &[u8]) -> Result<History, HistoryFault>
+    ensures spelled { IfOk result (Spells text.now) }
+    ensures history { IfOk result IsHistory }
+    ensures refused { IfErr result (IsTextFault text.now) }
+    ensures accepted { (history : HistoryView) → Spells text.now history → IsHistory history
+        → IfErr result (λ fault. fault ≡ faults.Memory) }
+{
+    if let Some(turns) = compact_turns(alloc, text) {
+        return Ok(turns.history(alloc)?);
+    }
+    history_by_value(alloc, text)
+}
+
+/// Reads the history that a text in any form spells, by its tree of values.
+#[inline(never)]
+fn history_by_value(alloc: Global, text: &[u8]) -> Result<History, HistoryFault>
     ensures spelled { IfOk result (Spells text.now) }
     ensures history { IfOk result IsHistory }
     ensures refused { IfErr result (IsTextFault text.now) }

@@ -1,9 +1,6 @@
 -- The names that most proofs of this crate cite, passed on from one place. Declares nothing.
-pub use Rattle.std.proofs.Common.{Bool, IsTrue, IsUtf8, List, None, Option, Some, [], ap, append-nil, ap₂, arith, cond, drop, false, inl, inr, length}
-pub use Rattle.std.proofs.Common.{length-append, length-take, nat_eq, nat_lt, option_and_then, option_map, refl, rules, string_bytes, subst, suc, sym}
-pub use Rattle.std.proofs.Common.{take, true, zero, ℕ, ⊎_elim, ◌&&◌, ◌*◌, ◌++◌, ◌+◌, ◌-◌, ◌<◌, ◌==◌, ◌||◌, ◌↔◌, ◌∙◌, ◌∷◌, ◌≡◌, ◌≢◌, ◌≤◌}
-pub use Rattle.std.proofs.lemmas.Str.{IsUtf8-append, IsUtf8-encode, IsUtf8-nil, IsUtf8-string_bytes, encode_ascii}
-pub use Rattle.std.specs.Char.{digit_value, encode_utf8, is_ascii_digit, is_digit}
+pub use Rattle.std.proofs.Common.{Bool, IsTrue, List, Some, [], ap, append-nil, arith, drop, false, inl, inr, length, length-append, length-take}
+pub use Rattle.std.proofs.Common.{refl, rules, string_bytes, subst, sym, take, true, ℕ, ⊎_elim, ◌++◌, ◌+◌, ◌<◌, ◌↔◌, ◌∙◌, ◌∷◌, ◌≡◌, ◌≢◌, ◌≤◌}
 pub use Rattle.art_rows.specs.declared.table.Shape.{Shape}
 pub use Rattle.art_steps.specs.declared.variant.Variant.{Variant}
 pub use Rattle.drives.specs.Drives.{IsDrivable, IsDriveOf}
@@ -12,9 +9,7 @@ pub use Rattle.events.specs.Operations.{operations}
 pub use Rattle.events.specs.declared.event.Call.{Call}
 pub use Rattle.history_text.specs.Limits.{text_limit}
 pub use Rattle.history_text.specs.Texts.{Spells}
-pub use Rattle.json.specs.Text.{Within, after_backslash, after_high, after_u, is_high_surrogate, is_low_surrogate, plain, prepend, surrogate_pair}
-unfoldable pub use Rattle.json.specs.Text.{code_unit, content, short_escape}
-pub use Rattle.json.specs.Token.{Token, bad, boolean, null, number}
+pub use Rattle.history_text.specs.WhiteSpaceLaws.{SpellsBetweenWhiteSpace, WhiteSpaceTellsNothing}
 pub use Rattle.judge.specs.Shown.{IsShown}
 pub use Rattle.judge.specs.declared.verdict.Verdict.{Verdict}
 pub use Rattle.judge.specs.declared.verdict.Verdict.TheVariants.{No, Undecided, Yes}
@@ -29,12 +24,9 @@ pub use Rattle.plan_text.specs.PlanTexts.{SpellsPlan}
 pub use Rattle.plan_text.specs.ReplayTexts.{SpellsReplay}
 pub use Rattle.plan_text.specs.Replays.{ReplayView}
 pub use Rattle.plans.specs.declared.fault.PlanFault.{PlanFault}
-pub use Rattle.serde_json.specs.Read.{max_depth, of_json, read}
 pub use Rattle.plan_engines.specs.Answers.{IsReplayAnswer, IsReplayRefusal}
 pub use Rattle.plan_engines.specs.Drives.{IsDriveAnswer, IsDriveRefusal, IsDriven, IsDrivenAnswer, IsTreeDriveAnswer, IsUndriven, SpellsDrivable}
 pub use Rattle.plan_engines.specs.Drives.{WasPassedForPlan}
 pub use Rattle.plan_engines.specs.Schedules.{IsNoPlan, IsOverlong, IsScheduleAnswer, IsScheduleRefusal, SpellsScriptsOf}
 pub use Rattle.plan_engines.specs.VerdictLaws.{IsNoRefutation, LinearizableTextsAreNeverRefuted}
-pub use Rattle.plan_engines.specs.WhiteSpace.{AreWhiteSpace, IsWhiteSpace}
-pub use Rattle.plan_engines.specs.WhiteSpaceLaws.{SpellsBetweenWhiteSpace, WhiteSpaceTellsNothing}
 pub use Rattle.plan_engines.specs.Writes.{AreNeverRefuted, AreRefutedByNoRun, IsFull, SpellsFullReplay, WasWritten, output_of}

@@ -1,7 +1,4 @@
 mod Common
-mod SpaceWordLemmas
-mod SpaceContentLemmas
-mod SpaceTextLemmas
 mod WholePlans
 mod WholeReplays
 mod WholeSchedules

@@ -1,9 +1,10 @@
 -- From what an engine answers of a full tree to what the judge answers of its bytes.
 use Rattle.plan_engines.proofs.Common.{◌≡◌, ◌≢◌, ℕ, ◌≤◌, List, [], ◌++◌, length, drop, Some, refl, sym, ap, subst, ◌∙◌, arith, inl, inr, string_bytes}
-use Rattle.plan_engines.proofs.Common.{length-append, append-nil, read, HistoryView, text_limit, Spells, IsLinearizableHistory, Verdict}
+use Rattle.plan_engines.proofs.Common.{length-append, append-nil, HistoryView, text_limit, Spells, IsLinearizableHistory, Verdict}
 use Rattle.plan_engines.proofs.Common.{SpellsBetweenWhiteSpace, WhiteSpaceTellsNothing, Answer, RunOutcome, Answered, Noted, Refused, Memory, Words}
 use Rattle.plan_engines.proofs.Common.{Failed, IsNoRefutation, LinearizableTextsAreNeverRefuted, output_of, AreNeverRefuted, AreRefutedByNoRun}
 use Rattle.plan_engines.proofs.Common.{WasWritten}
+use Rattle.serde_json.specs.Read.{read}
 use Rattle.std.proofs.Math.Seq.{drop-append_seam}
 use Rattle.std.specs.Prelude.{⊤}
 use Rattle.std.specs.Io.KnownBytes.{Appends, Keeps}

@@ -1,5 +1,3 @@
-pub mod WhiteSpace
-pub mod WhiteSpaceLaws
 pub mod Wanted
 pub mod Faults
 pub mod Answers

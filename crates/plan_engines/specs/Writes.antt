@@ -13,7 +13,7 @@ use Rattle.outcomes.specs.Runs.{IsRun}
 use Rattle.outcomes.specs.Statuses.{answer_status}
 use Rattle.history_engines.specs.Answers.{IsJudgeAnswer}
 use Rattle.history_engines.specs.Outcomes.{IsJudgeOutcome}
-use Rattle.plan_engines.specs.WhiteSpace.{AreWhiteSpace}
+use Rattle.history_text.specs.WhiteSpace.{AreWhiteSpace}
 
 -- a variant is that of a full tree
 abbrev pub IsFull : Variant → Type 0

@@ -8,10 +8,9 @@ ghost use Rattle.plan_engines.specs.Drives.{SpellsDrivable};
 ghost use Rattle.plan_engines.specs.Outcomes.{IsUndrivenOutcome, IsHistoryOutcome};
 
 use crate::faults::plan_fault_outcome;
-use crate::white_space_laws::spells_between_white_space;
 use drives::is_drivable;
 use events::{History, Memory};
-use history_text::write_history;
+use history_text::{spells_between_white_space, write_history};
 use outcomes::{Answer, RunOutcome, line_of};
 use plan_text::read_plan;
 use plans::{Plan, PlanFault};

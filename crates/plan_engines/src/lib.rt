@@ -2,10 +2,7 @@
 //! record a history while a plan is done, draw a schedule for a plan, and give the history that a
 //! replay records.
 //!
-//! A law says that white space around the text of a history means nothing. The line feed after each text that
-//! the program writes is such white space.
-//!
-//! Further laws say that the judge never answers no to the history of a full tree, nor to what these engines
+//! Laws say that the judge never answers no to the history of a full tree, nor to what these engines
 //! write of one.
 #![tactic(auto)]
 
@@ -18,7 +15,6 @@ mod schedule;
 mod tree_drive;
 mod verdict_laws;
 mod wanted;
-mod white_space_laws;
 
 pub use drive::{drive_outcome, run_drive};
 pub use generate::{generate_outcome, run_generate};
@@ -29,4 +25,3 @@ pub use verdict_laws::{
     drives_are_never_refuted, linearizable_texts_are_never_refuted, never_refuted,
     replays_are_never_refuted,
 };
-pub use white_space_laws::{spells_between_white_space, white_space_tells_nothing};

@@ -16,10 +16,9 @@ ghost use Rattle.plan_engines.specs.Schedules.{IsScheduleAnswer, IsScheduleRefus
 ghost use Rattle.plan_engines.specs.Outcomes.{IsScheduleOutcome, IsReplayLineOutcome};
 
 use crate::faults::{draw_fault_outcome, plan_fault_outcome};
-use crate::white_space_laws::white_space_tells_nothing;
 use art::{Shape, Variant};
 use events::Memory;
-use history_text::MAX_TEXT;
+use history_text::{MAX_TEXT, white_space_tells_nothing};
 use outcomes::{Answer, RunOutcome, line_of, run_text};
 use plan_text::{Replay, read_plan, write_replay};
 use replays::{Draw, drawn_replay};

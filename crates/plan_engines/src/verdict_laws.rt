@@ -2,9 +2,8 @@
 ghost use Rattle.plan_engines.specs.EngineLaws.{DriveRunsAreNeverRefuted, DrivesAreNeverRefuted, ReplayRunsAreNeverRefuted, ReplaysAreNeverRefuted};
 ghost use Rattle.plan_engines.specs.VerdictLaws.{LinearizableTextsAreNeverRefuted, NeverRefuted};
 
-use crate::white_space_laws::{spells_between_white_space, white_space_tells_nothing};
 use art_schedules::{coupled_is_linearizable, optimistic_is_linearizable};
-use history_text::one_history;
+use history_text::{one_history, spells_between_white_space, white_space_tells_nothing};
 use plan_text::one_replay;
 
 /// The judge answers Yes or Undecided, and never No, on the history of a full tree. That holds for

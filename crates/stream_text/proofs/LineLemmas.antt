@@ -1,9 +1,10 @@
 -- A line has one meaning: it spells one event, or has one fault.
 use Rattle.stream_text.specs.declared.line_fault.LineFault.TheVariants as faults
 use Rattle.stream_text.proofs.Common.{◌≡◌, ◌≢◌, ℕ, ◌<◌, ◌≤◌, List, length, Some, inl, inr, subst, refl, sym, ap, ◌∙◌, arith, ◌⊎◌, IsTrue, IsUtf8}
-use Rattle.stream_text.proofs.Common.{Data, read, Event, is_shaped, TextVersion, IsEventData, may_stand, same_value, line_limit, number_limit, IsLine}
+use Rattle.stream_text.proofs.Common.{Data, Event, is_shaped, TextVersion, IsEventData, may_stand, same_value, line_limit, number_limit, IsLine}
 use Rattle.stream_text.proofs.Common.{MayStandIn, IsByteFault, IsEventFault, IsLineFault, SpellsOneEvent, HasOneLineFault, FaultySpellsNoEvent}
 use Rattle.stream_text.proofs.Common.{LineFault}
+use Rattle.serde_json.specs.Read.{read}
 use Rattle.events.specs.Events.{process_of}
 use Rattle.history_text.specs.TextFaults.{SpellsNoEvent}
 use Rattle.history_text.proofs.TextLemmas.{one_event as same_event}

@@ -1,9 +1,11 @@
 -- What the values of a line are, one by one.
 use Rattle.stream_text.specs.declared.line_fault.LineFault.TheVariants as faults
 use Rattle.stream_text.proofs.Common.{◌≡◌, ℕ, ◌+◌, ◌<◌, ◌≤◌, false, List, [], ◌∷◌, ◌++◌, length, map, take, drop, get_or, subst, inl, refl, sym, ap}
-use Rattle.stream_text.proofs.Common.{ap₂, ◌∙◌, IsTrue, map-append, take_more, Data, view, Call, Reply, has_range, is_above, KeysRise, TextVersion}
-use Rattle.stream_text.proofs.Common.{number_data, pair_data, call_data, reply_data, may_stand, invocation_data, response_data, pair_data_injective}
-use Rattle.stream_text.proofs.Common.{number_limit, IsEventFault, ShowsPairFault}
+use Rattle.stream_text.proofs.Common.{ap₂, ◌∙◌, IsTrue, map-append, take_more, Data, view, has_range, is_above, KeysRise, TextVersion, number_data}
+use Rattle.stream_text.proofs.Common.{pair_data, call_data, reply_data, may_stand, pair_data_injective, number_limit, IsEventFault, ShowsPairFault}
+use Rattle.events.specs.declared.event.Call.{Call}
+use Rattle.events.specs.declared.event.Reply.{Reply}
+use Rattle.history_text.specs.ValueFaults.{invocation_data, response_data}
 use Rattle.serde_json.specs.declared.value.Value.{Value}
 use Rattle.events.specs.declared.event.Event.TheVariants.{Invoke, Answer}
 use Rattle.history_text.proofs.ValueFaultLemmas.{pairs_before, pairs_and_value}

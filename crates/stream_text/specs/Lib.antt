@@ -4,4 +4,3 @@ pub mod LineFaults
 pub mod Cuts
 pub mod LineBuffers
 pub mod LineLaws
-pub mod Compact

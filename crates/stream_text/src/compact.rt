@@ -1,17 +1,12 @@
 // A line in the compact form, read in one pass and without a tree of values.
-ghost use Rattle.std.specs.Prelude.{◌≡◌, ◌+◌, ◌*◌, ◌^◌, ◌<◌, ◌++◌, [], ◌∷◌, length, slice_index, map, codes, decimal, false, IfSome, OnSome, IsTrue};
-ghost use Rattle.serde_json.specs.View.{items_of};
-ghost use Rattle.serde_json.specs.Written.{items_text};
-ghost use Rattle.events.specs.declared.event.Reply.TheVariants as replies;
-ghost use Rattle.events.specs.Histories.{has_range};
-ghost use Rattle.history_text.specs.Texts.{pair_data, call_data, reply_data, event_data};
-ghost use Rattle.stream_text.specs.Compact.{ArePlain, IsCompact, BeginsWith};
+ghost use Rattle.std.specs.Prelude.{◌≡◌, [], IfSome};
+ghost use Rattle.history_text.specs.Texts.{event_data};
+ghost use Rattle.history_text.specs.Compact.{IsCompact};
 ghost use Rattle.stream_text.specs.Lines.{as_event, MayStandIn, SpellsEvent};
 
 use crate::MAX_LINE;
 use crate::event::StreamEvent;
-use events::{Call, Pairs, Reply};
-use history_text::TextVersion;
+use history_text::{TextVersion, invocation_at, response_at};
 use std::alloc::Global;
 
 /// The event that a line in the compact form spells, in a stream of a version. `None` says nothing:
@@ -43,9 +38,8 @@ fn invocation(version: TextVersion, line: &[u8]) -> Option<StreamEvent>
     ensures text { IfSome result (λ e. IsCompact (event_data (as_event e)) line.now) }
     ensures stands { IfSome result (λ e. MayStandIn version (as_event e)) }
 {
-    let text = after(line, b"{\"invoke\":")?;
-    let (call, rest) = call_at(text)?;
-    let process = last_process(rest)?;
+    let (number, call, rest) = invocation_at(line)?;
+    let process = last_process(number, rest)?;
     if !version.may_have_call(&call) {
         return None;
     }
@@ -57,290 +51,21 @@ fn response(alloc: Global, version: TextVersion, line: &[u8]) -> Option<StreamEv
     ensures text { IfSome result (λ e. IsCompact (event_data (as_event e)) line.now) }
     ensures stands { IfSome result (λ e. MayStandIn version (as_event e)) }
 {
-    let text = after(line, b"{\"answer\":")?;
-    let (reply, rest) = reply_at(alloc, text)?;
-    let process = last_process(rest)?;
+    let (number, reply, rest) = response_at(alloc, line)?;
+    let process = last_process(number, rest)?;
     if !version.may_have_reply(&reply) {
         return None;
     }
     Some(StreamEvent::Answer { process, reply })
 }
 
-/// The process at the end of a line.
-fn last_process(text: &[u8]) -> Option<u16>
-    ensures text { IfSome result (λ process. text.now
-        ≡ codes ",\"process\":" ++ (decimal process ++ codes "}")) }
-    ensures few { IfSome result (λ process. process < 2 ^ 16) }
+/// A process number of a stream, if nothing is left of its line.
+fn last_process(number: u64, rest: &[u8]) -> Option<u16>
+    ensures process { IfSome result (λ process. process ≡ number) }
+    ensures nothing { IfSome result (λ _. rest.now ≡ []) }
 {
-    let text = after(text, b",\"process\":")?;
-    let (number, rest) = number_at(text)?;
-    let process = process_of(number)?;
-    if is_brace(rest) { Some(process) } else { None }
-}
-
-/// A process number of a stream.
-fn process_of(number: u64) -> Option<u16>
-    ensures { IfSome result (λ process. process ≡ number) }
-{
+    if !rest.is_empty() {
+        return None;
+    }
     u16::try_from(number).ok()
-}
-
-fn is_brace(text: &[u8]) -> bool
-    ensures { IsTrue result → text.now ≡ codes "}" }
-{
-    text == b"}".as_slice()
-}
-
-/// The call that a text begins with.
-fn call_at(text: &[u8]) -> Option<(Call, &[u8])>
-    ensures call { IfSome result (λ found. BeginsWith (call_data found.0) text.now found.1.now) }
-    ensures range { IfSome result (λ found. IsTrue (has_range found.0)) }
-{
-    match text.get(4)? {
-        b't' => get_at(text),
-        b's' => insert_at(text),
-        b'm' => remove_at(text),
-        b'a' => scan_at(text),
-        b'p' => replace_at(text),
-        _ => None,
-    }
-}
-
-fn get_at(text: &[u8]) -> Option<(Call, &[u8])>
-    ensures call { IfSome result (λ found. BeginsWith (call_data found.0) text.now found.1.now) }
-    ensures range { IfSome result (λ found. IsTrue (has_range found.0)) }
-{
-    let text = after(text, b"[\"get\",")?;
-    let (key, rest) = number_before(text, b"]")?;
-    Some((Call::Get(key), rest))
-}
-
-fn insert_at(text: &[u8]) -> Option<(Call, &[u8])>
-    ensures call { IfSome result (λ found. BeginsWith (call_data found.0) text.now found.1.now) }
-    ensures range { IfSome result (λ found. IsTrue (has_range found.0)) }
-{
-    let text = after(text, b"[\"insert\",")?;
-    let (key, rest) = number_before(text, b",")?;
-    let (value, rest) = number_before(rest, b"]")?;
-    Some((Call::Insert(key, value), rest))
-}
-
-fn remove_at(text: &[u8]) -> Option<(Call, &[u8])>
-    ensures call { IfSome result (λ found. BeginsWith (call_data found.0) text.now found.1.now) }
-    ensures range { IfSome result (λ found. IsTrue (has_range found.0)) }
-{
-    let text = after(text, b"[\"remove\",")?;
-    let (key, rest) = number_before(text, b"]")?;
-    Some((Call::Remove(key), rest))
-}
-
-/// A scan only with its ends in order.
-fn scan_at(text: &[u8]) -> Option<(Call, &[u8])>
-    ensures call { IfSome result (λ found. BeginsWith (call_data found.0) text.now found.1.now) }
-    ensures range { IfSome result (λ found. IsTrue (has_range found.0)) }
-{
-    let text = after(text, b"[\"scan\",")?;
-    let (low, rest) = number_before(text, b",")?;
-    let (high, rest) = number_before(rest, b"]")?;
-    if low > high {
-        return None;
-    }
-    Some((Call::Scan(low, high), rest))
-}
-
-fn replace_at(text: &[u8]) -> Option<(Call, &[u8])>
-    ensures call { IfSome result (λ found. BeginsWith (call_data found.0) text.now found.1.now) }
-    ensures range { IfSome result (λ found. IsTrue (has_range found.0)) }
-{
-    let text = after(text, b"[\"replace\",")?;
-    let (key, rest) = number_before(text, b",")?;
-    let (old, rest) = number_before(rest, b",")?;
-    let (new, rest) = number_before(rest, b"]")?;
-    Some((Call::Replace(key, old, new), rest))
-}
-
-/// The reply that a text begins with.
-fn reply_at(alloc: Global, text: &[u8]) -> Option<(Reply, &[u8])>
-    ensures { IfSome result (λ found. BeginsWith (reply_data found.0) text.now found.1.now) }
-{
-    match text.get(1)? {
-        b'u' => null_at(text),
-        b'd' => done_at(text),
-        b'f' => found_at(text),
-        b'o' => other_at(text),
-        b'r' => refused_at(text),
-        b']' => no_pairs_at(alloc, text),
-        b'[' => pairs_at(alloc, text),
-        _ => value_at(text),
-    }
-}
-
-fn null_at(text: &[u8]) -> Option<(Reply, &[u8])>
-    ensures { IfSome result (λ found. BeginsWith (reply_data found.0) text.now found.1.now) }
-{
-    let rest = after(text, b"null")?;
-    Some((Reply::None, rest))
-}
-
-fn done_at(text: &[u8]) -> Option<(Reply, &[u8])>
-    ensures { IfSome result (λ found. BeginsWith (reply_data found.0) text.now found.1.now) }
-{
-    let rest = after(text, b"\"done\"")?;
-    Some((Reply::Done, rest))
-}
-
-fn found_at(text: &[u8]) -> Option<(Reply, &[u8])>
-    ensures { IfSome result (λ found. BeginsWith (reply_data found.0) text.now found.1.now) }
-{
-    let rest = after(text, b"\"found\"")?;
-    Some((Reply::Found, rest))
-}
-
-fn other_at(text: &[u8]) -> Option<(Reply, &[u8])>
-    ensures { IfSome result (λ found. BeginsWith (reply_data found.0) text.now found.1.now) }
-{
-    let rest = after(text, b"\"other\"")?;
-    Some((Reply::Other, rest))
-}
-
-fn refused_at(text: &[u8]) -> Option<(Reply, &[u8])>
-    ensures { IfSome result (λ found. BeginsWith (reply_data found.0) text.now found.1.now) }
-{
-    let rest = after(text, b"\"refused\"")?;
-    Some((Reply::Refused, rest))
-}
-
-fn value_at(text: &[u8]) -> Option<(Reply, &[u8])>
-    ensures { IfSome result (λ found. BeginsWith (reply_data found.0) text.now found.1.now) }
-{
-    let (value, rest) = number_at(text)?;
-    Some((Reply::Some(value), rest))
-}
-
-fn no_pairs_at(alloc: Global, text: &[u8]) -> Option<(Reply, &[u8])>
-    ensures { IfSome result (λ found. BeginsWith (reply_data found.0) text.now found.1.now) }
-{
-    let rest = after(text, b"[]")?;
-    Some((pairs_reply(Vec::new(alloc)), rest))
-}
-
-fn pairs_at(alloc: Global, text: &[u8]) -> Option<(Reply, &[u8])>
-    ensures { IfSome result (λ found. BeginsWith (reply_data found.0) text.now found.1.now) }
-{
-    let text = after(text, b"[")?;
-    let mut pairs = Vec::new(alloc);
-    let rest = pairs_in(&mut pairs, text)?;
-    Some((pairs_reply(pairs), rest))
-}
-
-/// The reply that lists the pairs.
-fn pairs_reply(pairs: Vec<(u64, u64)>) -> Reply
-    ensures { result ≡ replies.Pairs pairs.items }
-{
-    Reply::Pairs(Pairs::new(pairs))
-}
-
-/// Puts the pairs that a text begins with into a list, which has none: one or more, with a comma
-/// between two of them, before a closing bracket. Returns what is left after that.
-fn pairs_in<'a>(pairs: &mut Vec<(u64, u64)>, text: &'a [u8]) -> Option<&'a [u8]>
-    requires { pairs.old.items ≡ [] }
-    ensures text { IfSome result (λ rest. text.now
-        ≡ items_text false (items_of (map pair_data pairs.new.items)) ++ rest.now) }
-    ensures plain { OnSome result (ArePlain (map pair_data pairs.new.items)) }
-{
-    let mut left = text;
-    'each: loop {
-        let (pair, next) = pair_at(left)?;
-        keep(pairs, pair)?;
-        if let Some(rest) = after(next, b"]") {
-            return Some(rest);
-        }
-        let more = after(next, b",")?;
-        left = more;
-    }
-}
-
-fn keep(pairs: &mut Vec<(u64, u64)>, pair: (u64, u64)) -> Option<()>
-    ensures { OnSome result (pairs.new.items ≡ pairs.old.items ++ pair ∷ []) }
-{
-    pairs.push(pair).ok()
-}
-
-/// The pair that a text begins with.
-fn pair_at(text: &[u8]) -> Option<((u64, u64), &[u8])>
-    ensures { IfSome result (λ found. BeginsWith (pair_data found.0) text.now found.1.now) }
-{
-    let text = after(text, b"[")?;
-    let (key, rest) = number_before(text, b",")?;
-    let (value, rest) = number_before(rest, b"]")?;
-    Some(((key, value), rest))
-}
-
-/// The number that a text begins with, and what is left after it and these bytes.
-#[inline(always)]
-fn number_before<'a>(text: &'a [u8], end: &[u8]) -> Option<(u64, &'a [u8])>
-    ensures text { IfSome result (λ found. text.now ≡ decimal found.0 ++ (end.now ++ found.1.now)) }
-    ensures fits { IfSome result (λ found. found.0 < 2 ^ 64) }
-{
-    let (number, rest) = number_at(text)?;
-    let rest = after(rest, end)?;
-    Some((number, rest))
-}
-
-/// The number in plain decimal that a text begins with, if its digits end before the text does.
-/// After a 0 nothing more of it is read.
-fn number_at(text: &[u8]) -> Option<(u64, &[u8])>
-    ensures text { IfSome result (λ found. text.now ≡ decimal found.0 ++ found.1.now) }
-    ensures fits { IfSome result (λ found. found.0 < 2 ^ 64) }
-{
-    let mut number = digit_at(text, 0)?;
-    if number == 0 {
-        return Some((0, &text[1..]));
-    }
-    'digits: for place in 1..text.len() {
-        let Some(unit) = digit_at(text, place) else {
-            return Some((number, &text[place..]));
-        };
-        let more = with_digit(number, unit)?;
-        number = more;
-    }
-    None
-}
-
-/// A number with one digit more, if it has at most 64 bits.
-#[inline(always)]
-fn with_digit(number: u64, unit: u64) -> Option<u64>
-    ensures more { IfSome result (λ more. more ≡ number * 10 + unit) }
-    ensures fits { IfSome result (λ more. more < 2 ^ 64) }
-{
-    number.checked_mul(10)?.checked_add(unit)
-}
-
-/// The digit at a place of a text.
-#[inline(always)]
-fn digit_at(text: &[u8], place: usize) -> Option<u64>
-    ensures within { OnSome result (place < length text.now) }
-    ensures digit { IfSome result (λ unit. slice_index text.now place ≡ 48 + unit) }
-    ensures small { IfSome result (λ unit. unit < 10) }
-{
-    if place >= text.len() {
-        return None;
-    }
-    let byte = text[place];
-    if !byte.is_ascii_digit() {
-        return None;
-    }
-    Some(u64::from(byte - b'0'))
-}
-
-/// What is left of a text after a front.
-#[inline(always)]
-fn after<'a>(text: &'a [u8], front: &[u8]) -> Option<&'a [u8]>
-    ensures { IfSome result (λ rest. text.now ≡ front.now ++ rest.now) }
-{
-    if text.len() < front.len() {
-        return None;
-    }
-    let (head, rest) = text.split_at(front.len());
-    if head == front { Some(rest) } else { None }
 }

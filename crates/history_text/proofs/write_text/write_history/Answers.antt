@@ -1,6 +1,6 @@
 -- The value has no float and nests five deep, so it has a text that reads as it.
 use Rattle.history_text.proofs.Common.{◌≡◌, ◌≤◌, Some, ap, ◌∙◌, arith, depth, view, max_depth, has_float, compact_text, history_data}
-use Rattle.std.proofs.lemmas.Str.{IsUtf8-string_bytes}
+use Rattle.history_text.proofs.Common.{IsUtf8-string_bytes}
 use Rattle.history_text.proofs.SpelledLemmas.{Spells-written}
 use Rattle.history_text.proofs.WrittenLemmas.{has_float-history, depth-history}
 use Rattle.history_text.proofs.write_text.write_history.Goals.{After-to_string}

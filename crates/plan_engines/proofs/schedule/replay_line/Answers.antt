@@ -1,5 +1,6 @@
 use Rattle.plan_engines.proofs.Common.{◌≡◌, ◌<◌, ℕ, List, [], ◌∷◌, length, string_bytes, inl, inr, refl, sym, subst, ◌∙◌, arith, length-append}
-use Rattle.plan_engines.proofs.Common.{IsUtf8-string_bytes, text_limit, line, ReplayView, SpellsReplay, WhiteSpaceTellsNothing}
+use Rattle.plan_engines.proofs.Common.{text_limit, line, ReplayView, SpellsReplay, WhiteSpaceTellsNothing}
+use Rattle.std.proofs.lemmas.Str.{IsUtf8-string_bytes}
 use Rattle.std.specs.Str.{IsUtf8}
 use Rattle.plan_text.specs.ReplayViews.{shown}
 use Rattle.plan_engines.proofs.schedule.replay_line.Goals as goal

@@ -1,0 +1,4 @@
+use Rattle.history_text.proofs.compact_events.answer_at.Goals as goal
+
+pub returns-clause-text : goal.returns-clause-text
+returns-clause-text c = rw c.in_ok-process.ensures c.in_ok-number.ensures

@@ -1,5 +1,0 @@
-use Rattle.plan_engines.proofs.SpaceTextLemmas.{same_history}
-use Rattle.plan_engines.proofs.white_space_laws.spells_between_white_space.Goals as goal
-
-pub returns : goal.returns
-returns c = same_history

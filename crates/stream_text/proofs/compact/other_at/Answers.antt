@@ -1,5 +1,0 @@
-use Rattle.stream_text.proofs.CompactLemmas.{other_begins}
-use Rattle.stream_text.proofs.compact.other_at.Goals as goal
-
-pub returns : goal.returns
-returns c = other_begins c.args.text.now c.in_ok-rest.rest.now c.in_ok-rest.ensures

@@ -1,5 +1,0 @@
-use Rattle.stream_text.proofs.CompactLemmas.{refused_begins}
-use Rattle.stream_text.proofs.compact.refused_at.Goals as goal
-
-pub returns : goal.returns
-returns c = refused_begins c.args.text.now c.in_ok-rest.rest.now c.in_ok-rest.ensures

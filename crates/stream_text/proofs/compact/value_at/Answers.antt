@@ -1,5 +1,0 @@
-use Rattle.stream_text.proofs.CompactLemmas.{value_begins}
-use Rattle.stream_text.proofs.compact.value_at.Goals as goal
-
-pub returns : goal.returns
-returns c = value_begins c.in_ok-value.value c.args.text.now c.in_ok-value.rest.now c.in_ok-value.ensures.text c.in_ok-value.ensures.fits
