@@ -23,7 +23,7 @@ Becomes held place more keys rest past nexts =
     → (news : List Choice) × AreKeptPasts keys more nexts news
     × StandFor held place (map keyed more) (record { keys = keys; pasts = news ++ others } ∷ rest)
 
--- each past becomes some, in turn
+-- each past, one after another, becomes some
 abbrev pub EachBecomes : (KeptPast → List KeptPast → Type 0) → List KeptPast → List KeptPast → Type 0
 EachBecomes R [] nexts = nexts ≡ []
 EachBecomes R (past ∷ pasts) nexts =

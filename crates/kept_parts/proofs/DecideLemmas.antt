@@ -29,7 +29,7 @@ some_part P (one ∷ parts) known =
         (λ later. none part later is)
         (Contains-cases one parts part part_in))
 
--- where something of a call is left at the keys of a past, and it is no pending read, all that is left of it is there
+-- if something of a call is left at the keys of a past, and it is no pending read, all that is left of it is there
 left_within : (keys : Keys) (calls : List KeyedCall) (kept : KeptPast) (past w : Choice) (a : KeyedCall) → IsPast keys calls kept past
     → IsAt keys past w → Contains calls a → a.refused ≡ false → IsLeftAt keys w a → IsOpenRead a ⊎ IsWithin keys (rest_of w a)
 left_within keys calls kept past w a is same a_in accepted (key, here, some) = ⊎_elim

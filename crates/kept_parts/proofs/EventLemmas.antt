@@ -41,7 +41,7 @@ module _ (place : ℕ) (calls : List Operation) (o : Operation) (at : o.inv ≡ 
         let (a, a_in, same, none, changes) = own.found f f_in in (a, Contains-append_left calls (o ∷ []) a a_in, same, none, changes);
   }
 
-  -- a call that may change the map is kept where each one before was, and so is this one
+  -- if each call before is left, or what it found is known, each is so after one more call
   whole_then : (keys : Keys) (kept next : KeptPast) → ((p : Operation) → IsLeftOrFound kept p → IsLeftOrFound next p)
       → (may_change o.call ≡ true → keys (low_key o.call) ≡ true → IsLeftOrFound next o) → IsOwn keys calls kept
       → (p : Operation) → Contains (calls ++ o ∷ []) p → p.response ≡ None → may_change p.call ≡ true → keys (low_key p.call) ≡ true

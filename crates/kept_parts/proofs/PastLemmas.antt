@@ -54,7 +54,7 @@ alike_itself past = record { pairs = refl; left = λ inv. (λ h. h, λ h. h); fo
 
 module _ (held : ℕ → Option ℕ) (place : ℕ) (calls : List KeyedCall) (keys : Keys) (rest : List Part) (others : List KeptPast) (news : List Choice)
     (news_are : ArePasts keys calls others news) where
-  -- choices go for each of which there is one that is kept the same
+  -- choices may be dropped if for each of them there is one like it
   old_go : (kept : List KeptPast) (pasts : List Choice) → ArePasts keys calls kept pasts
       → ((past : KeptPast) → Contains kept past → Contains others past)
       → StandFor held place calls (record { keys = keys; pasts = pasts ++ news } ∷ rest)

@@ -1,6 +1,6 @@
--- What is kept of a past is known by each call and each operation alone. `fit_of`, `left_of`, `past_from`: from a past to its parts, and back.
--- `fit_on`, `known_on`, `found_on`, `whole_on`: the parts stay known as a pending call is answered. `found_is_free`, `taken_concerns`: what a
--- past says of one call.
+-- What is kept of a past is known by each call and each operation on its own. `fit_of`, `left_of`, `past_from`: from a past to its parts, and
+-- back. `fit_on`, `known_on`, `found_on`, `whole_on`: the parts stay known as a pending call is answered. `found_is_free`, `taken_concerns`:
+-- what a past says of one call.
 use Rattle.kept_pasts.proofs.Common.{◌≡◌, ℕ, ◌≤◌, true, false, nat_le, List, ◌∷◌, ◌++◌, Option, None, Some, inl, inr, refl, sym, ap, ◌∙◌, subst}
 use Rattle.kept_pasts.proofs.Common.{⊎_elim, arith, ◌≢◌, ◌⊎◌, Contains, is_some, eqb-true, eq-eqb, leb-true, le-leb, and_parts, and_from}
 use Rattle.kept_pasts.proofs.Common.{false_from_ne_true, All-contains, All-from_contains, Contains-around, Operation, Response, low_key, high_key}

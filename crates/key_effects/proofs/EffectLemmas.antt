@@ -242,7 +242,7 @@ step_of m a rising = by_call a.call a.response a.inv (λ key out. value_left m (
       leaves = λ key. scan_left m low high response.reply key;
     }
 
--- ---- calls in turn
+-- ---- calls one after another
 
 pub legal_fits : (calls : List Operation) (m : Contents) → IsRising m → IsLegal m calls
     → HaveForms calls × ((key : ℕ) → FitInTurn key (value_at m key) (map keyed calls))

@@ -156,8 +156,7 @@ merged_none ys may = record {
           ap (λ (v : Option ℕ). left_by key v xs) (here.leaves value) ∙ rest.1,
         )
 
--- if some call of the second list precedes the first call of the first list, no call of the first
--- list precedes the first call of the second
+-- if some call of the second list precedes the first call of the first list, no call of the first list precedes the first call of the second
 second_first : (x y : KeyedCall) (xs ys : List KeyedCall) → MayMerge (x ∷ xs) (y ∷ ys)
     → (z : KeyedCall) × Contains (y ∷ ys) z × (precedes z x ≡ true) → (a : KeyedCall) → Contains (x ∷ xs) a → precedes a y ≡ false
 second_first x y xs ys may (z, z_in, before) a a_in =

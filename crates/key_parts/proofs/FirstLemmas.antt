@@ -1,4 +1,4 @@
--- The first call of an order of which something is left at some keys.
+-- The first call of an order that has something left at some keys.
 use Rattle.key_parts.proofs.Common.{◌≡◌, ℕ, ◌<◌, ◌≤◌, Bool, true, false, not, ◌&&◌, cond, List, [], ◌∷◌, ◌++◌, map, Option, Some, None, inl, inr}
 use Rattle.key_parts.proofs.Common.{refl, sym, ap, subst, ⊎_elim, arith, ◌⊎◌, Contains, is_some, ltb-true, ltb-false, All-contains}
 use Rattle.key_parts.proofs.Common.{Contains-append_cases, Contains-map, Contains-from_map, AllPairs-head, AllPairs-tail, AllPairs-back, Contains-nil}

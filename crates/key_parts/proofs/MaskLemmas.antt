@@ -69,7 +69,7 @@ order_masked w next m more order taken is fit = record {
   fit = fit;
 }
 
--- if those of which more is taken are quiet at a key, calls in turn fit as they did
+-- calls fit as they did, one after another, if those that have more taken are quiet at a key
 pub quiet_masked : (m : ℕ → ℕ → Bool) (key : ℕ) (xs : List KeyedCall) (value : Option ℕ)
     → ((x : KeyedCall) → Contains xs x → (m x.inv key ≡ false) ⊎ IsQuiet x key) → FitInTurn key value xs
     → FitInTurn key value (map (masked_by m) xs)

@@ -9,7 +9,7 @@ use Rattle.key_parts.proofs.MaskLemmas.{masked_by, quiet_masked}
 use Rattle.key_parts.proofs.NextLemmas.{taken_by, IsTaken, rest_leaves, goes_on_next}
 use Rattle.key_parts.proofs.PartLemmas.{instead, with_instead, with_other}
 
--- a read is taken out of an order, in which it is quiet
+-- a quiet read is taken out of an order
 module _ (keys : Keys) (place : ℕ) (calls more : List KeyedCall) (past next w : Choice) (b : KeyedCall) (same : IsAt keys past w)
     (grown : HaveGrown place calls more) (b_in : Contains more b) (accepted : b.refused ≡ false) (read : IsReadAt keys past b)
     (fits : (key : ℕ) → keys key ≡ true → ((rest_of past b).effect key).fits (past.holds key) ≡ true) (after : IsAfterCall keys past b next) where

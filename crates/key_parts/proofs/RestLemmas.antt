@@ -15,7 +15,7 @@ use Rattle.key_parts.proofs.FewerLemmas.{takes_less}
 use Rattle.key_parts.proofs.FirstLemmas.{completed_stays}
 use Rattle.key_parts.proofs.ReadLemmas.{read_comes, read_fits, read_quiet}
 
--- ---- two choices, of which one takes a call at some keys that the other leaves
+-- ---- two choices: one takes a call at some keys, and the other leaves it
 
 -- the call leaves what they hold
 record IsTakenAt (keys : Keys) (w : Choice) (b : KeyedCall) (v : Choice) : Type 0 where
@@ -79,7 +79,7 @@ record AtRead (keys : Keys) (more : List KeyedCall) (w v : Choice) (b : KeyedCal
   quiet : (key : ℕ) → keys key ≡ true → IsQuiet (rest_of w b) key
   fits : (key : ℕ) → keys key ≡ true → ((rest_of w b).effect key).fits (w.holds key) ≡ true
 
--- calls in turn, each of which is the same at a key in another list, or has no effect there in either
+-- calls, one after another, each of which is the same at a key in another list, or has no effect there in either
 none_moved : (key : ℕ) (f : KeyedCall → KeyedCall) (xs : List KeyedCall) (value : Option ℕ)
     → ((x : KeyedCall) → Contains xs x → ((f x).effect key ≡ x.effect key) ⊎ (IsNoEffect (x.effect key) × IsNoEffect ((f x).effect key)))
     → FitInTurn key value xs → FitInTurn key value (map f xs)
@@ -95,7 +95,7 @@ none_moved key f (x ∷ xs) value each fit =
     ))
     (each x (Contains-first x xs))
 
--- calls in turn of which one has no effect at a key, and is quiet there in the other list, where all before it are
+-- Calls, one after another. One of them has no effect at a key, and is quiet there in the other list, and so are all before it.
 given_fit : (key : ℕ) (f : KeyedCall → KeyedCall) (b : KeyedCall) (back front : List KeyedCall) (value : Option ℕ)
     → ((x : KeyedCall) → Contains front x → IsQuiet x key × ((f x).effect key ≡ x.effect key))
     → ((x : KeyedCall) → Contains back x → (f x).effect key ≡ x.effect key)
@@ -388,7 +388,7 @@ or_false : (t c : Bool) → c ≡ false → (t || c) ≡ t
 or_false true c is = refl
 or_false false c is = is
 
--- a choice that has taken a read at some keys, where it has taken nothing of it, is one that has not
+-- a choice that is the next one at some keys, and has taken nothing of the read, is the past there
 at_untaken : (keys : Keys) (past next : Choice) (b : KeyedCall) (v : Choice) → IsAfterCall keys past b next → IsReadAt keys past b
     → ((key : ℕ) → keys key ≡ true → ((rest_of past b).effect key).fits (past.holds key) ≡ true) → IsAt keys next v
     → ((key : ℕ) → v.taken b.inv key ≡ true → ⊥) → IsAt keys past v

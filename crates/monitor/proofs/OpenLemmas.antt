@@ -97,7 +97,7 @@ open_or_none p i (e ∷ events) w h = by_test (open_or_none p (suc i) events) (p
         ⊎_elim (λ last. inr (open_first p i e events (eqb-true (process_of e) p same) last.0 last.1)) (λ there. inr (open_later p i e events there))
         (rest (is_invocation e) (subst (λ (l : List Event). ends_waiting w l ≡ true) own h))
 
--- and one that has an open call has it at a place
+-- a process that has an open call has it at a place
 pub open_of : (events : List Event) (process : ℕ) → IsWellFormed events → has_open_call process events ≡ true
     → (place : ℕ) × ((call : Call) × IsOpenCall events process place call)
 open_of events process well h = ⊎_elim

@@ -29,7 +29,7 @@ reads_stay calls o reads changes are inv low high = (
 abbrev pub read_of : Operation → OpenRead
 read_of o = record { inv = o.inv; low = low_key o.call; high = high_key o.call }
 
--- a read that begins comes to them
+-- a read that begins becomes one of them
 pub reads_more : (calls : List Operation) (o : Operation) (reads : List OpenRead) → o.response ≡ None → may_change o.call ≡ false
     → AreReadsOf calls reads → AreReadsOf (calls ++ o ∷ []) (reads ++ read_of o ∷ [])
 reads_more calls o reads pending keeps are inv low high = (

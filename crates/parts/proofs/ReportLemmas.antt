@@ -55,7 +55,7 @@ told_at now o response reported is =
     let equal : reported.response ≡ response = cc in
     subst (λ (r : Response). r.res ≡ now) equal reported.res
 
--- ---- parts beside each other
+-- ---- parts that are apart
 
 pub beside_turned : (part other : Part) → AreBesideEachOther part other → AreBesideEachOther other part
 beside_turned part other beside k d within i e there j f here m g at same = beside i e there k d within m g at j f here (sym same)
@@ -100,7 +100,7 @@ module _ (s : PartsView) (shaped : IsShaped s) (left met : List Part) (parted : 
   pub met_apart : AllPairs AreBesideEachOther met
   met_apart = pairs_out AreBesideEachOther s.parts left met parted shaped.apart
 
-  -- a call that is left of a part that was taken out may stand beside the others
+  -- a call that is left of a part that was taken out may be left in one more part
   met_stands : (part : Part) → Contains met part → (past : KeptPast) → Contains (kept_part part).pasts past → (a : Operation)
       → Contains past.left a → MayStand next a
   met_stands part part_in past past_in a a_in = record {
@@ -141,7 +141,7 @@ module _ (s : PartsView) (shaped : IsShaped s) (left met : List Part) (parted : 
       met_stands part part_in past past_in o o_in
 
   module _ (o : Operation) (reported : IsReportedAt s.now o) (begun : o.inv < s.now) (own : HasOwnPlace s o) where
-    -- the read may come to each part
+    -- the read may be added to each part
     pub met_comes : All (MayComeTo o) met
     met_comes = All-from_contains (MayComeTo o) met (λ part part_in. record {
       other = All-contains (λ (p : Part). All (λ (past : KeptPast). All (λ (x : Operation). x.inv ≢ o.inv) past.left) (kept_part p).pasts)
