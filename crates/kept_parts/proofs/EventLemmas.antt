@@ -53,7 +53,7 @@ module _ (place : ℕ) (calls : List Operation) (o : Operation) (at : o.inv ≡ 
       (subst (λ (q : Operation). keys (low_key q.call) ≡ true) (sym same) here)))
       (last_or_old calls o p p_in)
 
-  -- where it has no key of a part, or is a read, the part stays as it is
+  -- if the call has no key of a part, or is a read, the part stays as it is
   other_then : (keys : Keys) (kept : KeptPast) (past : Choice) → HasNoKeyIn keys o ⊎ (may_change o.call ≡ false) → IsKeptPast keys calls kept past
       → IsKeptPast keys (calls ++ o ∷ []) kept past
   other_then keys kept past idle known = record {

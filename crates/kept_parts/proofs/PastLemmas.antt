@@ -122,7 +122,7 @@ kept_pasts_are_within start place calls part rest are =
       found = λ f f_in. (is.found.right f f_in).0;
     })
 
--- what a call found is kept of it, where it is not left
+-- if a call is not left, the past has what it found
 known_in : (keys : Keys) (calls : List Operation) (past : KeptPast) (choice : Choice) (o : Operation) → IsPast keys (map keyed calls) past choice
     → IsLeftOrFound past o → IsKnownIn o past
 known_in keys calls past choice o is (inl left) = inl left

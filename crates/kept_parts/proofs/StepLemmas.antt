@@ -70,7 +70,7 @@ parts_move start place calls part front back = (to_front, to_middle)
 pub rising_calls : (place : ℕ) (calls : List Operation) → AreCallsBefore place calls → AllPairs (λ a b. a.inv < b.inv) (map keyed calls)
 rising_calls place calls are = AllPairs-map (λ a b. a.inv < b.inv) keyed calls are.rising
 
--- a past stays, or goes where what is left of it has no order
+-- a past stays, or it is dropped if what is left of it has no order
 abbrev StaysOrGoes : KeptPast → List KeptPast → Type 0
 StaysOrGoes past nexts = (nexts ≡ past ∷ []) ⊎ ((IsLinearizable past.pairs past.left → ⊥) × (nexts ≡ []))
 

@@ -32,7 +32,7 @@ some_refute held keys calls (order, is) = (
   },
 )
 
--- calls that change nothing at a key where they fit
+-- calls that change nothing at a key if they fit
 pub quiet_left : (key : ℕ) (xs : List KeyedCall) (value : Option ℕ) → ((x : KeyedCall) → Contains xs x → IsQuiet x key) → FitInTurn key value xs
     → left_by key value xs ≡ value
 quiet_left key [] value quiet fit = refl

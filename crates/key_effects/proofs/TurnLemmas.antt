@@ -25,7 +25,7 @@ pub fit-append : (key : ℕ) (value : Option ℕ) (xs ys : List KeyedCall) → F
 fit-append key value [] ys fit rest = rest
 fit-append key value (x ∷ xs) ys fit rest = (fit.0, fit-append key ((x.effect key).leaves value) xs ys fit.1 rest)
 
--- a call may be in an order for another: it fits where that fits, and leaves the same there
+-- a call may replace another in an order: it fits if that fits, and leaves the same there
 pub record StandsFor (a b : KeyedCall) : Type 0 where
   pub inv : b.inv ≡ a.inv
   pub ends : (place : ℕ) → ends_before b.res place ≡ true → ends_before a.res place ≡ true

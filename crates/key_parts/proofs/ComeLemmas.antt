@@ -154,7 +154,7 @@ operations_may_come keys some past limit calls pairs left among apart are of_cal
 
 -- ---- what is left after a call
 
--- whether a call is taken after another: where that is a different one, as before
+-- whether a call is taken after another: as before, if that is a different call
 as_before : (taken same concerned : Bool) → same ≡ false → (taken || (same && concerned)) ≡ taken
 as_before true same concerned other = refl
 as_before false true concerned other = cc

@@ -73,7 +73,7 @@ known_of keys past limit calls pairs left is a a_in = record {
   agrees = All-contains (AgreesAt keys past) calls a is.agrees a_in;
 }
 
--- with other operations the same is known, where those of the call are among them
+-- with other operations the same is known, if those of the call are among them
 pub known_on : (keys : Keys) (past : Choice) (limit : ℕ) (left nexts : List Operation) (a : KeyedCall)
     → ((o : Operation) → Contains left o → IsAlikeAt keys (left_at keys past a) (keyed o) → Contains nexts o)
     → IsKnown keys past limit left a → IsKnown keys past limit nexts a

@@ -55,7 +55,7 @@ after_none keys place past a d next formed later accepted none after = record {
       after.holds key is ∙ stands.leaves key (past.holds key) (nothing.fits (past.holds key)) ∙ nothing.leaves (past.holds key);
 }
 
--- a choice that has another past at some keys has it at all, where the two are the same at the others
+-- a choice that is another past at some keys is that past at all keys, if the two are the same at the others
 pub at_step : (keys some : Keys) (past next w : Choice) → AreAmong some keys → IsAt keys past w → IsAt (but_for some keys) past next
     → IsAt keys next (instead some next w)
 at_step keys some past next w inside same still =

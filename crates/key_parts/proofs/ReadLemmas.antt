@@ -1,4 +1,4 @@
--- A read that was answered is taken out of an order: `read_comes`, where it fits what the keys hold. `read_fits` and `read_quiet`: what is left of
+-- A read that was answered is taken out of an order: `read_comes`, if it fits what the keys hold. `read_fits` and `read_quiet`: what is left of
 -- it by a choice fits, and is quiet.
 use Rattle.key_parts.proofs.Common.{◌≡◌, ℕ, Bool, true, false, ◌&&◌, ◌==◌, cond, List, ◌∷◌, map, Option, inl, inr, refl, sym, ap, ◌∙◌, subst, ⊎_elim}
 use Rattle.key_parts.proofs.Common.{◌⊎◌, Contains, and_parts, eqb-true, All-head, Contains-from_map, Contains-first, Contains-later, Contains-cases}

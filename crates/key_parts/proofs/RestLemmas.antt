@@ -1,5 +1,5 @@
 -- A read that was answered, taken at keys at rest, and a call without effect, taken at any time. `at_taken`: two choices that differ by it.
--- `read_back`, `none_back`: one goes on where the other does, which has taken it.
+-- `read_back`, `none_back`: a choice goes on if the other does, which has taken it.
 use Rattle.key_parts.proofs.Common.{◌≡◌, ℕ, ◌==◌, ◌<◌, Bool, true, false, not, ◌&&◌, ◌||◌, cond, List, [], ◌∷◌, ◌++◌, map, Option, inl, inr, refl}
 use Rattle.key_parts.proofs.Common.{sym, ap, ◌∙◌, subst, ⊎_elim, arith, ◌≢◌, ◌⊎◌, All, Contains, eqb-true, eq-eqb, and_parts, or_left, or_right}
 use Rattle.key_parts.proofs.Common.{All-head, All-contains, Contains-append_left, AllPairs-map, Contains-map, Contains-from_map, AllPairs-across}
@@ -202,7 +202,7 @@ module _ (keys : Keys) (more : List KeyedCall) (w v : Choice) (b : KeyedCall) (a
       let one : d ≡ b = only_read d d_in (subst (λ (z : KeyedCall). (z.inv == b.inv) ≡ true) (sym d_is) named) in
       ap (λ (z : KeyedCall). rest_of v z) (sym one) ∙ d_is
 
-  -- a choice goes on where the other does, if the read may be given back
+  -- a choice goes on if the other does, if the read may be given back
   goes_back : (some : GoesOn v more) → ((key : ℕ) → FitInTurn key (w.holds key) (map (given_back w b) some.1.0)) → GoesOn w more
   goes_back some fit = (
     All-from_contains (Agrees w) more (λ d d_in. agrees_back d (All-contains (Agrees v) more d some.0 d_in)),
@@ -324,7 +324,7 @@ module _ (keys : Keys) (more : List KeyedCall) (w v : Choice) (b : KeyedCall) (a
 
 -- ---- keys at rest
 
--- what is quiet stays so where more is taken, or where it was pending and is answered
+-- what is quiet stays so if more is taken, or if it was pending and is answered
 quiet_on : (t s : Bool) (e f : Effect) → (t ≡ true → s ≡ true) → (e ≡ f) ⊎ (((value : Option ℕ) → e.fits value ≡ true) × LeaveTheSame e f)
     → ((value : Option ℕ) → (cond t no_effect e).fits value ≡ true → (cond t no_effect e).leaves value ≡ value)
     → (value : Option ℕ) → (cond s no_effect f).fits value ≡ true → (cond s no_effect f).leaves value ≡ value
@@ -411,7 +411,7 @@ at_untaken keys past next b v after read fits second never = record {
         absurd (never key (subst (λ (n : ℕ). v.taken n key ≡ true) named taken))
     still inv key is (inr none) = or_false (past.taken inv key) ((inv == b.inv) && b.concerns key) none
 
--- a read is taken at keys, where each choice that has it goes on as the one that leaves it
+-- a read is taken at keys, if each choice that has it goes on as the one that leaves it
 read_taken : (held : ℕ → Option ℕ) (place : ℕ) (calls : List KeyedCall) (keys : Keys) (past next : Choice) (others : List Choice) (rest : List Part)
     (b : KeyedCall) → Contains calls b → is_completed b ≡ true → b.refused ≡ false → IsReadAt keys past b
     → ((key : ℕ) → keys key ≡ true → ((rest_of past b).effect key).fits (past.holds key) ≡ true) → IsAfterCall keys past b next

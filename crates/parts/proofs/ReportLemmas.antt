@@ -1,4 +1,4 @@
--- A read that reports something is answered: where its keys are at rest (`taken_at_rest`), or in a part that is made of those that it met
+-- A read that reports something is answered: with its keys at rest (`taken_at_rest`), or in a part that is made of those that it met
 -- (`report_is_kept`, `report_is_left`).
 use Rattle.parts.proofs.Common.{◌≡◌, ℕ, suc, ◌<◌, ◌≤◌, true, false, List, [], ◌∷◌, ◌++◌, map, Option, None, Some, refl, sym, ap, ◌∙◌, subst, eqb-true}
 use Rattle.parts.proofs.Common.{arith, get_or, ◌≢◌, nat_le, nat_lt, All, AllPairs, Any, Contains, AllZip, and_from, le-leb, nat_tests, All-nil}
@@ -247,7 +247,7 @@ module _ (s : PartsView) (left met : List Part) (start : Contents) (front back :
   report_keys o response operation answer rest ranges pasts become key here =
       become.spans key (concerned_within operation.call key (subst (λ (x : Operation). concerns_key x.call key ≡ true) (sym answer.is) here))
 
-  -- where the read is left
+  -- the state with the read left in it
   kept_so : (o : Operation) (response : Response) → AreMet (low_key o.call) (high_key o.call) s.parts left met → (rest : Contents)
       → (ranges : List Range) (pasts nexts : List KeptPast) → Become (low_key o.call) (high_key o.call) s.rest rest met ranges pasts
       → AllZip (IsWithRead (answered response o)) pasts nexts → o.response ≡ None → IsReport s.now (answered response o)
@@ -292,7 +292,7 @@ module _ (s : PartsView) (left met : List Part) (start : Contents) (front back :
       (kept_so o response met_is rest ranges pasts nexts become_is there answer.pending
       (subst (λ (x : Operation). IsReport s.now x) answer.is report) kept)
 
-  -- where its keys are at rest
+  -- the state if the read's keys are at rest
   rest_so : (o : Operation) (response : Response) → AreMet (low_key o.call) (high_key o.call) s.parts left met → met ≡ []
       → o.response ≡ None → IsReport s.now (answered response o) → IsLegalCall s.rest o.call (Some response)
       → AreKept start s.now (front ++ o ∷ back) (kept_parts s)

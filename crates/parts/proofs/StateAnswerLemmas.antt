@@ -259,7 +259,7 @@ module _ (s : PartsView) (place : ℕ) (part : Part) (within : place < length s.
 
 -- ---- pending reads
 
--- they stay where a call that may change the map is answered
+-- the pending reads stay if a call that may change the map is answered
 pub reads_stay_answered : (front back : List Operation) (o : Operation) (response : Response) (reads : List OpenRead) → may_change o.call ≡ true
     → AreReadsOf (front ++ o ∷ back) reads → AreReadsOf (front ++ answered response o ∷ back) reads
 reads_stay_answered front back o response reads changes are inv low high = (
