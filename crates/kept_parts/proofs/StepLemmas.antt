@@ -1,4 +1,4 @@
--- Parts that are kept, in another order (`parts_move`); and pasts of a part that go (`dead_pasts_are_lost`), or become others (`pasts_move_on`).
+-- Parts in another order (`parts_move`); pasts of a part that are dropped (`dead_pasts_are_lost`), or become others (`pasts_move_on`).
 use Rattle.kept_parts.proofs.Common.{◌≡◌, ℕ, ◌<◌, ◌≤◌, Bool, true, false, List, [], ◌∷◌, ◌++◌, map, Option, None, Some, inl, inr, refl, sym, ◌∙◌}
 use Rattle.kept_parts.proofs.Common.{subst, ⊎_elim, false≢true, ◌⊎◌, is_some, AllPairs, Any, Contains, AllZip, All-nil, All-contains, AllPairs-map}
 use Rattle.kept_parts.proofs.Common.{Contains-from_map, All-from_contains, Operation, Response, low_key, may_change, value_at, IsLinearizable}

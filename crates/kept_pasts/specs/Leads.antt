@@ -19,7 +19,7 @@ pub record Setting : Type 0 where
 abbrev pub IsSetting : Setting → Type 0
 IsSetting s = HaveGrown s.place s.calls s.calls
 
--- these are the pasts of the part, so far as they are kept, and pending reads of its keys began no earlier than a moment
+-- the part may have these pasts, and pending reads of its keys began no earlier than a moment
 abbrev pub Stand : ℕ → Setting → List KeptPast → Type 0
 Stand moment s kept =
     (pasts : List Choice) × ArePasts s.keys s.calls kept pasts

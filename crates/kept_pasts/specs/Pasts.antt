@@ -46,7 +46,7 @@ pub record AreFound (keys : Keys) (past : Choice) (calls : List KeyedCall) (foun
   pub whole : (a : KeyedCall) (key : ℕ) → Contains calls a → is_completed a ≡ false → keys key ≡ true → past.taken a.inv key ≡ true
       → (f : FoundAt) × Contains found f × (f.inv ≡ a.inv) × (f.key ≡ key)
 
--- a past of some keys is kept so, after these calls
+-- a past as code sees it, `kept`, is this choice of the laws, at some keys and after these calls
 pub record IsPast (keys : Keys) (calls : List KeyedCall) (kept : KeptPast) (past : Choice) : Type 0 where
   pub alike : AreLeftCalls keys past calls kept.pairs kept.left
   pub owned : AreOfLeftCalls keys past calls kept.left
@@ -60,7 +60,7 @@ pub record IsPast (keys : Keys) (calls : List KeyedCall) (kept : KeptPast) (past
       → (a : KeyedCall) × Contains calls a × (a.inv ≡ inv) × (a.concerns key ≡ true)
   pub found : AreFound keys past calls kept.found
 
--- pasts of some keys are kept so
+-- pasts as code sees them are these choices of the laws
 abbrev pub ArePasts : Keys → List KeyedCall → List KeptPast → List Choice → Type 0
 ArePasts keys calls kept pasts = AllZip (IsPast keys calls) kept pasts
 

@@ -18,12 +18,12 @@ pub fn reads_of_pasts_come_next()
     ensures { ReadsOfPastsComeNext }
 {}
 
-/// A past may be replaced by one that is kept alike.
+/// A past may be replaced by one that is like it.
 pub fn alike_pasts_stand()
     ensures { AlikePastsStand }
 {}
 
-/// If two pasts are kept alike, one may be dropped.
+/// If two pasts are alike, one may be dropped.
 pub fn alike_pasts_go()
     ensures { AlikePastsGo }
 {}

@@ -15,7 +15,7 @@ at_process process other = grind arith
 
 -- ---- processes with an open call
 
--- if an answer of a process is in turn, its last event is an invocation
+-- if it is a process's turn to answer, its last event is an invocation
 waits_before : (w : Bool) (own : List Event) (p : ℕ) (reply : Reply) → takes_turns w (own ++ Answer p reply ∷ []) ≡ true → ends_waiting w own ≡ true
 waits_before w [] p reply turns = (and_parts w true turns).0
 waits_before w (Invoke q call ∷ own) p reply turns =

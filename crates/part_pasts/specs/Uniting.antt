@@ -59,10 +59,11 @@ pub record IsTogetherWith (united : United) (part : Part) (next : United) : Type
 abbrev pub IsIn : List Part → ℕ → Type 0
 IsIn parts key = Any (λ part. covered part.ranges.items key ≡ true) parts
 
--- keys at rest, as they are kept, without those of some ranges
+-- keys at rest, as a part of the laws
 abbrev pub resting : Keys → Contents → KeptPart
 resting keys pairs = record { keys = keys; pasts = at_rest pairs ∷ [] }
 
+-- some keys without others
 abbrev pub outside : Keys → Keys → Keys
 outside keys others key = keys key && not (others key)
 

@@ -115,7 +115,7 @@ fn best_moment(alloc: Global, calls: &[Operation], hold: usize) -> Result<Option
     Ok(best)
 }
 
-/// When calls ended, in turn, and whether they may change the map.
+/// When calls ended, one after another, and whether they may change the map.
 fn ends_of(alloc: Global, calls: &[Operation]) -> Result<Vec<(usize, bool)>, Memory> {
     let mut ends = Vec::with_capacity(alloc, calls.len())?;
     for call in calls {

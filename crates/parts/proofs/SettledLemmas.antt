@@ -133,7 +133,7 @@ module _ (start : Contents) (now : ℕ) (calls : List Operation) (rest : Content
       (subst (λ (ps : List KeptPart). AreKept start now calls (kept_part last ∷ ps))
       (sym (append-nil (resting keys rest_then ∷ map kept_part others))) are)))
 
-  -- it stays as it is kept
+  -- a part that stays as it is
   pub stay_kept : (again : Part) → IsKeptSo part again
       → AreKept start now calls (kept_rest rest (others ++ again ∷ []) ∷ map kept_part (others ++ again ∷ []))
   stay_kept again same = to_the_end again rest (is_at_rest (front ++ part ∷ back))
