@@ -24,12 +24,12 @@ AsksForTrees (Page budget workers) = ⊥
 AsksForTrees (Follow budget) = ⊥
 AsksForTrees other = ⊤
 
--- what is told for such a line
+-- what is reported for such a line
 abbrev pub no_trees_line : List ℕ
 no_trees_line = line (codes "error: this program has no plans and no trees")
 
--- the outcome of what a line asks of a history or of a stream, whatever the number of workers;
--- another is told that it has nothing here
+-- The outcome of what a line asks of a history or of a stream, whatever the number of workers. For
+-- any other line it is reported that this program does not do that.
 abbrev pub IsJudgeLineOutcome : Line → Change → RunOutcome → Type 0
 IsJudgeLineOutcome (Check order) source outcome = IsCheckOutcome order.items source outcome
 IsJudgeLineOutcome (Judge budget workers) source outcome = IsJudgeOutcome budget source outcome

@@ -1,7 +1,7 @@
-//! What a line of the command line asks of a history or of a stream, done by its engine; a plan or
-//! a tree has no line here.
+//! Runs what a line of the command line asks of a history or of a stream, by its engine. Plans and
+//! trees have no engine here.
 //!
-//! Words become lines in `line_outcomes`. How far a stream was followed is told on a terminal.
+//! Words become lines in `line_outcomes`. On a terminal it is shown how far a stream was followed.
 #![tactic(auto)]
 
 mod lines;

@@ -24,9 +24,10 @@ use std::thread::Threads;
 use stream_engines::{ProgressDisplay, run_follow};
 use streams::{Sink, Source};
 
-/// Does what a line asks of a history or of a stream, and answers the exit status; a line that asks
-/// for a plan or a tree is told that it has none here. Its numbers are within their limits. Nothing
-/// stops workers before a segment that they search; how far a stream was followed is shown.
+/// Runs what a line asks of a history or of a stream, and returns the exit status. For a line that
+/// asks for a plan or a tree it reports that this program has none. The numbers of the line are
+/// within their limits. Nothing stops workers before a segment that they search. `progress` shows
+/// how far a stream was followed.
 pub fn run_line<R: Threads + Sync, S: Source, O: Sink, F: Sink, H: Sink, P: ProgressDisplay>(
     rt: &R,
     alloc: Global,

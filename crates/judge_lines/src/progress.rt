@@ -1,11 +1,11 @@
-// How far a stream was followed, told on a terminal.
+// How far a stream was followed, shown on a terminal.
 
 use std::io::{IsTerminal, Stderr, Write};
 use std::time::{Clock, Instant};
 use stream_engines::ProgressDisplay;
 
-/// Tells on standard error, where that is a terminal, each second how many calls were taken, and
-/// how many a second since it last told so.
+/// Shows on standard error, if that is a terminal, how many calls were taken, and how many a second
+/// since it last did so. It shows that once a second.
 #[derive(Drop)]
 pub struct TerminalProgress<'a, R> {
     rt: &'a R,
@@ -16,7 +16,7 @@ pub struct TerminalProgress<'a, R> {
 }
 
 impl<'a, R: Clock> TerminalProgress<'a, R> {
-    /// Nothing was told yet.
+    /// A display that has shown nothing yet.
     pub fn new(rt: &'a R, terminal: Stderr) -> Self {
         let is_shown = terminal.is_terminal();
         TerminalProgress {

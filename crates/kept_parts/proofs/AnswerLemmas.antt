@@ -23,7 +23,7 @@ Becomes held place more keys rest past nexts =
     → (news : List Choice) × AreKeptPasts keys more nexts news
     × StandFor held place (map keyed more) (record { keys = keys; pasts = news ++ others } ∷ rest)
 
--- each past becomes some, in turn
+-- each past, one after another, becomes some
 abbrev pub EachBecomes : (KeptPast → List KeptPast → Type 0) → List KeptPast → List KeptPast → Type 0
 EachBecomes R [] nexts = nexts ≡ []
 EachBecomes R (past ∷ pasts) nexts =
@@ -193,7 +193,7 @@ module _ (place : ℕ) (front back : List Operation) (o : Operation) (response :
       (own.whole p (beside front o back p rest) none changes here))
       (Contains-around front (answered response o) back p p_in)
 
-  -- ---- where it has no key
+  -- ---- if it has no key
 
   other_free : (keys : Keys) (kept : KeptPast) (past : Choice) → HasNoKeyIn keys o
       → IsPast keys (map keyed front ++ keyed o ∷ map keyed back) kept past → IsFree o kept
@@ -223,7 +223,7 @@ module _ (place : ℕ) (front back : List Operation) (o : Operation) (response :
     };
   }
 
-  -- ---- where it is a read
+  -- ---- if it is a read
 
   pub read_free : (kept : KeptPast) → may_change o.call ≡ false → IsOfCalls (front ++ o ∷ back) kept → IsFree o kept
   read_free kept read own = record {
@@ -262,9 +262,9 @@ module _ (place : ℕ) (front back : List Operation) (o : Operation) (response :
       free : IsFree o kept
       free = read_free kept read known.own.of_calls
 
-  -- ---- where it may change the map
+  -- ---- if it may change the map
 
-  -- nothing of it is kept where it is left
+  -- without a call that was left, a past has nothing of that call
   left_free : (keys : Keys) (kept : KeptPast) (past : Choice) (before after : List Operation) → kept.left ≡ before ++ o ∷ after
       → IsPast keys (map keyed front ++ keyed o ∷ map keyed back) kept past
       → IsFree o (record { pairs = kept.pairs; left = before ++ after; found = kept.found })

@@ -1,4 +1,4 @@
--- The calls so far have an order exactly where each part that is kept goes on (`kept_parts_decide`).
+-- The calls so far have an order exactly if each part goes on (`kept_parts_decide`).
 use Rattle.kept_parts.proofs.Common.{◌≡◌, ℕ, ◌<◌, true, false, not, ◌&&◌, List, [], ◌∷◌, map, inl, inr, sym, subst, ⊎_elim, ◌⊎◌, ◌↔◌, All, Any}
 use Rattle.kept_parts.proofs.Common.{Contains, AllZip, and_parts, false_from_ne_true, All-nil, All-cons, All-head, All-tail, All-contains}
 use Rattle.kept_parts.proofs.Common.{Contains-nil, Contains-first, Contains-later, Contains-cases, Operation, value_at, IsLinearizable, KeyedCall}
@@ -29,7 +29,7 @@ some_part P (one ∷ parts) known =
         (λ later. none part later is)
         (Contains-cases one parts part part_in))
 
--- where something of a call is left at the keys of a past, and it is no pending read, all that is left of it is there
+-- if something of a call is left at the keys of a past, and it is no pending read, all that is left of it is there
 left_within : (keys : Keys) (calls : List KeyedCall) (kept : KeptPast) (past w : Choice) (a : KeyedCall) → IsPast keys calls kept past
     → IsAt keys past w → Contains calls a → a.refused ≡ false → IsLeftAt keys w a → IsOpenRead a ⊎ IsWithin keys (rest_of w a)
 left_within keys calls kept past w a is same a_in accepted (key, here, some) = ⊎_elim
@@ -83,7 +83,7 @@ of_one_part place calls kept parts are each shared w a w_is a_in = by_refusal (b
         )))
         (some_part (λ part. IsLeftAt part.keys w a) parts (λ part part_in. known accepted part))
 
--- ---- a part goes on exactly where some of its pasts does
+-- ---- a part goes on exactly if some of its pasts does
 
 any_from : {X : Type 0} (P : X → Type 0) (xs : List X) (x : X) → Contains xs x → P x → Any P xs
 any_from P xs x x_in is = (x_in.0, x, x_in.1, x_in.2, is)

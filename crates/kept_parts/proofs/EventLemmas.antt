@@ -41,7 +41,7 @@ module _ (place : ℕ) (calls : List Operation) (o : Operation) (at : o.inv ≡ 
         let (a, a_in, same, none, changes) = own.found f f_in in (a, Contains-append_left calls (o ∷ []) a a_in, same, none, changes);
   }
 
-  -- a call that may change the map is kept where each one before was, and so is this one
+  -- if each call before is left, or what it found is known, each is so after one more call
   whole_then : (keys : Keys) (kept next : KeptPast) → ((p : Operation) → IsLeftOrFound kept p → IsLeftOrFound next p)
       → (may_change o.call ≡ true → keys (low_key o.call) ≡ true → IsLeftOrFound next o) → IsOwn keys calls kept
       → (p : Operation) → Contains (calls ++ o ∷ []) p → p.response ≡ None → may_change p.call ≡ true → keys (low_key p.call) ≡ true
@@ -53,7 +53,7 @@ module _ (place : ℕ) (calls : List Operation) (o : Operation) (at : o.inv ≡ 
       (subst (λ (q : Operation). keys (low_key q.call) ≡ true) (sym same) here)))
       (last_or_old calls o p p_in)
 
-  -- where it has no key of a part, or is a read, the part stays as it is
+  -- if the call has no key of a part, or is a read, the part stays as it is
   other_then : (keys : Keys) (kept : KeptPast) (past : Choice) → HasNoKeyIn keys o ⊎ (may_change o.call ≡ false) → IsKeptPast keys calls kept past
       → IsKeptPast keys (calls ++ o ∷ []) kept past
   other_then keys kept past idle known = record {

@@ -8,7 +8,7 @@ use Rattle.kept_parts.proofs.CallLemmas.{AreCallsAfter, own_key_of}
 
 -- ---- keys
 
--- a call that may change the map has all its keys where its least is
+-- if the least key of a call that may change the map is in a set, so are all its keys
 pub keys_in : (keys : Keys) (o : Operation) → may_change o.call ≡ true → keys (low_key o.call) ≡ true → HasKeysIn keys o
 keys_in keys o changes here key concerned = subst (λ (k : ℕ). keys k ≡ true) (own_key_of o.call key changes concerned) here
 

@@ -54,7 +54,7 @@ alike_itself past = record { pairs = refl; left = λ inv. (λ h. h, λ h. h); fo
 
 module _ (held : ℕ → Option ℕ) (place : ℕ) (calls : List KeyedCall) (keys : Keys) (rest : List Part) (others : List KeptPast) (news : List Choice)
     (news_are : ArePasts keys calls others news) where
-  -- choices go for each of which there is one that is kept the same
+  -- choices may be dropped if for each of them there is one like it
   old_go : (kept : List KeptPast) (pasts : List Choice) → ArePasts keys calls kept pasts
       → ((past : KeptPast) → Contains kept past → Contains others past)
       → StandFor held place calls (record { keys = keys; pasts = pasts ++ news } ∷ rest)
@@ -122,7 +122,7 @@ kept_pasts_are_within start place calls part rest are =
       found = λ f f_in. (is.found.right f f_in).0;
     })
 
--- what a call found is kept of it, where it is not left
+-- if a call is not left, the past has what it found
 known_in : (keys : Keys) (calls : List Operation) (past : KeptPast) (choice : Choice) (o : Operation) → IsPast keys (map keyed calls) past choice
     → IsLeftOrFound past o → IsKnownIn o past
 known_in keys calls past choice o is (inl left) = inl left

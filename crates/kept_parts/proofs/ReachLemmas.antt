@@ -1,5 +1,5 @@
--- Pasts that are reached, as they are kept. Of each part one past is picked: the calls that were taken are those that are left in none of these, and
--- were answered or found something.
+-- Pasts that are reached. Of each part one past is picked. The calls that were taken are those that are left in none of these, and were
+-- answered or found something.
 use Rattle.kept_parts.proofs.Common.{◌≡◌, ℕ, ◌<◌, Bool, true, false, not, ◌&&◌, ◌||◌, ◌==◌, cond, List, [], ◌∷◌, ◌++◌, map, Option, Some, None, inl}
 use Rattle.kept_parts.proofs.Common.{inr, refl, sym, ap, ◌∙◌, subst, ⊎_elim, arith, ◌≢◌, ◌⊎◌, All, AllPairs, Contains, filter, IsTrue, AllZip}
 use Rattle.kept_parts.proofs.Common.{list_any, and_parts, and_from, or_left, or_right, not-true, not_from_false, false_from_ne_true, eqb-true, eq-eqb}

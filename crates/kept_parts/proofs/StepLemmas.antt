@@ -1,4 +1,4 @@
--- Parts that are kept, in another order (`parts_move`); and pasts of a part that go (`dead_pasts_are_lost`), or become others (`pasts_move_on`).
+-- Parts in another order (`parts_move`); pasts of a part that are dropped (`dead_pasts_are_lost`), or become others (`pasts_move_on`).
 use Rattle.kept_parts.proofs.Common.{◌≡◌, ℕ, ◌<◌, ◌≤◌, Bool, true, false, List, [], ◌∷◌, ◌++◌, map, Option, None, Some, inl, inr, refl, sym, ◌∙◌}
 use Rattle.kept_parts.proofs.Common.{subst, ⊎_elim, false≢true, ◌⊎◌, is_some, AllPairs, Any, Contains, AllZip, All-nil, All-contains, AllPairs-map}
 use Rattle.kept_parts.proofs.Common.{Contains-from_map, All-from_contains, Operation, Response, low_key, may_change, value_at, IsLinearizable}
@@ -70,7 +70,7 @@ parts_move start place calls part front back = (to_front, to_middle)
 pub rising_calls : (place : ℕ) (calls : List Operation) → AreCallsBefore place calls → AllPairs (λ a b. a.inv < b.inv) (map keyed calls)
 rising_calls place calls are = AllPairs-map (λ a b. a.inv < b.inv) keyed calls are.rising
 
--- a past stays, or goes where what is left of it has no order
+-- a past stays, or it is dropped if what is left of it has no order
 abbrev StaysOrGoes : KeptPast → List KeptPast → Type 0
 StaysOrGoes past nexts = (nexts ≡ past ∷ []) ⊎ ((IsLinearizable past.pairs past.left → ⊥) × (nexts ≡ []))
 

@@ -1,4 +1,4 @@
--- Two parts that are kept become one (`kept_parts_unite`), and one falls apart (`kept_parts_fall_apart`).
+-- Two parts become one (`kept_parts_unite`), and one is split in two (`kept_parts_fall_apart`).
 use Rattle.kept_parts.proofs.Common.{◌≡◌, ℕ, true, List, [], ◌∷◌, map, None, inl, inr, refl, sym, subst, ⊎_elim, ◌≢◌, All, Contains, AllZip, or_left}
 use Rattle.kept_parts.proofs.Common.{or_right, or_cases, All-nil, All-cons, All-head, All-tail, All-append, All-contains, All-from_contains}
 use Rattle.kept_parts.proofs.Common.{Operation, low_key, may_change, value_at, keyed, Keys, AreApart, Part, StandFor, KeptPast, IsOfCalls, IsOwn}

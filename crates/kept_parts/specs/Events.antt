@@ -29,14 +29,14 @@ ChangesBegin =
     → AreKept start place calls (part ∷ rest)
     → AreKept start (suc place) (calls ++ o ∷ []) (record { keys = part.keys; pasts = map (with_begun o) part.pasts } ∷ rest)
 
--- a read begins: nothing is kept of it
+-- a read begins: nothing is saved of it
 abbrev pub ReadsBegin : Type 0
 ReadsBegin =
     (start : Contents) (place : ℕ) (calls : List Operation) (parts : List KeptPart) (o : Operation) → o.inv ≡ place → o.response ≡ None
     → may_change o.call ≡ false → AreKept start place calls parts → AreKept start (suc place) (calls ++ o ∷ []) parts
 
--- what an answer makes of a past: the call is left there with its answer; or it was refused, and is no longer left; or it has taken effect, and
--- what it found, which its answer fits, is no longer kept; else the past is lost
+-- What an answer makes of a past. The call is left there with its answer. Or it was refused, and is no longer left. Or it has taken effect, its
+-- answer fits what it found, and what it found is dropped. Else the past is lost.
 abbrev pub IsLeftWithAnswer : Operation → Response → KeptPast → List KeptPast → Type 0
 IsLeftWithAnswer o response past nexts =
     (before : List Operation) × (after : List Operation) × (past.left ≡ before ++ o ∷ after) × (is_refusal response.reply ≡ false)
@@ -69,7 +69,7 @@ IsAfterAnswer o response past nexts =
     IsLeftWithAnswer o response past nexts ⊎ IsLeftNoMore o response past nexts ⊎ FoundAsAnswered o response past nexts
     ⊎ FoundOtherwise o response past nexts
 
--- what becomes of pasts, each in turn, when a call is answered
+-- what becomes of pasts, one after another, when a call is answered
 abbrev pub AreAfterAnswer : Operation → Response → List KeptPast → List KeptPast → Type 0
 AreAfterAnswer o response [] nexts = nexts ≡ []
 AreAfterAnswer o response (past ∷ pasts) nexts =
@@ -99,7 +99,7 @@ ReadsAreAnswered =
     → AllZip (IsWithRead (answered response o)) part.pasts nexts → AreKept start place (front ++ o ∷ back) (part ∷ rest)
     → AreKept start (suc place) (front ++ answered response o ∷ back) (record { keys = part.keys; pasts = nexts } ∷ rest)
 
--- where these keys are at rest, and hold what it reported, nothing is left of it
+-- if these keys are at rest, and hold what it reported, nothing is left of it
 abbrev pub ReadsAtRestAreTaken : Type 0
 ReadsAtRestAreTaken =
     (start : Contents) (place : ℕ) (front back : List Operation) (keys : Keys) (pairs : Contents) (rest : List KeptPart) (o : Operation)

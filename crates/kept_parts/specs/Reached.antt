@@ -1,4 +1,4 @@
--- What it means that a past is reached, as it is kept.
+-- What it means that a past is reached.
 use Rattle.std.specs.Prelude.{◌≡◌, ◌≢◌, ◌⊎◌, ℕ, true, List, [], ◌∷◌, ◌++◌, None, IsTrue, All, AllPairs, Contains}
 use Rattle.events.specs.declared.operation.Operation.{Operation}
 use Rattle.events.specs.Precedence.{is_completed}
@@ -19,8 +19,9 @@ pub record IsFoundIn (start : Contents) (order : List Operation) (f : FoundAt) :
   pub pending : call.response ≡ None
   pub value : value_at (after_calls start front) f.key ≡ f.value
 
--- A past of some keys is reached: some of the calls have a legal order that keeps precedence, and leaves at these keys what the past has there. Of
--- the calls with a key among these, an answered one is in the order or left in the past, and a pending one is in the order if what it found is kept.
+-- A past of some keys is reached: some of the calls have a legal order that keeps precedence, and leaves at these keys what the past has there.
+-- Take a call with a key among these. If it was answered, it is in the order or left in the past. If it is pending and the past has what it
+-- found, it is in the order.
 pub record IsReached (start : Contents) (calls : List Operation) (keys : Keys) (past : KeptPast) : Type 0 where
   pub order : List Operation
   pub known : (o : Operation) → Contains order o → Contains calls o
@@ -38,7 +39,7 @@ pub record IsReached (start : Contents) (calls : List Operation) (keys : Keys) (
 abbrev pub HasPasts : KeptPart → Type 0
 HasPasts part = part.pasts ≢ []
 
--- each past of a part is reached, where each other part has some
+-- each past of a part is reached, if each other part has a past
 abbrev pub KeptPastsAreReached : Type 0
 KeptPastsAreReached =
     (start : Contents) (place : ℕ) (calls : List Operation) (part : KeptPart) (rest : List KeptPart) → IsRising start

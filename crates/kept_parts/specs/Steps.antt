@@ -29,7 +29,7 @@ SameKeysAreKept =
     → ((key : ℕ) → others key ≡ keys key) → AreKept start place calls (record { keys = keys; pasts = pasts } ∷ rest)
     → AreKept start place calls (record { keys = others; pasts = pasts } ∷ rest)
 
--- a past of which what is left has no order is lost
+-- a past may be dropped if what is left of it has no order
 abbrev pub DeadPastsAreLost : Type 0
 DeadPastsAreLost =
     (start : Contents) (place : ℕ) (calls : List Operation) (keys : Keys) (past : KeptPast) (front back : List KeptPast) (rest : List KeptPart)
@@ -59,7 +59,7 @@ KeptPartsUnite =
     → ArePairs part.keys part.pasts other.pasts all → AreKept start place calls (part ∷ other ∷ rest)
     → AreKept start place calls (record { keys = both_keys part.keys other.keys; pasts = all } ∷ rest)
 
--- a part falls apart where all its pasts are kept the same at some of its keys
+-- a part may be split in two if all its pasts have the same at some of its keys
 abbrev pub KeptPartsFallApart : Type 0
 KeptPartsFallApart =
     (start : Contents) (place : ℕ) (calls : List Operation) (keys others : Keys) (a : KeptPast) (all other_kept : List KeptPast)
@@ -75,26 +75,27 @@ PastsInAnyOrderAreKept =
     → AreKept start place calls (record { keys = keys; pasts = pasts } ∷ rest)
     → AreKept start place calls (record { keys = keys; pasts = others } ∷ rest)
 
--- nothing is kept of a past but what is of these keys
+-- a past says something of these keys only
 pub record IsWithinKeys (keys : Keys) (past : KeptPast) : Type 0 where
   pub rising : IsRising past.pairs
   pub nothing : (key : ℕ) → keys key ≡ false → value_at past.pairs key ≡ None
   pub left : All (HasKeysIn keys) past.left
   pub found : (f : FoundAt) → Contains past.found f → keys f.key ≡ true
 
--- each past of a part is kept so
+-- each past of a part says something of the part's keys only
 abbrev pub KeptPastsAreWithin : Type 0
 KeptPastsAreWithin =
     (start : Contents) (place : ℕ) (calls : List Operation) (part : KeptPart) (rest : List KeptPart) → AreKept start place calls (part ∷ rest)
     → All (IsWithinKeys part.keys) part.pasts
 
--- a call is left, or what it found is kept, and no call of its invocation is left
+-- a call is left, or the past has what it found and no call of its invocation is left
 abbrev pub IsKnownIn : Operation → KeptPast → Type 0
 IsKnownIn o past =
     Contains past.left o
     ⊎ ((f : FoundAt) × Contains past.found f × (f.inv ≡ o.inv) × (f.key ≡ low_key o.call) × All (λ p. p.inv ≢ o.inv) past.left)
 
--- in each past of its part a pending call that may change the map is left, or what it found is kept
+-- in each past of its part a pending call that may change the map is left, or the past has what it
+-- found
 abbrev pub OpenChangesAreKept : Type 0
 OpenChangesAreKept =
     (start : Contents) (place : ℕ) (calls : List Operation) (part : KeptPart) (rest : List KeptPart) (o : Operation) → Contains calls o
@@ -105,7 +106,7 @@ OpenChangesAreKept =
 abbrev pub GoesOn : KeptPart → Type 0
 GoesOn part = Any (λ past. IsLinearizable past.pairs past.left) part.pasts
 
--- the events so far have an order exactly where each part goes on
+-- the events so far have an order exactly if each part goes on
 abbrev pub KeptPartsDecide : Type 0
 KeptPartsDecide =
     (start : Contents) (events : List Event) (place : ℕ) (parts : List KeptPart) → IsRising start

@@ -11,7 +11,7 @@ pub fn changes_begin()
     ensures { ChangesBegin }
 {}
 
-/// Nothing is kept of a read when it begins.
+/// Nothing is saved of a read when it begins.
 pub fn reads_begin()
     ensures { ReadsBegin }
 {}

@@ -1,6 +1,6 @@
-//! Laws of what a monitor keeps of the calls so far: parts of the keys, each with what is kept of
-//! the pasts that its keys may have. Code that keeps parts sees pairs, calls and what was found,
-//! and no choices or orders.
+//! Laws of what a monitor keeps of the calls so far: parts of the keys, each with the pasts that
+//! its keys may have. Code that keeps parts sees pairs, calls and what was found. It sees no
+//! choices or orders.
 #![tactic(auto)]
 
 mod event_laws;

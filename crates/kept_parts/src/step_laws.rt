@@ -27,7 +27,7 @@ pub fn kept_parts_unite()
     ensures { KeptPartsUnite }
 {}
 
-/// A part falls apart if all its pasts are kept the same at some of its keys.
+/// A part may be split in two if all its pasts have the same at some of its keys.
 pub fn kept_parts_fall_apart()
     ensures { KeptPartsFallApart }
 {}
@@ -37,13 +37,13 @@ pub fn pasts_in_any_order_are_kept()
     ensures { PastsInAnyOrderAreKept }
 {}
 
-/// What is kept of a part's pasts is of the part's keys only.
+/// A part's pasts say something only of the part's keys.
 pub fn kept_pasts_are_within()
     ensures { KeptPastsAreWithin }
 {}
 
-/// A pending call that may change the map is left in each past of its part, or what it found is
-/// kept there.
+/// A pending call that may change the map is left in each past of its part, or the past has what
+/// the call found.
 pub fn open_changes_are_kept()
     ensures { OpenChangesAreKept }
 {}

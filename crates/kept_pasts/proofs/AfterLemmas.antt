@@ -1,4 +1,4 @@
--- What is kept of the past to which a past comes by an operation that is left.
+-- What is kept of a past after an operation that is left.
 use Rattle.kept_pasts.proofs.Common.{◌≡◌, ℕ, ◌==◌, true, false, not, ◌&&◌, List, [], Option, Some, None, inl, inr, refl, sym, ap, ◌∙◌, subst, ⊎_elim}
 use Rattle.kept_pasts.proofs.Common.{◌⊎◌, ◌↔◌, All, Contains, is_some, and_parts, and_from, or_right, or_cases, not-true, eqb-true, eq-eqb, ne_eqb}
 use Rattle.kept_pasts.proofs.Common.{All-contains, All-from_contains, Contains-nil, Contains-first, Contains-cases, Contains-filter}
@@ -76,7 +76,7 @@ module _ (keys : Keys) (calls : List KeyedCall) (kept : KeptPast) (past after : 
 
   -- ---- what is left
 
-  -- a call of which something is left is another
+  -- a call is another one, if something of it is left
   left_other : (b : KeyedCall) → Contains calls b → IsLeftAt keys after b → b.inv ≡ a.inv → ⊥
   left_other b b_in is_left same =
       let one : b ≡ a = same_call calls b a step.apart.distinct b_in step.a_in same in

@@ -1,4 +1,4 @@
--- Two pasts that are kept alike: each goes on where the other does.
+-- Two pasts that are alike: each goes on exactly if the other does.
 use Rattle.kept_pasts.proofs.Common.{◌≡◌, ℕ, Bool, true, false, cond, List, ◌∷◌, Option, inl, inr, refl, sym, ap, ◌∙◌, subst, ⊎_elim, ◌⊎◌, Contains}
 use Rattle.kept_pasts.proofs.Common.{not-true, All-head, All-contains, All-from_contains, Contains-first, Contains-later, Contains-cases, Operation}
 use Rattle.kept_pasts.proofs.Common.{Contents, value_at, KeyedCall, is_completed, keyed, Choice, Agrees, GoesOn, SomeGoesOn, Keys, other_keys}

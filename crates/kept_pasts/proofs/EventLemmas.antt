@@ -32,7 +32,7 @@ last_or_old xs x z h =
     ⊎_elim (λ old. inl old) (λ new. ⊎_elim (λ same. inr same) (λ never. absurd (Contains-nil z never)) (Contains-cases x [] z new))
     (Contains-append_cases xs (x ∷ []) z h)
 
--- all that is known of the calls so far, of which the new one is none
+-- all that is known of the calls so far; the new one is none of them
 module _ (keys : Keys) (calls : List KeyedCall) (kept : KeptPast) (past : Choice) (o : Operation) (later : All (λ a. a.inv < o.inv) calls)
     (is : IsPast keys calls kept past) where
   new_name : (a : KeyedCall) → Contains calls a → a.inv ≡ o.inv → ⊥

@@ -1,5 +1,5 @@
--- A kept past at some of its keys, up to a limit before which no pending read of these keys began: what is left there of the calls that began before
--- it is known by the operations alone.
+-- A kept past at some of its keys, up to a limit before which no pending read of these keys began. The operations say what is left there of the
+-- calls that began before the limit.
 use Rattle.kept_pasts.proofs.Common.{◌≡◌, ℕ, ◌+◌, ◌<◌, ◌≤◌, Bool, true, false, not, ◌&&◌, List, [], ◌∷◌, None, inl, inr, refl, sym, ◌∙◌, subst}
 use Rattle.kept_pasts.proofs.Common.{⊎_elim, arith, ◌⊎◌, Contains, and_parts, cases_eq, All-head, Contains-nil, Contains-first, Contains-later}
 use Rattle.kept_pasts.proofs.Common.{Contains-cases, Operation, KeyedCall, concerns_key, keyed, AreKeyedCalls, Choice, at_first, rest_of, Keys}
@@ -49,7 +49,7 @@ named_or_none keys inv (o ∷ left) = by_first (is_named keys inv o) (named_or_n
         (λ later. none p later named)
         (Contains-cases o left p p_in))
 
--- a choice of parts of which the first has one past is this past at its keys
+-- if the first of the parts has one past, a choice of the parts is this past at its keys
 only_past : (keys : Keys) (past : Choice) (rest : List Part) (w : Choice) → choices_of (record { keys = keys; pasts = past ∷ [] } ∷ rest) w
     → IsAt keys past w
 only_past keys past rest w w_is =
@@ -72,7 +72,7 @@ pub record IsPastBefore (keys some : Keys) (limit : ℕ) (calls : List KeyedCall
 
 module _ (keys some : Keys) (limit : ℕ) (calls : List KeyedCall) (kept : KeptPast) (past : Choice)
     (at : IsPastBefore keys some limit calls kept past) where
-  -- each of which something is left is among the operations
+  -- each call is among the operations, if something of it is left
   pub all_left : AreAllLeft keys past limit calls kept.left
   all_left a a_in early accepted is_left =
       ⊎_elim (λ shown. shown) (λ open_read. by_late (at.late a is_left.0 a_in open_read is_left.1 concerned)) (at.is.whole a a_in accepted is_left)
@@ -108,7 +108,7 @@ module _ (keys some : Keys) (limit : ℕ) (calls : List KeyedCall) (kept : KeptP
       let concerned : a.concerns is_left.0 ≡ true = (and_parts (not (past.taken a.inv is_left.0)) (a.concerns is_left.0) is_left.2).1 in
       (a, a_in, accepted, (is_left.0, keys_inside o a o_in a_in (sym alike.inv) early has is_left.0 concerned, is_left.2), alike)
 
-  -- a call of which something is left there has an operation that has some key there
+  -- if something of a call is left there, it has an operation that has some key there
   named_there : (a : KeyedCall) → Contains calls a → a.inv < limit → a.refused ≡ false → IsLeftAt some past a
       → (o : Operation) × Contains kept.left o × IsNamed some a.inv o
   named_there a a_in early accepted is_left =

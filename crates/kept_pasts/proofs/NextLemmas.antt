@@ -39,7 +39,7 @@ zip_back R xs ys y each y_in =
 
 -- ---- a step by an operation
 
--- A past that is kept so, and that a past comes to by the call of an operation.
+-- A past and the past after the call of an operation, as they are kept.
 pub record IsNext (keys some : Keys) (calls : List KeyedCall) (kept : KeptPast) (past : Choice) (o : Operation) (next : KeptPast) (after : Choice)
     : Type 0 where
   pub call : KeyedCall
@@ -50,7 +50,7 @@ pub record IsNext (keys some : Keys) (calls : List KeyedCall) (kept : KeptPast) 
   pub taken : IsAfterCall keys past call after
   pub next_is : IsPastAfter kept o next
 
--- a past comes to another by the call of some operation
+-- a past becomes another by the call of some operation
 abbrev pub ComesNext : Keys → Keys → List KeyedCall → KeptPast → Choice → KeptPast → Choice → Type 0
 ComesNext keys some calls kept past next after = (o : Operation) × IsNext keys some calls kept past o next after
 

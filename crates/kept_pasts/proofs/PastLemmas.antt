@@ -1,6 +1,6 @@
--- What is kept of a past is known by each call and each operation alone. `fit_of`, `left_of`, `past_from`: from a past to its parts, and back.
--- `fit_on`, `known_on`, `found_on`, `whole_on`: the parts stay known as a pending call is answered. `found_is_free`, `taken_concerns`: what a
--- past says of one call.
+-- What is kept of a past is known by each call and each operation on its own. `fit_of`, `left_of`, `past_from`: from a past to its parts, and
+-- back. `fit_on`, `known_on`, `found_on`, `whole_on`: the parts stay known as a pending call is answered. `found_is_free`, `taken_concerns`:
+-- what a past says of one call.
 use Rattle.kept_pasts.proofs.Common.{◌≡◌, ℕ, ◌≤◌, true, false, nat_le, List, ◌∷◌, ◌++◌, Option, None, Some, inl, inr, refl, sym, ap, ◌∙◌, subst}
 use Rattle.kept_pasts.proofs.Common.{⊎_elim, arith, ◌≢◌, ◌⊎◌, Contains, is_some, eqb-true, eq-eqb, leb-true, le-leb, and_parts, and_from}
 use Rattle.kept_pasts.proofs.Common.{false_from_ne_true, All-contains, All-from_contains, Contains-around, Operation, Response, low_key, high_key}
@@ -87,7 +87,7 @@ past_from keys calls kept past left whole fit known found = record {
 
 -- ---- one call
 
--- a pending call was not taken where nothing is kept of what it found
+-- a pending call was not taken, if the past has nothing that it found
 pub found_is_free : (keys : Keys) (calls : List KeyedCall) (past : Choice) (found : List FoundAt) (o : Operation)
     → AreFound keys past calls found → Contains calls (keyed o) → o.response ≡ None → ((f : FoundAt) → Contains found f → f.inv ≢ o.inv)
     → IsNotTakenAt keys past o.inv
@@ -104,7 +104,7 @@ taken_concerns keys calls past o apart known o_in key is taken =
 
 -- ---- a pending call is answered
 
--- each call has one of its name, and of its keys, where one is another now
+-- for each call there is one of its name and of its keys, if one call is another now
 pub other_of : (front back : List KeyedCall) (a b : KeyedCall) → a.inv ≡ b.inv → ((key : ℕ) → a.concerns key ≡ b.concerns key) → (c : KeyedCall)
     → Contains (front ++ a ∷ back) c
     → (d : KeyedCall) × Contains (front ++ b ∷ back) d × (c.inv ≡ d.inv) × ((key : ℕ) → c.concerns key ≡ d.concerns key)

@@ -106,7 +106,7 @@ or_taken false true true same left = let never : false ≡ true = left in cc
 or_taken false true false same left = let never : false ≡ true = left in cc
 or_taken false false k same left = let never : false ≡ true = same in cc
 
--- what is left of a call, where it is taken at some keys
+-- what is left of a call that is taken at some keys
 abbrev rest_by : (ℕ → Bool) → KeyedCall → KeyedCall
 rest_by taken c = record {
   inv = c.inv;

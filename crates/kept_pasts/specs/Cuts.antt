@@ -1,4 +1,4 @@
--- Laws of cuts: pasts at a past moment, step by step, as they are kept.
+-- Laws of cuts: pasts at a past moment, step by step.
 use Rattle.std.specs.Prelude.{◌≡◌, ◌⊎◌, ℕ, ◌+◌, ◌<◌, true, false, List, ◌∷◌, ◌++◌, Option, Some, All, AllPairs, Contains}
 use Rattle.events.specs.declared.operation.Operation.{Operation}
 use Rattle.events.specs.Precedence.{is_before}
@@ -40,9 +40,8 @@ abbrev pub AreOwnOrBarredBy : Keys → ℕ → Contents → List Operation → T
 AreOwnOrBarredBy keys place pairs left =
     (o : Operation) → Contains left o → o.inv < place → HasSomeKeyIn keys o → HasKeysIn keys o ⊎ IsBarredBy keys pairs o
 
--- if that operation is the first left that ended, one may have these keys and others if it is
--- barred at these; then the past becomes those after each operation of some of these keys that may
--- come next at all keys of the part
+-- Suppose that this operation is the first left that ended. Then an operation may have some of these keys and others, if it is barred at these.
+-- The past becomes those after each operation of some of these keys that may come next at all keys of the part.
 abbrev pub UnbarredPastsComeNext : Type 0
 UnbarredPastsComeNext =
     (held : ℕ → Option ℕ) (place res : ℕ) (calls : List KeyedCall) (keys some : Keys) (kept : KeptPast) (past : Choice) (others : List Choice)
@@ -70,7 +69,7 @@ ReadsOfPastsComeNext =
     → (after : Choice) × IsPast keys calls next after
     × StandFor held place calls (record { keys = keys; pasts = after ∷ others } ∷ rest)
 
--- a past may be replaced by one that is kept alike
+-- a past may be replaced by one that is like it
 abbrev pub AlikePastsStand : Type 0
 AlikePastsStand =
     (held : ℕ → Option ℕ) (place : ℕ) (calls : List KeyedCall) (keys : Keys) (kept other : KeptPast) (past twin : Choice) (others : List Choice)
@@ -78,7 +77,7 @@ AlikePastsStand =
     → StandFor held place calls (record { keys = keys; pasts = past ∷ others } ∷ rest)
     → StandFor held place calls (record { keys = keys; pasts = twin ∷ others } ∷ rest)
 
--- if two pasts are kept alike, one may be dropped
+-- if two pasts are alike, one may be dropped
 abbrev pub AlikePastsGo : Type 0
 AlikePastsGo =
     (held : ℕ → Option ℕ) (place : ℕ) (calls : List KeyedCall) (keys : Keys) (kept other : KeptPast) (past twin : Choice) (others : List Choice)

@@ -64,7 +64,7 @@ OthersAreAnswered =
     → AreKeyedCalls (front ++ keyed o ∷ back) → HasNoKeyIn keys o → IsPast keys (front ++ keyed o ∷ back) kept past
     → IsPast keys (front ++ keyed (answered response o) ∷ back) kept past
 
--- a call that was taken is answered: where its answer fits what it found, that need not be kept
+-- a call that was taken is answered: if its answer fits what it found, that may be dropped
 abbrev pub TakenCallsAgree : Type 0
 TakenCallsAgree =
     (keys : Keys) (front back : List KeyedCall) (pairs : Contents) (left : List Operation) (found others : List FoundAt) (past : Choice)
@@ -75,7 +75,8 @@ TakenCallsAgree =
     → IsPast keys (front ++ keyed o ∷ back) (record { pairs = pairs; left = left; found = found }) past
     → IsPast keys (front ++ keyed (answered response o) ∷ back) (record { pairs = pairs; left = left; found = others }) past
 
--- else, or where it is refused, the past goes
+-- if a call that was taken is refused, or its answer does not fit what it found, the past may be
+-- dropped
 abbrev pub TakenCallsDisagree : Type 0
 TakenCallsDisagree =
     (held : ℕ → Option ℕ) (place : ℕ) (keys : Keys) (front back : List KeyedCall) (kept : KeptPast) (past : Choice) (others : List Choice)

@@ -19,7 +19,7 @@ pub record Setting : Type 0 where
 abbrev pub IsSetting : Setting → Type 0
 IsSetting s = HaveGrown s.place s.calls s.calls
 
--- these are the pasts of the part, so far as they are kept, and pending reads of its keys began no earlier than a moment
+-- the part may have these pasts, and pending reads of its keys began no earlier than a moment
 abbrev pub Stand : ℕ → Setting → List KeptPast → Type 0
 Stand moment s kept =
     (pasts : List Choice) × ArePasts s.keys s.calls kept pasts
@@ -30,9 +30,8 @@ Stand moment s kept =
 abbrev pub Leads : ℕ → List KeptPast → List KeptPast → Type 0
 Leads moment kept nexts = (s : Setting) → IsSetting s → Stand moment s kept → Stand moment s nexts
 
--- A past that is made of another by calls that took effect. What is left was left. What is found
--- was found before, or by a pending call that was left. What was found is still found. A pending
--- call that was left is left, or what it found is kept.
+-- A past that is made of another by calls that took effect. What is left was left. What is found was found before, or by a pending call that
+-- was left. What was found is still found. A pending call that was left is left, or the past has what it found.
 pub record IsMadeOf (past next : KeptPast) : Type 0 where
   pub left : (o : Operation) → Contains next.left o → Contains past.left o
   pub found : All (λ f. Contains past.found f ⊎ ((o : Operation) × Contains past.left o × (o.inv ≡ f.inv) × (o.response ≡ None))) next.found

@@ -15,7 +15,7 @@ use Rattle.key_parts.specs.Steps.{IsLeftAt}
 use Rattle.key_parts.specs.Operations.{AreLeftCalls, AreOfLeftCalls, without_call}
 use Rattle.key_parts.specs.Left.{HasKeysIn, HaveTheirKeys}
 
--- what a call found at a key where it took effect
+-- what a call found at a key when it took effect
 pub record FoundAt : Type 0 where
   pub inv : ℕ
   pub key : ℕ
@@ -46,7 +46,7 @@ pub record AreFound (keys : Keys) (past : Choice) (calls : List KeyedCall) (foun
   pub whole : (a : KeyedCall) (key : ℕ) → Contains calls a → is_completed a ≡ false → keys key ≡ true → past.taken a.inv key ≡ true
       → (f : FoundAt) × Contains found f × (f.inv ≡ a.inv) × (f.key ≡ key)
 
--- a past of some keys is kept so, after these calls
+-- a past as code sees it, `kept`, is this choice of the laws, at some keys and after these calls
 pub record IsPast (keys : Keys) (calls : List KeyedCall) (kept : KeptPast) (past : Choice) : Type 0 where
   pub alike : AreLeftCalls keys past calls kept.pairs kept.left
   pub owned : AreOfLeftCalls keys past calls kept.left
@@ -60,16 +60,16 @@ pub record IsPast (keys : Keys) (calls : List KeyedCall) (kept : KeptPast) (past
       → (a : KeyedCall) × Contains calls a × (a.inv ≡ inv) × (a.concerns key ≡ true)
   pub found : AreFound keys past calls kept.found
 
--- pasts of some keys are kept so
+-- pasts as code sees them are these choices of the laws
 abbrev pub ArePasts : Keys → List KeyedCall → List KeptPast → List Choice → Type 0
 ArePasts keys calls kept pasts = AllZip (IsPast keys calls) kept pasts
 
--- what an operation found that is taken at these pairs: nothing is kept of it where it was answered
+-- what an operation finds that takes effect at these pairs: nothing is saved of it if the operation was answered
 abbrev pub found_by : Contents → Operation → Option Response → List FoundAt
 found_by pairs o None = record { inv = o.inv; key = low_key o.call; value = value_at pairs (low_key o.call) } ∷ []
 found_by pairs o (Some response) = []
 
--- a past as it is kept after an operation that is left
+-- a past after an operation that is left
 pub record IsPastAfter (kept : KeptPast) (o : Operation) (next : KeptPast) : Type 0 where
   pub pairs : next.pairs ≡ after_call kept.pairs o.call o.response
   pub left : next.left ≡ without_call o.inv kept.left
@@ -83,7 +83,7 @@ IsLeftOrFound kept o = Contains kept.left o ⊎ ((f : FoundAt) × Contains kept.
 abbrev pub HasInvocation : List Operation → ℕ → Type 0
 HasInvocation left inv = (o : Operation) × Contains left o × (o.inv ≡ inv)
 
--- two pasts are kept alike: calls of the same invocations are left, and the same was found
+-- two pasts are alike: calls of the same invocations are left, and the same was found
 pub record AreKeptAlike (kept other : KeptPast) : Type 0 where
   pub pairs : other.pairs ≡ kept.pairs
   pub left : (inv : ℕ) → HasInvocation kept.left inv ↔ HasInvocation other.left inv
@@ -95,8 +95,8 @@ IsNameKept kept a =
     HasInvocation kept.left a.inv
     ⊎ ((f : FoundAt) × Contains kept.found f × (f.inv ≡ a.inv) × ((key : ℕ) → a.concerns key ≡ true → f.key ≡ key))
 
--- pending reads of these keys began no earlier than a place; except those that are kept in the
--- past, as a call may be that replaces a value by the same one
+-- Pending reads of these keys began no earlier than a place, unless the past has them. A replacement of a value by the same value is a read
+-- that the past may have.
 abbrev pub OpenReadsBeganAfter : Keys → ℕ → List KeyedCall → KeptPast → Type 0
 OpenReadsBeganAfter keys limit calls kept =
     (a : KeyedCall) (key : ℕ) → Contains calls a → IsOpenRead a → keys key ≡ true → a.concerns key ≡ true → (limit ≤ a.inv) ⊎ IsNameKept kept a

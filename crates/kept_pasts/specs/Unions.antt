@@ -1,4 +1,4 @@
--- Laws of parts that become one, and of one that falls apart, as their pasts are kept.
+-- Laws of parts that become one, and of one that is split.
 use Rattle.std.specs.Prelude.{◌≡◌, ◌≢◌, ◌⊎◌, ◌↔◌, ℕ, ◌<◌, true, ◌||◌, List, [], ◌∷◌, ◌++◌, Option, All, AllPairs, Contains}
 use Rattle.std.specs.List.{AllZip}
 use Rattle.events.specs.declared.operation.Operation.{Operation}
@@ -20,7 +20,7 @@ pub record IsTogether (keys : Keys) (a b c : KeptPast) : Type 0 where
   pub together : AreTogether keys a.pairs b.pairs c.pairs a.left b.left c.left
   pub found : (f : FoundAt) → Contains c.found f ↔ (Contains a.found f ⊎ Contains b.found f)
 
--- all pairs of two lists of pasts, in turn
+-- all pairs of two lists of pasts, one after another
 abbrev pub ArePairs : Keys → List KeptPast → List KeptPast → List KeptPast → Type 0
 ArePairs keys [] others all = all ≡ []
 ArePairs keys (a ∷ kept) others all =
@@ -37,7 +37,7 @@ PastsUnite =
     → (both : List Choice) × ArePasts (both_keys keys others) calls all both
     × StandFor held place calls (record { keys = both_keys keys others; pasts = both } ∷ rest)
 
--- what is kept of a past falls apart: each call that is left has keys of one of both alone
+-- a past is split: each call that is left has keys of only one of both sets
 pub record FallsApart (keys others : Keys) (c a b : KeptPast) : Type 0 where
   pub pairs : a.pairs ≡ pairs_at keys c.pairs
   pub other_pairs : b.pairs ≡ pairs_at others c.pairs
@@ -49,7 +49,7 @@ pub record FallsApart (keys others : Keys) (c a b : KeptPast) : Type 0 where
   pub found : (f : FoundAt) → Contains a.found f ↔ (Contains c.found f × (keys f.key ≡ true))
   pub other_found : (f : FoundAt) → Contains b.found f ↔ (Contains c.found f × (others f.key ≡ true))
 
--- a part falls apart where all its pasts are kept the same at some of its keys
+-- a part may be split if all its pasts have the same at some of its keys
 abbrev pub PastsFallApart : Type 0
 PastsFallApart =
     (held : ℕ → Option ℕ) (place : ℕ) (calls : List KeyedCall) (keys others : Keys) (a : KeptPast) (all other_kept : List KeptPast)

@@ -1,12 +1,14 @@
 // Laws of cuts, each the contract of a function that does nothing.
 ghost use Rattle.kept_pasts.specs.Cuts.{AlikePastsGo, AlikePastsStand, DeadPastsGo, PastsComeNext, PastsInAnyOrder, ReadsOfPastsComeNext, UnbarredPastsComeNext};
 
-/// If an answered operation of some of the keys is left, a past may be replaced by those after each operation that may come next there.
+/// A past may be replaced by the pasts after each operation that may come next at some of the keys,
+/// if an answered operation of these keys is left.
 pub fn pasts_come_next()
     ensures { PastsComeNext }
 {}
 
-/// If the first operation that ended has some of the keys, only operations of these come next. An operation of these keys and others must be barred there.
+/// If the first operation that ended has some of the keys, only operations of these come next. An
+/// operation of these keys and others must be barred there.
 pub fn unbarred_pasts_come_next()
     ensures { UnbarredPastsComeNext }
 {}
@@ -16,17 +18,17 @@ pub fn reads_of_pasts_come_next()
     ensures { ReadsOfPastsComeNext }
 {}
 
-/// A past may be replaced by one that is kept alike.
+/// A past may be replaced by one that is like it.
 pub fn alike_pasts_stand()
     ensures { AlikePastsStand }
 {}
 
-/// If two pasts are kept alike, one may be dropped.
+/// If two pasts are alike, one may be dropped.
 pub fn alike_pasts_go()
     ensures { AlikePastsGo }
 {}
 
-/// A past of which what is left has no order may be dropped.
+/// A past may be dropped if what is left of it has no order.
 pub fn dead_pasts_go()
     ensures { DeadPastsGo }
 {}

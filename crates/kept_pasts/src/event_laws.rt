@@ -31,7 +31,7 @@ pub fn others_are_answered()
     ensures { OthersAreAnswered }
 {}
 
-/// What a taken call found need not be kept once its answer agrees.
+/// What a taken call found may be dropped once its answer agrees.
 pub fn taken_calls_agree()
     ensures { TakenCallsAgree }
 {}

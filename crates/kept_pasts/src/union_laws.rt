@@ -1,4 +1,5 @@
-// Laws of parts that become one, and of one that falls apart, each the contract of a function that does nothing.
+// Laws of parts that become one, and of one that falls apart, each the contract of a function that
+// does nothing.
 ghost use Rattle.kept_pasts.specs.Unions.{PastsFallApart, PastsUnite};
 
 /// Two parts become one of all pairs of their pasts.
@@ -6,7 +7,8 @@ pub fn pasts_unite()
     ensures { PastsUnite }
 {}
 
-/// A part falls apart if all its pasts are kept the same at some of its keys, and each call has keys on one side only.
+/// A part may be split in two if all its pasts have the same at some of its keys, and each call has
+/// keys on one side only.
 pub fn pasts_fall_apart()
     ensures { PastsFallApart }
 {}

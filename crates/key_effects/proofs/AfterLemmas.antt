@@ -2,7 +2,7 @@
 use Rattle.key_effects.proofs.Common.{◌≡◌, ℕ, ◌==◌, Bool, true, false, ◌||◌, List, [], ◌∷◌, Option, refl, ap, ◌∙◌, ⊎_elim, Contains, eqb-true, eq-eqb}
 use Rattle.key_effects.proofs.Common.{Contains-nil, Contains-first, Contains-later, Contains-cases, KeyedCall, IsNoEffect, left_by, has_call}
 
--- a call is named among some where one of them has its name
+-- a call is named among some calls if one of them has its name
 pub named_in : (calls : List KeyedCall) (a : KeyedCall) → Contains calls a → has_call calls a.inv ≡ true
 named_in [] a a_in = absurd (Contains-nil a a_in)
 named_in (x ∷ calls) a a_in =

@@ -32,7 +32,7 @@ some_refute held keys calls (order, is) = (
   },
 )
 
--- calls that change nothing at a key where they fit
+-- calls that change nothing at a key if they fit
 pub quiet_left : (key : ℕ) (xs : List KeyedCall) (value : Option ℕ) → ((x : KeyedCall) → Contains xs x → IsQuiet x key) → FitInTurn key value xs
     → left_by key value xs ≡ value
 quiet_left key [] value quiet fit = refl
@@ -40,7 +40,7 @@ quiet_left key (x ∷ xs) value quiet fit =
     quiet_left key xs ((x.effect key).leaves value) (λ y y_in. quiet y (Contains-later x xs y y_in)) fit.1
     ∙ quiet x (Contains-first x xs) value fit.0
 
--- calls in turn without some that change nothing there
+-- calls, one after another, without some that change nothing there
 pub without_quiet : (key : ℕ) (p : KeyedCall → Bool) (xs : List KeyedCall) (value : Option ℕ)
     → ((x : KeyedCall) → Contains xs x → p x ≡ false → IsQuiet x key) → FitInTurn key value xs
     → FitInTurn key value (filter p xs) × (left_by key value (filter p xs) ≡ left_by key value xs)
@@ -82,7 +82,8 @@ filter_append p (x ∷ xs) ys = by_test (bool_cases (p x)) (filter_append p xs y
     by_test (inl passes) rest = rw passes (ap (λ (zs : List KeyedCall). x ∷ zs) rest)
     by_test (inr fails) rest = rw fails rest
 
--- calls in turn with others between them, each of which fits at its place and changes nothing
+-- calls, one after another, with others between them, each of which fits at its place and changes
+-- nothing
 pub with_quiet : (key : ℕ) (p : KeyedCall → Bool) (value : Option ℕ) (rest front : List KeyedCall)
     → ((x : KeyedCall) (before after : List KeyedCall) → front ++ rest ≡ before ++ x ∷ after → p x ≡ false
     → IsQuiet x key × ((x.effect key).fits (left_by key value (filter p before)) ≡ true))
@@ -131,7 +132,7 @@ pub record IsSettledRead (key : ℕ) (calls order : List KeyedCall) (y : KeyedCa
   pub quiet : IsQuiet y key
   pub undisturbed : (a : KeyedCall) → Contains calls a → IsQuiet a key ⊎ (precedes a y ≡ true) ⊎ (precedes y a ≡ true)
 
--- an order at a key, and another in which the same calls that may change it are in the same turn
+-- an order at a key, and another that has the calls that may change the key in the same order
 pub record AreAlikeAt (key : ℕ) (p : KeyedCall → Bool) (value : Option ℕ) (calls old new : List KeyedCall) : Type 0 where
   pub fit : FitInTurn key value old
   pub keep_old : KeepPrecedence old

@@ -7,7 +7,8 @@ bool_cases : (b : Bool) → (b ≡ true) ⊎ (b ≡ false)
 bool_cases true = inl refl
 bool_cases false = inr refl
 
--- at some keys alone, calls in turn fit as they do, and leave what they leave there
+-- with some keys only, calls fit there as they do, one after another, and leave what they leave
+-- there
 pub fit_only : (keys : Keys) (key : ℕ) (calls : List KeyedCall) (value : Option ℕ) → FitInTurn key value calls
     → FitInTurn key value (map (only keys) calls)
 fit_only keys key calls value fit = by_key (bool_cases (keys key)) calls value fit
@@ -24,7 +25,7 @@ fit_only keys key calls value fit = by_key (bool_cases (keys key)) calls value f
     by_key (inl is) xs v fits = same is xs v fits
     by_key (inr is) xs v fits = none is xs v
 
--- what is left of a call that concerns other keys alone has no effect at these
+-- what is left of a call that concerns only other keys has no effect at these
 pub outside_none : (keys : Keys) (w : Choice) (a : KeyedCall) → IsFormed a → IsOutside keys (rest_of w a) → (key : ℕ) → keys key ≡ true
     → IsNoEffect ((rest_of w a).effect key)
 outside_none keys w a formed outside key is = by_taken (w.taken a.inv key) refl (outside key is)

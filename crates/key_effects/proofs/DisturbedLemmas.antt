@@ -62,7 +62,7 @@ each P p q r s a a_in =
     (Contains-cases scan (seen ∷ second ∷ []) a l))
     (Contains-cases first (scan ∷ seen ∷ second ∷ []) a a_in)
 
--- 1, once at key 1, stays; and key 2 is changed by one call alone
+-- 1, once at key 1, stays; and only one call changes key 2
 stays_one : (xs : List KeyedCall) → ((x : KeyedCall) → Contains xs x → Contains all_calls x) → left_by 1 (Some 1) xs ≡ Some 1
 stays_one [] known = refl
 stays_one (x ∷ xs) known =

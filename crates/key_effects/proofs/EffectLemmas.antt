@@ -14,7 +14,7 @@ use Rattle.quiet_cuts.proofs.ValueLemmas.{IsOut, same_within, within_rises, with
 
 -- ---- answers
 
--- a value or none may be answered so exactly where it passes
+-- a value or none may be answered so exactly if it passes
 answers : (call : Call) (reply : Reply) (value : Option ℕ)
     → ((reply ≡ replies.Refused) ⊎ TellsOf call (value_reply value) reply) ↔ (is_answer call reply value ≡ true)
 answers call replies.None None = (λ h. refl, λ h. inr refl)
@@ -100,7 +100,7 @@ point_fits m own call (Some response) is =
       λ h. subst (λ (w : Reply). (response.reply ≡ replies.Refused) ⊎ TellsOf call w response.reply) (sym whole) (both.1 h),
     )
 
--- what a call is at each key, where it is a call of one
+-- what a call is at each key, if it is a call of one key
 pub record IsStep (m : Contents) (a : Operation) : Type 0 where
   pub fits : IsLegalCall m a.call a.response
       ↔ (HasForm a.call a.response × ((key : ℕ) → ((effect_at a.call a.response key).fits (value_at m key) ≡ true)))
@@ -242,7 +242,7 @@ step_of m a rising = by_call a.call a.response a.inv (λ key out. value_left m (
       leaves = λ key. scan_left m low high response.reply key;
     }
 
--- ---- calls in turn
+-- ---- calls one after another
 
 pub legal_fits : (calls : List Operation) (m : Contents) → IsRising m → IsLegal m calls
     → HaveForms calls × ((key : ℕ) → FitInTurn key (value_at m key) (map keyed calls))

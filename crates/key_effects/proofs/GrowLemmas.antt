@@ -43,7 +43,7 @@ elsewhere (Scan low high) None key out = none_none
 elsewhere (Scan low high) (Some response) key out = told_elsewhere low high response.reply key out
 elsewhere (Replace own expected value) response key out = point_elsewhere own (Replace own expected value) response key out
 
--- where it was refused
+-- if the call was refused
 refused_point : (own : ℕ) (call : Call) (res : ℕ) (reply : Reply) (key : ℕ) → is_refusal reply ≡ true
     → IsNoEffect (effect_of_key own call (Some (record { res = res; reply = reply })) key)
 refused_point own call res reply key refused = none_cond (own == key) (point_effect call (Some (record { res = res; reply = reply })))

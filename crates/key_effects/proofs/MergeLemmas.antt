@@ -46,7 +46,7 @@ any_precedes (y ∷ ys) x = by_first (bool_cases (precedes y x)) (any_precedes y
     by_first (inr not) (inr none) = inr (λ z z_in. ⊎_elim (λ same. subst (λ (a : KeyedCall). precedes a x ≡ false) same not)
         (λ later. none z later) (Contains-cases y ys z z_in))
 
--- where a call y2 precedes x, and y is not preceded by y2, nor x by x2, then x2 does not precede y
+-- if a call y2 precedes x, y2 does not precede y, and x2 does not precede x, then x2 does not precede y
 not_before : (x x2 y y2 : KeyedCall) → precedes y2 x ≡ true → precedes x2 x ≡ false → precedes y2 y ≡ false → precedes x2 y ≡ false
 not_before x x2 y y2 h k l = by_res x2.res y2.res h k l
   where
@@ -156,8 +156,7 @@ merged_none ys may = record {
           ap (λ (v : Option ℕ). left_by key v xs) (here.leaves value) ∙ rest.1,
         )
 
--- if some call of the second list precedes the first call of the first list, no call of the first
--- list precedes the first call of the second
+-- if some call of the second list precedes the first call of the first list, no call of the first list precedes the first call of the second
 second_first : (x y : KeyedCall) (xs ys : List KeyedCall) → MayMerge (x ∷ xs) (y ∷ ys)
     → (z : KeyedCall) × Contains (y ∷ ys) z × (precedes z x ≡ true) → (a : KeyedCall) → Contains (x ∷ xs) a → precedes a y ≡ false
 second_first x y xs ys may (z, z_in, before) a a_in =

@@ -60,7 +60,7 @@ pub split_at : (place : ℕ) (order : List KeyedCall) → (early : List KeyedCal
 split_at place [] = ([], [], record { parts = refl; begun = All-nil (λ x. x.inv < place); rest = inl refl })
 split_at place (a ∷ order) = split_cons place a order (nat_lt a.inv place) refl (split_at place order)
 
--- a call that ended before the place is in the first part, where none precedes itself
+-- a call that ended before the place is in the first part, if none precedes itself
 pub ended_early : (place : ℕ) (order early late : List KeyedCall) (a : KeyedCall) → IsSplitAt place order early late → KeepPrecedence order
     → precedes a a ≡ false → ends_before a.res place ≡ true → Contains order a → Contains early a
 ended_early place order early late a split keeps alone ended is =

@@ -1,4 +1,4 @@
--- Calls in turn at a key: parts of them, and others in their places.
+-- Calls, one after another, at a key: parts of them, and others in their places.
 use Rattle.key_effects.proofs.Common.{◌≡◌, ℕ, Bool, true, false, List, [], ◌∷◌, ◌++◌, Option, inl, inr, refl, sym, ap, ◌∙◌, subst, ⊎_elim, ◌≢◌, ◌⊎◌}
 use Rattle.key_effects.proofs.Common.{All, Contains, All-contains, AllPairs-cons, AllPairs-nil, AllPairs-head, AllPairs-tail, All-from_contains}
 use Rattle.key_effects.proofs.Common.{Contains-nil, Contains-first, Contains-later, Contains-cases, KeyedCall, IsNoEffect, ends_before, precedes}
@@ -10,7 +10,7 @@ pub left_by-append : (key : ℕ) (value : Option ℕ) (xs ys : List KeyedCall)
 left_by-append key value [] ys = refl
 left_by-append key value (x ∷ xs) ys = left_by-append key ((x.effect key).leaves value) xs ys
 
--- calls in turn, of which the first come first
+-- if calls fit one after another, so do the first ones, and the others after them
 pub fit-front : (key : ℕ) (value : Option ℕ) (xs ys : List KeyedCall) → FitInTurn key value (xs ++ ys) → FitInTurn key value xs
 fit-front key value [] ys fit = tt
 fit-front key value (x ∷ xs) ys fit = (fit.0, fit-front key ((x.effect key).leaves value) xs ys fit.1)
@@ -25,7 +25,7 @@ pub fit-append : (key : ℕ) (value : Option ℕ) (xs ys : List KeyedCall) → F
 fit-append key value [] ys fit rest = rest
 fit-append key value (x ∷ xs) ys fit rest = (fit.0, fit-append key ((x.effect key).leaves value) xs ys fit.1 rest)
 
--- a call may be in an order for another: it fits where that fits, and leaves the same there
+-- a call may replace another in an order: it fits if that fits, and leaves the same there
 pub record StandsFor (a b : KeyedCall) : Type 0 where
   pub inv : b.inv ≡ a.inv
   pub ends : (place : ℕ) → ends_before b.res place ≡ true → ends_before a.res place ≡ true
@@ -47,7 +47,7 @@ AreAligned Q D (a ∷ old) new =
     ((b : KeyedCall) × (rest : List KeyedCall) × (new ≡ b ∷ rest) × StandsFor a b × Q a b × AreAligned Q D old rest)
     ⊎ (HasNone a × D a × AreAligned Q D old new)
 
--- calls in turn in the places of others, of which some without effect are left out
+-- calls, one after another, in the places of others, without some that have no effect
 pub record AreOver (Q : KeyedCall → KeyedCall → Type 0) (D : KeyedCall → Type 0) (held : ℕ → Option ℕ) (old new : List KeyedCall)
     : Type 0 where
   pub from : (b : KeyedCall) → Contains new b → (a : KeyedCall) × Contains old a × StandsFor a b × Q a b
@@ -113,7 +113,7 @@ over_out Q D held a old new none out over = record {
   aligned = inr (none, out, over.aligned);
 }
 
--- calls in turn go over to others
+-- calls, one after another, become others
 pub go_over : (Q : KeyedCall → KeyedCall → Type 0) (D : KeyedCall → Type 0) (old : List KeyedCall) (held : ℕ → Option ℕ)
     → ((a : KeyedCall) → Contains old a → GoesOver Q D a) → AreDistinct old → KeepPrecedence old
     → ((key : ℕ) → FitInTurn key (held key) old) → (new : List KeyedCall) × AreOver Q D held old new

@@ -91,7 +91,7 @@ may_die rule =
     ) in
     never (rule 0 [] (told_five ∷ []) (at_first nothing) comes alive).1
 
--- the order of it alone, where the keys hold 5
+-- the order of the call, if the keys hold 5
 fives : ℕ → Option ℕ
 fives key = Some 5
 

@@ -1,10 +1,10 @@
--- Sets of keys that are judged apart: each call concerns one of both alone, or is a scan that the calls of one of both do not disturb.
+-- Sets of keys that are judged apart: each call concerns only one of both, or is a scan that the calls of one of both do not disturb.
 use Rattle.std.specs.Prelude.{◌≡◌, ◌⊎◌, ℕ, true, false, not, ◌&&◌, if◌then◌else◌, List, Option, None, All, AllPairs, Contains}
 use Rattle.key_effects.specs.KeyedCalls.{KeyedCall, IsNoEffect, no_effect, is_completed, precedes}
 use Rattle.key_effects.specs.KeyedOrders.{AreDistinct}
 use Rattle.key_effects.specs.Cuts.{Keys, IsWithin, IsOutside}
 
--- a call as it is at some keys alone
+-- a call as it is at some keys only
 abbrev pub only : Keys → KeyedCall → KeyedCall
 only keys a = record {
   inv = a.inv;
@@ -41,15 +41,14 @@ Parts keys calls s =
 abbrev pub AreApart : Keys → Keys → Type 0
 AreApart keys others = (key : ℕ) → keys key ≡ true → others key ≡ false
 
--- many sets of keys, no two of which share a key, and each of which each call parts from the others; at other keys no call has an effect
+-- Many sets of keys. No two of them share a key, and each call parts each of them from the others. At other keys no call has an effect.
 pub record AreParts (parts : List Keys) (calls : List KeyedCall) : Type 0 where
   pub apart : AllPairs AreApart parts
   pub parted : All (λ keys. All (Parts keys calls) calls) parts
   pub elsewhere : (a : KeyedCall) (key : ℕ) → Contains calls a → All (λ keys. keys key ≡ false) parts → IsNoEffect (a.effect key)
 
--- at some keys a call is like another: it has the same places, and the same effect there. Elsewhere
--- one has no effect, and the other leaves a key without a value as it is, as a scan does that
--- reported no such key.
+-- At some keys a call is like another: it has the same places, and the same effect there. Elsewhere one has no effect, and the other leaves a
+-- key without a value as it is. A scan that reported no such key does that.
 pub record IsAlikeAt (keys : Keys) (a b : KeyedCall) : Type 0 where
   pub inv : b.inv ≡ a.inv
   pub res : b.res ≡ a.res
@@ -59,7 +58,7 @@ pub record IsAlikeAt (keys : Keys) (a b : KeyedCall) : Type 0 where
   pub fits_none : (key : ℕ) → keys key ≡ false → (b.effect key).fits None ≡ true
   pub leaves_none : (key : ℕ) → keys key ≡ false → (b.effect key).leaves None ≡ None
 
--- calls that are alike at some keys, and what these hold, where the others hold nothing
+-- calls that are alike at some keys, and what these keys hold, while the other keys hold nothing
 pub record AreAlike (keys : Keys) (held other : ℕ → Option ℕ) (calls alike : List KeyedCall) : Type 0 where
   pub same : (key : ℕ) → keys key ≡ true → other key ≡ held key
   pub nothing : (key : ℕ) → keys key ≡ false → other key ≡ None

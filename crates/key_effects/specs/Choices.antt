@@ -1,4 +1,4 @@
--- What a part of an order may have come to: which calls took effect at which keys, what they found there, and what the keys hold now. The others
+-- What a part of an order may have led to: which calls took effect at which keys, what they found there, and what the keys hold now. The others
 -- go on from there.
 use Rattle.std.specs.Prelude.{◌≡◌, ℕ, Bool, true, false, not, ◌&&◌, if◌then◌else◌, List, Option, Some, All, map}
 use Rattle.key_effects.specs.KeyedCalls.{KeyedCall, no_effect}
@@ -15,7 +15,7 @@ pub record Choice : Type 0 where
 abbrev pub at_first : (ℕ → Option ℕ) → Choice
 at_first held = record { taken = λ inv key. false; found = λ inv key. held key; holds = held }
 
--- what is left of a call: nothing at the keys at which it was taken
+-- what is left of a call: nothing at the keys where it was taken
 abbrev pub rest_of : Choice → KeyedCall → KeyedCall
 rest_of w a = record {
   inv = a.inv;

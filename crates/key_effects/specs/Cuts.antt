@@ -7,7 +7,7 @@ use Rattle.key_effects.specs.KeyedCalls.{KeyedCall}
 abbrev pub Keys : Type 0
 Keys = ℕ → Bool
 
--- a call concerns keys of the set alone, or others alone
+-- a call concerns only keys of the set, or only others
 abbrev pub IsWithin : Keys → KeyedCall → Type 0
 IsWithin keys a = (key : ℕ) → keys key ≡ false → a.concerns key ≡ false
 

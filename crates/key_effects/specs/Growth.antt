@@ -3,7 +3,7 @@ use Rattle.std.specs.Prelude.{◌≡◌, ◌⊎◌, ℕ, ◌<◌, ◌≤◌, tru
 use Rattle.key_effects.specs.KeyedCalls.{KeyedCall, Effect, IsFormed, is_completed}
 use Rattle.key_effects.specs.KeyedOrders.{AreDistinct, AreKeyedCalls}
 
--- an answer says at which values a call was made, and not what it leaves
+-- an answer says what values a call may have met; what the call leaves stays the same
 abbrev pub LeaveTheSame : Effect → Effect → Type 0
 LeaveTheSame e f = (value : Option ℕ) → f.leaves value ≡ e.leaves value
 
@@ -15,7 +15,7 @@ pub record IsAnsweredAs (place : ℕ) (a b : KeyedCall) : Type 0 where
   pub later : (res : ℕ) → b.res ≡ Some res → place ≤ res
   pub does : b.refused ≡ false → (key : ℕ) → LeaveTheSame (a.effect key) (b.effect key)
 
--- a call after further events, the first of which is at this place
+-- a call after further events; the first of these is at this place
 pub record IsLater (place : ℕ) (a b : KeyedCall) : Type 0 where
   pub inv : b.inv ≡ a.inv
   pub concerns : (key : ℕ) → b.concerns key ≡ a.concerns key

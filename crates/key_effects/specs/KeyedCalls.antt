@@ -11,7 +11,7 @@ use Rattle.events.specs.declared.operation.Response.{Response}
 use Rattle.map_object.specs.MapObject.{value_at, is_just, value_reply, misses}
 use Rattle.quiet_cuts.specs.Values.{value_behind, value_behind_reply}
 
--- what a call is at one key: at which values, or none, it may have been answered as it was, and what it leaves
+-- what a call is at one key: which values, or none, it may have met to be answered as it was, and what it leaves
 pub record Effect : Type 0 where
   pub fits : Option ℕ → Bool
   pub leaves : Option ℕ → Option ℕ
@@ -25,8 +25,8 @@ pub record IsNoEffect (e : Effect) : Type 0 where
   pub fits : (value : Option ℕ) → e.fits value ≡ true
   pub leaves : (value : Option ℕ) → e.leaves value ≡ value
 
--- a call, by the places of its invocation and of its response, if it has one; whether it was refused; the keys that it concerns, whatever its
--- answer; and its effect at each key
+-- a call: the places of its invocation and of its response, if it has one; whether it was refused; the keys that it concerns, whatever its
+-- answer; its effect at each key
 pub record KeyedCall : Type 0 where
   pub inv : ℕ
   pub res : Option ℕ
@@ -34,7 +34,7 @@ pub record KeyedCall : Type 0 where
   pub concerns : ℕ → Bool
   pub effect : ℕ → Effect
 
--- it has no effect at other keys, and none at all where it was refused
+-- it has no effect at other keys, and none at all if it was refused
 pub record IsFormed (a : KeyedCall) : Type 0 where
   pub elsewhere : (key : ℕ) → a.concerns key ≡ false → IsNoEffect (a.effect key)
   pub refusal : a.refused ≡ true → (key : ℕ) → IsNoEffect (a.effect key)
@@ -46,7 +46,7 @@ is_same_value None (Some b) = false
 is_same_value (Some a) None = false
 is_same_value (Some a) (Some b) = a == b
 
--- whether a call of one key may be answered so where the key holds this value, or none
+-- whether a call of one key may be answered so if the key holds this value, or none
 abbrev pub is_answer : Call → Reply → Option ℕ → Bool
 is_answer call replies.None value = is_none value
 is_answer call (replies.Some told) value = is_just value told

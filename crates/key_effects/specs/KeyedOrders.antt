@@ -1,9 +1,9 @@
--- Orders of calls as the keys see them: Herlihy and Wing 1990, section 2, where objects are judged one by one. In turn, each call fits at each
--- key what those before it left there.
+-- Orders of calls as the keys see them: Herlihy and Wing 1990, section 2, where objects are judged one by one. Each call fits at each key what
+-- those before it left there.
 use Rattle.std.specs.Prelude.{◌≡◌, ◌≢◌, ℕ, true, false, List, [], ◌∷◌, Option, All, AllPairs, Contains, ⊤}
 use Rattle.key_effects.specs.KeyedCalls.{KeyedCall, is_completed, precedes}
 
--- calls in turn fit at a key, from this value, or none
+-- calls, one after another, fit at a key, from this value, or none
 abbrev pub FitInTurn : ℕ → Option ℕ → List KeyedCall → Type 0
 FitInTurn key value [] = ⊤
 FitInTurn key value (a ∷ calls) = ((a.effect key).fits value ≡ true) × FitInTurn key ((a.effect key).leaves value) calls
@@ -21,7 +21,7 @@ AreDistinct calls = AllPairs (λ a b. a.inv ≢ b.inv) calls
 abbrev pub KeepPrecedence : List KeyedCall → Type 0
 KeepPrecedence calls = AllPairs (λ a b. precedes b a ≡ false) calls
 
--- an order of the calls, where the keys hold these values at first: it has each completed call, and any pending ones
+-- an order of the calls, if the keys hold these values at first: it has each completed call, and any pending ones
 pub record IsKeyedOrder (held : ℕ → Option ℕ) (calls order : List KeyedCall) : Type 0 where
   pub known : (a : KeyedCall) → Contains order a → Contains calls a
   pub distinct : AreDistinct order

@@ -13,7 +13,7 @@ use Rattle.key_effects.specs.Cuts.{Keys}
 use Rattle.key_effects.specs.Apart.{only, other_keys, Parts, AreParts, AreAlike}
 use Rattle.key_effects.specs.Wider.{AliveStaysAlive, YesFromAbove, NoFromBelow, CompletedCallsSuffice}
 
--- a history has an order exactly where its scans may be answered so by some map, and its calls have an order as the keys see them
+-- a history has an order exactly if some map may answer its scans so, and its calls have an order as the keys see them
 abbrev pub OrdersAreKeyedOrders : Type 0
 OrdersAreKeyedOrders =
     (start : Contents) (events : List Event) → IsRising start
@@ -43,15 +43,14 @@ ChoicesStay =
     → (StandAbove held place calls (among choices) → StandAbove held next more (among choices))
     × (StandBelow held place calls (among choices) → StandBelow held next more (among choices))
 
--- if none of those above goes on to an order now, there is none; where one of those below does,
--- there is one
+-- if none of those above goes on to an order now, there is none; if one of those below does, there is one
 abbrev pub ChoicesJudge : Type 0
 ChoicesJudge =
     (held : ℕ → Option ℕ) (place : ℕ) (calls : List KeyedCall) (choices : ℕ → Option Choice) → HaveGrown place calls calls
     → (StandAbove held place calls (among choices) → (SomeGoesOn (among choices) calls → ⊥) → HasKeyedOrder held calls → ⊥)
     × (StandBelow held place calls (among choices) → SomeGoesOn (among choices) calls → HasKeyedOrder held calls)
 
--- what goes on with further events goes on now: so a choice that goes on to no order now never will, and may go
+-- what goes on with further events goes on now: so a choice that goes on to no order now never will, and may be dropped
 abbrev pub DeadChoicesStayDead : Type 0
 DeadChoicesStayDead = (place : ℕ) (calls more : List KeyedCall) (w : Choice) → HaveGrown place calls more → GoesOn w more → GoesOn w calls
 
@@ -61,7 +60,7 @@ DeadChoicesGo =
     → ((w : Choice) → among choices w → among left w ⊎ (GoesOn w calls → ⊥)) → StandAbove held place calls (among choices)
     → StandAbove held place calls (among left)
 
--- what has an order has one at some keys alone: so these alone refute
+-- calls that have an order have one at some keys only: so if there is none at some keys, there is none
 abbrev pub SomeKeysRefute : Type 0
 SomeKeysRefute =
     (held : ℕ → Option ℕ) (keys : Keys) (calls : List KeyedCall) → HasKeyedOrder held calls → HasKeyedOrder held (map (only keys) calls)
@@ -92,7 +91,7 @@ AboveIsNoYes = YesFromAbove → ⊥
 abbrev pub BelowIsNoNo : Type 0
 BelowIsNoNo = NoFromBelow → ⊥
 
--- calls without effect do not matter: where the others are the same, both lists have orders or none
+-- calls without effect do not matter: if the others are the same, both lists have orders or none
 abbrev pub EffectsDecide : Type 0
 EffectsDecide =
     (held : ℕ → Option ℕ) (calls more : List KeyedCall) → AreKeyedCalls more → AllPairs (λ a b. a.inv < b.inv) more

@@ -11,19 +11,19 @@ use Rattle.key_effects.specs.Apart.{only, other_keys, IsQuiet, IsRead}
 abbrev pub AliveStaysAlive : Type 0
 AliveStaysAlive = (place : ℕ) (calls more : List KeyedCall) (w : Choice) → HaveGrown place calls more → GoesOn w calls → GoesOn w more
 
--- that there is an order where a choice above goes on to one
+-- that there is an order if a choice above goes on to one
 abbrev pub YesFromAbove : Type 0
 YesFromAbove =
     (held : ℕ → Option ℕ) (place : ℕ) (calls : List KeyedCall) (choices : ℕ → Option Choice) → HaveGrown place calls calls
     → StandAbove held place calls (among choices) → SomeGoesOn (among choices) calls → HasKeyedOrder held calls
 
--- that there is none where no choice below goes on to one
+-- that there is none if no choice below goes on to one
 abbrev pub NoFromBelow : Type 0
 NoFromBelow =
     (held : ℕ → Option ℕ) (place : ℕ) (calls : List KeyedCall) (choices : ℕ → Option Choice) → HaveGrown place calls calls
     → StandBelow held place calls (among choices) → (SomeGoesOn (among choices) calls → ⊥) → HasKeyedOrder held calls → ⊥
 
--- that a scan is disturbed by completed calls alone, and not by such as are pending
+-- that only completed calls disturb a scan, and pending ones do not
 abbrev pub IsUndisturbedByCompleted : Keys → List KeyedCall → KeyedCall → Type 0
 IsUndisturbedByCompleted keys calls s =
     (a : KeyedCall) (key : ℕ) → Contains calls a → is_completed a ≡ true → keys key ≡ true → s.concerns key ≡ true

@@ -1,9 +1,9 @@
-//! Calls as the keys see them, and what of a stream's calls may stay in memory: only laws. At each
+//! Laws of calls as the keys see them, and of what may stay in memory of a stream's calls. At each
 //! key a call fits some values and leaves one. A scan reads at each key of its range what it
-//! answered there. Calls in turn are legal exactly if they fit at each key. Calls that are dropped
-//! leave a set of choices. A choice says which calls took effect at which keys, what they found,
-//! and what the keys hold. Choices are above the calls if they lose no order, and below the calls
-//! if they add none.
+//! answered there. Calls, one after another, are legal exactly if they fit at each key. Calls that
+//! are dropped leave a set of choices. A choice says which calls took effect at which keys, what
+//! they found, and what the keys hold. Choices are above the calls if they lose no order, and below
+//! the calls if they add none.
 #![tactic(auto)]
 
 mod laws;

@@ -24,7 +24,7 @@ nothing_is_left keys limit pairs rises nothing = record {
   agrees = All-nil (AgreesAt keys (at_first (value_at pairs)));
 }
 
--- ---- a call comes to what is left as it is answered
+-- ---- a call becomes left when it is answered
 
 pub answered_reads_are_left : AnsweredReadsAreLeft
 answered_reads_are_left keys past limit front back pairs before after o response key accepted form concerned inside free earlier later is =

@@ -9,8 +9,8 @@ use Rattle.key_parts.proofs.FirstLemmas.{none_outside, accepted_now}
 use Rattle.key_parts.proofs.MaskLemmas.{masked_by, rest_masked, masked_same}
 use Rattle.key_parts.proofs.NextLemmas.{taken_by, or_none, IsTaken, rest_leaves, taken_none}
 
--- All that is known of a choice that is `next` at some keys, of one that is `past` there and as the first elsewhere, and of the call, now and
--- later, by which the past comes to the next.
+-- All that is known of two choices and of a call, now and later. One choice is `next` at some keys. The other is `past` there, and like the
+-- first elsewhere. The call leads from the past to the next.
 pub record AtBack (keys : Keys) (place limit : ℕ) (calls more : List KeyedCall) (past next w v : Choice) (a d : KeyedCall) : Type 0 where
   pub same : IsAt keys next v
   pub here : IsAt keys past w
@@ -26,7 +26,7 @@ pub record AtBack (keys : Keys) (place limit : ℕ) (calls more : List KeyedCall
   pub later : IsLater place a d
   pub agrees : All (Agrees v) more
 
--- a call that has no effect at the keys, and one that has effects there alone, and did not end before a place
+-- a call that has no effect at the keys, and one that has effects only there, and did not end before a place
 abbrev pub IsApartFrom : Keys → KeyedCall → Type 0
 IsApartFrom keys x = (key : ℕ) → keys key ≡ true → IsNoEffect (x.effect key)
 
@@ -144,7 +144,7 @@ module _ (keys : Keys) (place limit : ℕ) (calls more : List KeyedCall) (past n
           ∙ at.after.found_before e.inv key is past_taken ∙ sym (at.here.found e.inv key is past_taken)
       found key taken (inr is) = sym (at.there.found e.inv key (not_from_false (keys key) is) (still key taken))
 
-  -- what began before the call has no effect at the keys, or has effects there alone, and does not precede the call
+  -- what began before the call has no effect at the keys, or has effects only there, and does not precede the call
   pub early_cases : (e : KeyedCall) → Contains more e → e.inv < a.inv → IsApartFrom keys (rest_of w e) ⊎ IsOpenWithin keys a.inv (rest_of w e)
   early_cases e e_in begun = by_come (at.grown.come e e_in)
     where

@@ -10,7 +10,7 @@ use Rattle.key_parts.proofs.FewerLemmas.{AreAmong, but_for, after_fewer, steps_f
 use Rattle.key_parts.proofs.FirstLemmas.{AtEnded, first_left, left_later, may_come}
 use Rattle.key_parts.proofs.PartLemmas.{at_fewer, instead, keys_shared, with_other, part_steps}
 
--- what is left of a call at some of the keys alone is not left at the others
+-- what is left of a call only at some of the keys is not left at the others
 none_but : (keys some : Keys) (past : Choice) (a : KeyedCall) → IsWithin some (left_at keys past a) → NoneIsLeftAt (but_for some keys) past a
 none_but keys some past a within key is =
     let (there, out) = and_parts (keys key) (not (some key)) is in
@@ -40,7 +40,7 @@ module _ (keys some : Keys) (place answered : ℕ) (calls : List KeyedCall) (pas
   none_before : (a b : KeyedCall) → a.inv < answered + 1 → Contains calls b → precedes b a ≡ true → (b.refused ≡ true) ⊎ NoneIsLeftAt keys past b
   none_before a b begun b_in before = at.first b b_in (ends_sooner b.res a.inv answered (omega (arith, begun)) before)
 
-  -- a call that may come next at some of the keys, and is not barred there, is left there alone
+  -- a call that may come next at some of the keys, and is not barred there, is left only there
   own_call : (a : KeyedCall) → Contains calls a → a.inv < answered + 1 → MayComeNext some past calls a → IsWithin some (left_at keys past a)
   own_call a a_in begun may =
       ⊎_elim

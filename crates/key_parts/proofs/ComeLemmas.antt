@@ -154,7 +154,7 @@ operations_may_come keys some past limit calls pairs left among apart are of_cal
 
 -- ---- what is left after a call
 
--- whether a call is taken after another: where that is a different one, as before
+-- whether a call is taken after another: as before, if that is a different call
 as_before : (taken same concerned : Bool) → same ≡ false → (taken || (same && concerned)) ≡ taken
 as_before true same concerned other = refl
 as_before false true concerned other = cc
@@ -217,7 +217,7 @@ module _ (keys : Keys) (past : Choice) (calls : List KeyedCall) (a : KeyedCall) 
       (λ out. none_left_out keys next a key out)
       (bool_cases (keys key))
 
-  -- a call of which something is left is another
+  -- a call is another one, if something of it is left
   left_other : (b : KeyedCall) → Contains calls b → IsLeftAt keys next b → b.inv ≡ a.inv → ⊥
   left_other b b_in (key, is, concerned) same =
       let one : b ≡ a = same_call calls b a apart.distinct b_in a_in same in
@@ -268,7 +268,7 @@ from_others inv left q q_in =
       λ same. let never : true ≡ false = sym (eq-eqb q.inv inv same) ∙ not-true (q.inv == inv) parts.1 in cc,
     )
 
--- what a past comes to by a call
+-- what becomes of a past by a call
 abbrev next_of : Choice → KeyedCall → Choice
 next_of past a = record {
   taken = λ inv key. past.taken inv key || ((inv == a.inv) && a.concerns key);

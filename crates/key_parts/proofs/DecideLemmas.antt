@@ -1,4 +1,4 @@
--- The parts decide: each has a past that goes on at its keys exactly where the calls have an order.
+-- The parts decide: each has a past that goes on at its keys exactly if the calls have an order.
 use Rattle.key_parts.proofs.Common.{◌≡◌, ℕ, ◌<◌, Bool, true, false, not, ◌&&◌, cond, List, [], ◌∷◌, map, Option, inl, inr, refl, sym, ap, ◌∙◌, subst}
 use Rattle.key_parts.proofs.Common.{⊎_elim, ◌⊎◌, ◌↔◌, All, AllPairs, Contains, filter, All-nil, All-cons, All-head, All-tail, All-contains, All-map}
 use Rattle.key_parts.proofs.Common.{AllPairs-filter, AllPairs-map, Contains-map, Contains-from_map, AllPairs-head, AllPairs-tail, All-from_contains}

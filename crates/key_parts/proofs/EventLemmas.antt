@@ -1,7 +1,7 @@
 -- What is left at some keys as a call begins, or is answered. `left_from_each`: it is known by each
--- call and each operation alone. `known_of`, `known_on`: what is known of a call stays known.
--- `left_as_before`: nothing changes where the calls that change are idle at the keys.
--- `left_instead`: one call replaces another.
+-- call and each operation on its own. `known_of`, `known_on`: what is known of a call stays known.
+-- `left_as_before`: nothing changes if the calls that change are idle at the keys. `left_instead`:
+-- one call replaces another.
 use Rattle.key_parts.proofs.Common.{◌≡◌, ℕ, ◌<◌, ◌≤◌, Bool, true, false, not, ◌&&◌, List, [], ◌∷◌, ◌++◌, Option, Some, None, inl, inr, refl, sym, ap}
 use Rattle.key_parts.proofs.Common.{◌∙◌, subst, ⊎_elim, arith, ◌≢◌, ◌⊎◌, All, AllPairs, Contains, All-nil, All-cons, All-head, All-tail, All-append}
 use Rattle.key_parts.proofs.Common.{All-contains, Contains-append_left, Contains-append_right, Contains-append_cases, AllPairs-cons, AllPairs-weaker}
@@ -54,7 +54,7 @@ differ name front x back distinct z z_in same =
 abbrev pub IsShown : Keys → Choice → List Operation → KeyedCall → Type 0
 IsShown keys past left a = (o : Operation) × Contains left o × IsAlikeAt keys (left_at keys past a) (keyed o)
 
--- a call is there of which something is left that is alike to an operation
+-- there is a call that is like an operation, and something of it is left
 abbrev pub IsOwned : Keys → Choice → List KeyedCall → Operation → Type 0
 IsOwned keys past calls o =
     (a : KeyedCall) × Contains calls a × (a.refused ≡ false) × IsLeftAt keys past a × IsAlikeAt keys (left_at keys past a) (keyed o)
@@ -73,7 +73,7 @@ known_of keys past limit calls pairs left is a a_in = record {
   agrees = All-contains (AgreesAt keys past) calls a is.agrees a_in;
 }
 
--- with other operations the same is known, where those of the call are among them
+-- with other operations the same is known, if those of the call are among them
 pub known_on : (keys : Keys) (past : Choice) (limit : ℕ) (left nexts : List Operation) (a : KeyedCall)
     → ((o : Operation) → Contains left o → IsAlikeAt keys (left_at keys past a) (keyed o) → Contains nexts o)
     → IsKnown keys past limit left a → IsKnown keys past limit nexts a
@@ -105,7 +105,7 @@ left_from_each keys past limit calls more pairs left nexts rising forms known ow
   agrees = All-from_contains (AgreesAt keys past) more (λ a a_in. (known a a_in).agrees);
 }
 
--- an operation is of this call, which was not refused, and of which something is left
+-- an operation is of this call, which was not refused; something of it is left
 abbrev pub IsOf : Keys → Choice → KeyedCall → Operation → Type 0
 IsOf keys past b o = (b.refused ≡ false) × IsLeftAt keys past b × IsAlikeAt keys (left_at keys past b) (keyed o)
 
@@ -144,7 +144,7 @@ pub record IsIdle (keys : Keys) (past : Choice) (limit : ℕ) (a : KeyedCall) : 
 not_left : (keys : Keys) (past : Choice) (a : KeyedCall) → NoneIsLeftAt keys past a → IsLeftAt keys past a → ⊥
 not_left keys past a none (key, is, some) = not_both ((rest_of past a).concerns key) some (none key is)
 
--- what is left stays the same if idle calls come, and calls of which nothing is left go
+-- what is left stays the same if idle calls are added, and calls are dropped that have nothing left
 pub left_as_before : (keys : Keys) (past : Choice) (limit : ℕ) (calls more : List KeyedCall) (pairs : Contents) (left : List Operation)
     → ((a : KeyedCall) → Contains more a → Contains calls a ⊎ IsIdle keys past limit a)
     → ((a : KeyedCall) → Contains calls a → Contains more a ⊎ NoneIsLeftAt keys past a)

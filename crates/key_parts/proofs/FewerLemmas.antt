@@ -41,7 +41,7 @@ after_fewer keys some past a next inside after = record {
   found = λ key is untaken there. after.found key (inside key is) untaken there;
 }
 
--- if nothing of a call is left, what a past comes to by it is the past
+-- if nothing of a call is left, a past after the call is the past before it
 pub after_none : (keys : Keys) (place : ℕ) (past : Choice) (a d : KeyedCall) (next : Choice) → IsFormed d → IsLater place a d → d.refused ≡ false
     → NoneIsLeftAt keys past a → IsAfterCall keys past a next → IsAt keys past next
 after_none keys place past a d next formed later accepted none after = record {
@@ -55,7 +55,7 @@ after_none keys place past a d next formed later accepted none after = record {
       after.holds key is ∙ stands.leaves key (past.holds key) (nothing.fits (past.holds key)) ∙ nothing.leaves (past.holds key);
 }
 
--- a choice that has another past at some keys has it at all, where the two are the same at the others
+-- a choice that is another past at some keys is that past at all keys, if the two are the same at the others
 pub at_step : (keys some : Keys) (past next w : Choice) → AreAmong some keys → IsAt keys past w → IsAt (but_for some keys) past next
     → IsAt keys next (instead some next w)
 at_step keys some past next w inside same still =
@@ -94,7 +94,7 @@ module _ (keys some : Keys) (place : ℕ) (past next : Choice) (a d : KeyedCall)
       with_past keys pasts nexts rest next w (instead some next w) shared next_in w_is (at_step keys some past next w alone.inside same still)
       (elsewhere keys some next w alone.inside)
 
--- All that is known of a call, now and later, by which a past comes to the next at some of a part's keys.
+-- All that is known of a call, now and later, that leads from a past to the next at some of a part's keys.
 pub record AtSome (keys some : Keys) (place limit : ℕ) (calls more : List KeyedCall) (past next : Choice) (rest : List Part) (a d : KeyedCall)
     : Type 0 where
   pub inside : AreAmong some keys

@@ -1,4 +1,4 @@
--- The first call of an order of which something is left at some keys.
+-- The first call of an order that has something left at some keys.
 use Rattle.key_parts.proofs.Common.{◌≡◌, ℕ, ◌<◌, ◌≤◌, Bool, true, false, not, ◌&&◌, cond, List, [], ◌∷◌, ◌++◌, map, Option, Some, None, inl, inr}
 use Rattle.key_parts.proofs.Common.{refl, sym, ap, subst, ⊎_elim, arith, ◌⊎◌, Contains, is_some, ltb-true, ltb-false, All-contains}
 use Rattle.key_parts.proofs.Common.{Contains-append_cases, Contains-map, Contains-from_map, AllPairs-head, AllPairs-tail, AllPairs-back, Contains-nil}
@@ -7,7 +7,7 @@ use Rattle.key_parts.proofs.Common.{is_completed, KeepPrecedence, IsKeyedOrder, 
 use Rattle.key_parts.proofs.Common.{bool_cases, response_of, same_call, ends_at, refused_none, later_stands, IsAt, IsLeftAt, NoneIsLeftAt, AreKnownAt}
 use Rattle.key_parts.proofs.Common.{MayComeNext}
 
--- the first of one kind, where each up to some call is of that kind or of another
+-- the first of one kind, if each up to some call is of that kind or of another
 pub find_first : (P Q : KeyedCall → Type 0) (xs : List KeyedCall) (e : KeyedCall) → Contains xs e → KeepPrecedence xs → precedes e e ≡ false
     → (Q e → ⊥) → ((x : KeyedCall) → Contains xs x → precedes e x ≡ false → P x ⊎ Q x)
     → (front : List KeyedCall) × (x : KeyedCall) × (back : List KeyedCall) × (xs ≡ front ++ x ∷ back) × P x

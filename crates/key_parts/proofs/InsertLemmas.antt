@@ -246,7 +246,7 @@ module _ (keys : Keys) (place limit : ℕ) (calls more : List KeyedCall) (past n
       of_early : (z : KeyedCall) → Contains early z → Contains (map (rest_of w) more) z
       of_early z z_in = other_known z (in_early z z_in) (λ same. let first : z.inv < a.inv = begun z z_in in omega (arith, first, same))
 
--- a choice that has not taken the call goes on
+-- if a choice that has taken the call goes on, so does the one that has not
 pub goes_back : (keys : Keys) (place limit : ℕ) (calls more : List KeyedCall) (past next w v : Choice) (a d : KeyedCall)
     → AtBack keys place limit calls more past next w v a d → GoesOn v more → GoesOn w more
 goes_back keys place limit calls more past next w v a d at goes_on =

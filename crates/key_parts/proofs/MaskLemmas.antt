@@ -1,11 +1,11 @@
--- What is left of calls where more is taken.
+-- What is left of calls if more is taken.
 use Rattle.key_parts.proofs.Common.{◌≡◌, ℕ, Bool, true, false, not, ◌&&◌, ◌||◌, cond, List, [], ◌∷◌, ◌++◌, map, Option, inl, inr, refl, sym, ap, ◌∙◌}
 use Rattle.key_parts.proofs.Common.{subst, ⊎_elim, ◌≢◌, ◌⊎◌, Contains, Contains-map, Contains-from_map, AllPairs-map, Contains-first, Contains-later}
 use Rattle.key_parts.proofs.Common.{KeyedCall, Effect, no_effect, IsNoEffect, precedes, is_completed, FitInTurn, IsKeyedOrder, Choice, rest_of}
 use Rattle.key_parts.proofs.Common.{IsQuiet, bool_cases, none_or}
 use mathlib.Core.Path.{fun_ext}
 
--- what is left of a call where more is taken
+-- what is left of a call if more is taken
 abbrev pub masked_by : (ℕ → ℕ → Bool) → KeyedCall → KeyedCall
 masked_by m x = record {
   inv = x.inv;
@@ -47,7 +47,7 @@ masked_same m x out =
     made : (ℕ → Bool) → (ℕ → Effect) → KeyedCall
     made c e = record { inv = x.inv; res = x.res; refused = x.refused; concerns = c; effect = e }
 
--- an order where more is taken, as far as it fits
+-- an order if more is taken, as far as it fits
 pub order_masked : (w next : Choice) (m : ℕ → ℕ → Bool) (more order : List KeyedCall)
     → ((inv key : ℕ) → next.taken inv key ≡ (w.taken inv key || m inv key)) → IsKeyedOrder w.holds (map (rest_of w) more) order
     → ((key : ℕ) → FitInTurn key (next.holds key) (map (masked_by m) order))
@@ -69,7 +69,7 @@ order_masked w next m more order taken is fit = record {
   fit = fit;
 }
 
--- if those of which more is taken are quiet at a key, calls in turn fit as they did
+-- calls fit as they did, one after another, if those that have more taken are quiet at a key
 pub quiet_masked : (m : ℕ → ℕ → Bool) (key : ℕ) (xs : List KeyedCall) (value : Option ℕ)
     → ((x : KeyedCall) → Contains xs x → (m x.inv key ≡ false) ⊎ IsQuiet x key) → FitInTurn key value xs
     → FitInTurn key value (map (masked_by m) xs)

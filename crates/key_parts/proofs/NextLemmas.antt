@@ -10,7 +10,7 @@ use Rattle.key_parts.proofs.PartLemmas.{instead}
 abbrev pub taken_by : Keys → KeyedCall → ℕ → ℕ → Bool
 taken_by keys a inv key = keys key && ((inv == a.inv) && a.concerns key)
 
--- All that is known of a choice that is `past` at some keys, of a call, now and later, and of what the past comes to by it.
+-- All that is known of a choice that is `past` at some keys, of a call, now and later, and of the past after the call.
 pub record IsTaken (keys : Keys) (place : ℕ) (calls more : List KeyedCall) (past next w : Choice) (a d : KeyedCall) : Type 0 where
   pub same : IsAt keys past w
   pub after : IsAfterCall keys past a next

@@ -1,4 +1,4 @@
--- What is left at some keys, as calls of a map that has these keys alone.
+-- What is left at some keys, as calls of a map that has only these keys.
 use Rattle.key_parts.proofs.Common.{◌≡◌, ℕ, ◌<◌, Bool, true, List, map, inl, inr, sym, ap, ◌∙◌, subst, ⊎_elim, arith, ◌≢◌, ◌⊎◌, ◌↔◌, AllPairs}
 use Rattle.key_parts.proofs.Common.{Contains, filter, AllPairs-map, AllPairs-weaker, Contains-map, Contains-from_map, Contains-filter}
 use Rattle.key_parts.proofs.Common.{Contains-from_filter, Operation, Contents, value_at, calls_at, KeyedCall, IsNoEffect, keyed, AreKeyedCalls}
@@ -11,7 +11,7 @@ use Rattle.key_parts.proofs.SomeLemmas.{keyed_left, keyed_some, some_decide}
 abbrev is_shown : List Operation → KeyedCall → Bool
 is_shown left x = has_call (map keyed left) x.inv
 
--- what is left of the calls of which there are operations
+-- what is left of the calls that have operations
 abbrev shown : Keys → Choice → List KeyedCall → List Operation → List KeyedCall
 shown keys past calls left = filter (is_shown left) (map (left_at keys past) calls)
 

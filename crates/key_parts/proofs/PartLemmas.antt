@@ -1,10 +1,8 @@
--- Choices at some keys. `at_self`, `at_back`, `at_next`: being the same at some keys is an
--- equivalence. `at_fewer`, `at_both`: at fewer keys, and at those of two sets. `instead`: a choice
--- that is another at some keys. `goes_on_there`: a choice that goes on to an order goes on to one
--- at some keys, and so does what it is there. `same_goes_on`: what is the same at all keys goes on
--- too. `keys_shared`, `with_past`, `with_instead`, `with_other`: a part with other pasts.
--- `stand_below`: choices that are reached are below the calls. `few_are`, `few_grown`: the calls
--- that some grew from. `part_steps`: parts represent the calls if one of them took a step.
+-- Choices at some keys. `at_self`, `at_back`, `at_next`: being the same at some keys is an equivalence. `at_fewer`, `at_both`: at fewer keys,
+-- and at those of two sets. `instead`: a choice that is another at some keys. `goes_on_there`: if a choice goes on to an order, so does one
+-- that is the same at some keys, at these keys. `same_goes_on`: what is the same at all keys goes on too. `keys_shared`, `with_past`,
+-- `with_instead`, `with_other`: a part with other pasts. `stand_below`: choices that are reached are below the calls. `few_are`, `few_grown`:
+-- the calls that some grew from. `part_steps`: parts represent the calls if one of them took a step.
 use Rattle.key_parts.proofs.Common.{◌≡◌, ℕ, ◌<◌, Bool, true, false, not, ◌||◌, ◌&&◌, cond, List, [], ◌∷◌, map, Option, inl, inr, refl, sym, ap, ◌∙◌}
 use Rattle.key_parts.proofs.Common.{subst, ⊎_elim, ◌≢◌, ◌⊎◌, Contains, filter, All-cons, All-tail, All-contains, AllPairs-cons, AllPairs-filter}
 use Rattle.key_parts.proofs.Common.{Contains-from_map, AllPairs-head, AllPairs-tail, All-from_contains, Contains-first, Contains-later}
@@ -172,7 +170,7 @@ same_goes_on_there keys past w calls same goes_on = (
       (subst (λ (xs : List KeyedCall). HasKeyedOrder w.holds xs) (all_left_same keys past w calls same) goes_on.1),
 )
 
--- a choice that goes on to an order goes on to one at some keys, and so does what it is there
+-- if a choice goes on to an order, so does a choice that is the same at some keys, at these keys
 pub goes_on_there : (keys : Keys) (past w : Choice) (calls : List KeyedCall) → IsAt keys past w → GoesOn w calls → GoesOnAt keys past calls
 goes_on_there keys past w calls same goes_on =
     same_goes_on_there keys past w calls same (
@@ -261,7 +259,7 @@ with_instead keys pasts nexts rest next w shared next_in is =
     with_past keys pasts nexts rest next w (instead keys next w) shared next_in is (instead_here keys next w)
     (instead_there keys (other_keys keys) next w (λ key here. rw here refl))
 
--- a choice of parts in which the first has another past
+-- a choice of parts with another past of the first part
 pub with_other : (keys : Keys) (pasts nexts : List Choice) (rest : List Part) (w past : Choice)
     → choices_of (record { keys = keys; pasts = pasts } ∷ rest) w → Contains nexts past → IsAt keys past w
     → choices_of (record { keys = keys; pasts = nexts } ∷ rest) w
@@ -328,8 +326,8 @@ module _ (place : ℕ) (calls more some : List KeyedCall) (w : Choice) (grown : 
 abbrev pub TakesNoMore : Choice → Choice → Type 0
 TakesNoMore v w = (inv key : ℕ) → w.taken inv key ≡ true → v.taken inv key ≡ true
 
--- the first of parts took a step: each of its choices that goes on has one after the step that does; and of any calls among which are all that a
--- choice after the step took, one that goes on has one before it that does, and takes nothing more
+-- The first of parts took a step. For each of its choices that goes on there is one after the step that does. Take any calls that include all
+-- that a choice after the step took, and let it go on. Then some choice before the step goes on, and takes nothing more.
 pub part_steps : (held : ℕ → Option ℕ) (place : ℕ) (calls : List KeyedCall) (keys : Keys) (pasts nexts : List Choice) (rest : List Part)
     → ((w : Choice) (more : List KeyedCall) → choices_of (record { keys = keys; pasts = pasts } ∷ rest) w → HaveGrown place calls more → GoesOn w more
     → SomeGoesOn (choices_of (record { keys = keys; pasts = nexts } ∷ rest)) more)

@@ -1,5 +1,5 @@
--- Choices that are reached. A pending call that was taken is answered with what it found, and after all calls a read of all keys follows that finds
--- what these hold: the choice goes on to an order of these, and so they have one.
+-- Choices that are reached. A pending call that was taken is answered with what it found. After all calls there is a read of all keys that
+-- finds what these hold. The choice goes on to an order of these, so they have one.
 use Rattle.key_parts.proofs.Common.{◌≡◌, ℕ, suc, ◌<◌, ◌≤◌, Bool, true, false, not, ◌&&◌, nat_lt, cond, List, [], ◌∷◌, ◌++◌, map, Option, Some, None}
 use Rattle.key_parts.proofs.Common.{inl, inr, refl, sym, ap, ◌∙◌, subst, ⊎_elim, arith, ◌≢◌, ◌⊎◌, All, Contains, ltb-true, lt-ltb, false_from_ne_true}
 use Rattle.key_parts.proofs.Common.{All-nil, All-cons, All-contains, Contains-append_left, Contains-append_right, Contains-append_cases}

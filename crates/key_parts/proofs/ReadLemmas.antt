@@ -1,4 +1,4 @@
--- A read that was answered is taken out of an order: `read_comes`, where it fits what the keys hold. `read_fits` and `read_quiet`: what is left of
+-- A read that was answered is taken out of an order: `read_comes`, if it fits what the keys hold. `read_fits` and `read_quiet`: what is left of
 -- it by a choice fits, and is quiet.
 use Rattle.key_parts.proofs.Common.{◌≡◌, ℕ, Bool, true, false, ◌&&◌, ◌==◌, cond, List, ◌∷◌, map, Option, inl, inr, refl, sym, ap, ◌∙◌, subst, ⊎_elim}
 use Rattle.key_parts.proofs.Common.{◌⊎◌, Contains, and_parts, eqb-true, All-head, Contains-from_map, Contains-first, Contains-later, Contains-cases}
@@ -9,7 +9,7 @@ use Rattle.key_parts.proofs.MaskLemmas.{masked_by, quiet_masked}
 use Rattle.key_parts.proofs.NextLemmas.{taken_by, IsTaken, rest_leaves, goes_on_next}
 use Rattle.key_parts.proofs.PartLemmas.{instead, with_instead, with_other}
 
--- a read is taken out of an order, in which it is quiet
+-- a quiet read is taken out of an order
 module _ (keys : Keys) (place : ℕ) (calls more : List KeyedCall) (past next w : Choice) (b : KeyedCall) (same : IsAt keys past w)
     (grown : HaveGrown place calls more) (b_in : Contains more b) (accepted : b.refused ≡ false) (read : IsReadAt keys past b)
     (fits : (key : ℕ) → keys key ≡ true → ((rest_of past b).effect key).fits (past.holds key) ≡ true) (after : IsAfterCall keys past b next) where

@@ -1,5 +1,5 @@
 -- A read that was answered, taken at keys at rest, and a call without effect, taken at any time. `at_taken`: two choices that differ by it.
--- `read_back`, `none_back`: one goes on where the other does, which has taken it.
+-- `read_back`, `none_back`: a choice goes on if the other does, which has taken it.
 use Rattle.key_parts.proofs.Common.{◌≡◌, ℕ, ◌==◌, ◌<◌, Bool, true, false, not, ◌&&◌, ◌||◌, cond, List, [], ◌∷◌, ◌++◌, map, Option, inl, inr, refl}
 use Rattle.key_parts.proofs.Common.{sym, ap, ◌∙◌, subst, ⊎_elim, arith, ◌≢◌, ◌⊎◌, All, Contains, eqb-true, eq-eqb, and_parts, or_left, or_right}
 use Rattle.key_parts.proofs.Common.{All-head, All-contains, Contains-append_left, AllPairs-map, Contains-map, Contains-from_map, AllPairs-across}
@@ -15,7 +15,7 @@ use Rattle.key_parts.proofs.FewerLemmas.{takes_less}
 use Rattle.key_parts.proofs.FirstLemmas.{completed_stays}
 use Rattle.key_parts.proofs.ReadLemmas.{read_comes, read_fits, read_quiet}
 
--- ---- two choices, of which one takes a call at some keys that the other leaves
+-- ---- two choices: one takes a call at some keys, and the other leaves it
 
 -- the call leaves what they hold
 record IsTakenAt (keys : Keys) (w : Choice) (b : KeyedCall) (v : Choice) : Type 0 where
@@ -79,7 +79,7 @@ record AtRead (keys : Keys) (more : List KeyedCall) (w v : Choice) (b : KeyedCal
   quiet : (key : ℕ) → keys key ≡ true → IsQuiet (rest_of w b) key
   fits : (key : ℕ) → keys key ≡ true → ((rest_of w b).effect key).fits (w.holds key) ≡ true
 
--- calls in turn, each of which is the same at a key in another list, or has no effect there in either
+-- calls, one after another, each of which is the same at a key in another list, or has no effect there in either
 none_moved : (key : ℕ) (f : KeyedCall → KeyedCall) (xs : List KeyedCall) (value : Option ℕ)
     → ((x : KeyedCall) → Contains xs x → ((f x).effect key ≡ x.effect key) ⊎ (IsNoEffect (x.effect key) × IsNoEffect ((f x).effect key)))
     → FitInTurn key value xs → FitInTurn key value (map f xs)
@@ -95,7 +95,7 @@ none_moved key f (x ∷ xs) value each fit =
     ))
     (each x (Contains-first x xs))
 
--- calls in turn of which one has no effect at a key, and is quiet there in the other list, where all before it are
+-- Calls, one after another. One of them has no effect at a key, and is quiet there in the other list, and so are all before it.
 given_fit : (key : ℕ) (f : KeyedCall → KeyedCall) (b : KeyedCall) (back front : List KeyedCall) (value : Option ℕ)
     → ((x : KeyedCall) → Contains front x → IsQuiet x key × ((f x).effect key ≡ x.effect key))
     → ((x : KeyedCall) → Contains back x → (f x).effect key ≡ x.effect key)
@@ -202,7 +202,7 @@ module _ (keys : Keys) (more : List KeyedCall) (w v : Choice) (b : KeyedCall) (a
       let one : d ≡ b = only_read d d_in (subst (λ (z : KeyedCall). (z.inv == b.inv) ≡ true) (sym d_is) named) in
       ap (λ (z : KeyedCall). rest_of v z) (sym one) ∙ d_is
 
-  -- a choice goes on where the other does, if the read may be given back
+  -- a choice goes on if the other does, if the read may be given back
   goes_back : (some : GoesOn v more) → ((key : ℕ) → FitInTurn key (w.holds key) (map (given_back w b) some.1.0)) → GoesOn w more
   goes_back some fit = (
     All-from_contains (Agrees w) more (λ d d_in. agrees_back d (All-contains (Agrees v) more d some.0 d_in)),
@@ -324,7 +324,7 @@ module _ (keys : Keys) (more : List KeyedCall) (w v : Choice) (b : KeyedCall) (a
 
 -- ---- keys at rest
 
--- what is quiet stays so where more is taken, or where it was pending and is answered
+-- what is quiet stays so if more is taken, or if it was pending and is answered
 quiet_on : (t s : Bool) (e f : Effect) → (t ≡ true → s ≡ true) → (e ≡ f) ⊎ (((value : Option ℕ) → e.fits value ≡ true) × LeaveTheSame e f)
     → ((value : Option ℕ) → (cond t no_effect e).fits value ≡ true → (cond t no_effect e).leaves value ≡ value)
     → (value : Option ℕ) → (cond s no_effect f).fits value ≡ true → (cond s no_effect f).leaves value ≡ value
@@ -388,7 +388,7 @@ or_false : (t c : Bool) → c ≡ false → (t || c) ≡ t
 or_false true c is = refl
 or_false false c is = is
 
--- a choice that has taken a read at some keys, where it has taken nothing of it, is one that has not
+-- a choice that is the next one at some keys, and has taken nothing of the read, is the past there
 at_untaken : (keys : Keys) (past next : Choice) (b : KeyedCall) (v : Choice) → IsAfterCall keys past b next → IsReadAt keys past b
     → ((key : ℕ) → keys key ≡ true → ((rest_of past b).effect key).fits (past.holds key) ≡ true) → IsAt keys next v
     → ((key : ℕ) → v.taken b.inv key ≡ true → ⊥) → IsAt keys past v
@@ -411,7 +411,7 @@ at_untaken keys past next b v after read fits second never = record {
         absurd (never key (subst (λ (n : ℕ). v.taken n key ≡ true) named taken))
     still inv key is (inr none) = or_false (past.taken inv key) ((inv == b.inv) && b.concerns key) none
 
--- a read is taken at keys, where each choice that has it goes on as the one that leaves it
+-- a read is taken at keys, if each choice that has it goes on as the one that leaves it
 read_taken : (held : ℕ → Option ℕ) (place : ℕ) (calls : List KeyedCall) (keys : Keys) (past next : Choice) (others : List Choice) (rest : List Part)
     (b : KeyedCall) → Contains calls b → is_completed b ≡ true → b.refused ≡ false → IsReadAt keys past b
     → ((key : ℕ) → keys key ≡ true → ((rest_of past b).effect key).fits (past.holds key) ≡ true) → IsAfterCall keys past b next

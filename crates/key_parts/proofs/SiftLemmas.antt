@@ -1,10 +1,10 @@
--- Calls in turn, parted into two lists, and with one more between them.
+-- Calls, one after another, split into two lists, and with one more between them.
 use Rattle.key_parts.proofs.Common.{◌≡◌, ℕ, Bool, true, false, ◌==◌, cond, List, [], ◌∷◌, ◌++◌, Option, inl, inr, refl, sym, ap, ◌∙◌, subst, ⊎_elim}
 use Rattle.key_parts.proofs.Common.{◌≢◌, ◌⊎◌, All, AllPairs, Contains, filter, eqb-true, eq-eqb, All-contains, Contains-append_cases, AllPairs-cons}
 use Rattle.key_parts.proofs.Common.{All-from_contains, AllPairs-head, AllPairs-tail, AllPairs-append, Contains-nil, Contains-first, Contains-later}
 use Rattle.key_parts.proofs.Common.{Contains-cases, KeyedCall, IsNoEffect, FitInTurn, left_by, AreDistinct, bool_cases}
 
--- if each call is of one kind or of another, some test of its name says of which
+-- if each call is of one kind or of another, some test of its name says which
 pub choose : (P Q : KeyedCall → Type 0) (xs : List KeyedCall) → AreDistinct xs → ((x : KeyedCall) → Contains xs x → P x ⊎ Q x)
     → (p : ℕ → Bool) × ((x : KeyedCall) → Contains xs x → ((p x.inv ≡ true) × P x) ⊎ ((p x.inv ≡ false) × Q x))
 choose P Q [] distinct each = (λ n. false, λ x x_in. absurd (Contains-nil x x_in))
@@ -41,7 +41,8 @@ choose P Q (x ∷ xs) distinct each =
     still b p y y_in (inl is) = inl (rw (other y y_in) is.0, is.1)
     still b p y y_in (inr is) = inr (rw (other y y_in) is.0, is.1)
 
--- calls in turn without such as have no effect at a key fit there, and leave what they leave
+-- calls, one after another, without some that have no effect at a key, fit there, and leave what
+-- they leave
 pub filter_turn : (key : ℕ) (q : KeyedCall → Bool) (xs : List KeyedCall) (value : Option ℕ)
     → ((x : KeyedCall) → Contains xs x → q x ≡ false → IsNoEffect (x.effect key)) → FitInTurn key value xs
     → FitInTurn key value (filter q xs) × (left_by key value (filter q xs) ≡ left_by key value xs)

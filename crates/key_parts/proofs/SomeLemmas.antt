@@ -1,4 +1,4 @@
--- Some of the calls, and what is left of them: `some_decide`, where the others have no effect.
+-- Some of the calls, and what is left of them: `some_decide`, if the others have no effect.
 use Rattle.key_parts.proofs.Common.{◌≡◌, ℕ, ◌<◌, Bool, true, false, List, map, Option, inl, inr, ⊎_elim, ◌≢◌, ◌⊎◌, ◌↔◌, AllPairs, Contains, filter}
 use Rattle.key_parts.proofs.Common.{All-contains, All-map, AllPairs-filter, AllPairs-map, All-from_contains, Contains-filter, Contains-from_filter}
 use Rattle.key_parts.proofs.Common.{KeyedCall, IsNoEffect, precedes, AreKeyedCalls, HasKeyedOrder, Choice, Keys, left_at}

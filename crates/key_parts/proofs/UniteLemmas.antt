@@ -53,7 +53,7 @@ no_effect_back keys past a o alike key is none = record {
       (alike.leaves key value is)) ∙ none.leaves value;
 }
 
--- at other keys it is alike to the same call, where these are some of the keys with the same taken, or neither has an effect
+-- at other keys it is like the same call, if these are some of the keys with the same taken, or neither has an effect
 alike_moved : (keys others : Keys) (past w : Choice) (a : KeyedCall) (o : Operation) → HasKeysIn others o
     → ((key : ℕ) → others key ≡ true → ((keys key ≡ true) × (w.taken a.inv key ≡ past.taken a.inv key))
     ⊎ (IsNoEffect ((keyed o).effect key) × IsNoEffect ((rest_of w a).effect key)))
@@ -86,7 +86,7 @@ alike_moved keys others past w a o inside each alike = record {
 
 -- ---- both together
 
--- an operation of one set is alike to its call at both, where all that is left of the call at the other is the same operation, or nothing
+-- an operation of one set is like its call at both, if all that is left of the call at the other is the same operation, or nothing
 alike_joined : (keys others both : Keys) (past other w : Choice) (other_left all : List Operation) (a : KeyedCall) (o : Operation)
     → ((key : ℕ) → both key ≡ true → (keys key ≡ true) ⊎ (others key ≡ true)) → ((key : ℕ) → keys key ≡ true → both key ≡ true)
     → IsAt keys past w → IsAt others other w → HasKeysIn keys o → AllPairs (λ x y. x.inv < y.inv) all → Contains all o

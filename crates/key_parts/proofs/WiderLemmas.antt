@@ -99,7 +99,7 @@ formed_at a own e concerns effect accepted = record {
     out : (key : ℕ) → (own == key) ≡ false → IsNoEffect (a.effect key)
     out key is = rw (effect key) (rw is none_none)
 
--- two calls of which the later does not precede the earlier
+-- two calls, and the later does not precede the earlier
 keyed_two : (a b : KeyedCall) → a.inv < b.inv → precedes a a ≡ false → precedes b b ≡ false → AreKeyedCalls (a ∷ b ∷ [])
 keyed_two a b less first second = record {
   distinct = AllPairs-cons (λ x y. x.inv ≢ y.inv) a (b ∷ [])
@@ -325,7 +325,7 @@ after_none = record {
   found = λ key is taken concerned. refl;
 }
 
--- the choice goes on to an order, in which the get was taken before the insert
+-- the choice goes on to an order; in it the get was taken before the insert
 goes_on_early : GoesOn with_none (put ∷ get ∷ [])
 goes_on_early = (
   All-cons (Agrees with_none) put (get ∷ []) (record { accepted = λ key taken. refl; fits = λ key taken. cc })

@@ -42,7 +42,7 @@ AnsweredCallsAreLeft =
     → HasKeysIn keys o → IsNotTakenAt keys past o.inv → IsLeft keys past limit (front ++ keyed o ∷ back) pairs (before ++ o ∷ after)
     → IsLeft keys past limit (front ++ keyed (answered response o) ∷ back) pairs (before ++ answered response o ∷ after)
 
--- a call of these keys that was not among what is left comes to it as it is answered, as a read may
+-- a call of these keys that was not left becomes left when it is answered, as a read may
 abbrev pub AnsweredReadsAreLeft : Type 0
 AnsweredReadsAreLeft =
     (keys : Keys) (past : Choice) (limit : ℕ) (front back : List KeyedCall) (pairs : Contents) (before after : List Operation) (o : Operation)
@@ -51,7 +51,7 @@ AnsweredReadsAreLeft =
     → IsLeft keys past limit (front ++ keyed o ∷ back) pairs (before ++ after)
     → IsLeft keys past limit (front ++ keyed (answered response o) ∷ back) pairs (before ++ answered response o ∷ after)
 
--- a call that was taken is answered: where it agrees, nothing changes
+-- a call that was taken is answered: if the answer agrees, nothing changes
 abbrev pub TakenCallsAreAnswered : Type 0
 TakenCallsAreAnswered =
     (keys : Keys) (past : Choice) (limit : ℕ) (front back : List KeyedCall) (pairs : Contents) (left : List Operation) (o : Operation)

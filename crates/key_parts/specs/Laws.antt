@@ -32,14 +32,14 @@ PartsInAnyOrder =
     → ((part : Part) → Contains parts part → Contains others part) → ((part : Part) → Contains others part → Contains parts part)
     → StandFor held place calls parts → StandFor held place calls others
 
--- the calls have an order exactly where each part has a past that goes on to one at its keys
+-- the calls have an order exactly if each part has a past that goes on to one at its keys
 abbrev pub PartsDecide : Type 0
 PartsDecide =
     (held : ℕ → Option ℕ) (place : ℕ) (calls : List KeyedCall) (parts : List Part) → HaveGrown place calls calls
     → AllPairs (λ a b. a.inv < b.inv) calls → AreOfOnePart parts calls → StandFor held place calls parts
     → HasKeyedOrder held calls ↔ All (SomePastGoesOn calls) parts
 
--- a past that goes on to no order at its keys may go, and so may one that is there twice
+-- a past that goes on to no order at its keys may be dropped; a duplicate may be dropped too
 abbrev pub DeadPastsGo : Type 0
 DeadPastsGo =
     (held : ℕ → Option ℕ) (place : ℕ) (calls : List KeyedCall) (keys : Keys) (pasts left : List Choice) (rest : List Part)
@@ -99,7 +99,7 @@ ReadsComeNext =
     → StandFor held place calls (record { keys = keys; pasts = past ∷ others } ∷ rest)
     → StandFor held place calls (record { keys = keys; pasts = next ∷ others } ∷ rest)
 
--- a read that was answered is taken at keys at rest, where it fits what they hold, even though it is left at others
+-- a read that was answered is taken at keys at rest if it fits what they hold, even if it is left at others
 abbrev pub ReadsAreTakenAtRest : Type 0
 ReadsAreTakenAtRest =
     (held : ℕ → Option ℕ) (place : ℕ) (calls : List KeyedCall) (keys : Keys) (past next : Choice) (others : List Choice) (rest : List Part)
@@ -115,7 +115,7 @@ PartsUnite =
     → AreJoined part other both
     → StandFor held place calls (part ∷ other ∷ rest) ↔ StandFor held place calls (both ∷ rest)
 
--- what is left at some keys has an order exactly where it has one as calls of a map that has these keys alone
+-- what is left at some keys has an order exactly if it has one as calls of a map that has only these keys
 abbrev pub OperationsDecide : Type 0
 OperationsDecide =
     (keys : Keys) (past : Choice) (calls : List KeyedCall) (pairs : Contents) (left : List Operation) → AreKeyedCalls calls
@@ -127,12 +127,11 @@ OperationsDecide =
 abbrev pub PartsMayBeTied : Type 0
 PartsMayBeTied = AnyPartsDecide → ⊥
 
--- if no call that is left was answered, none need come, and a past that goes may be lost
+-- if no call that is left was answered, none need come next, and a past that goes on may be lost
 abbrev pub PastsMayStay : Type 0
 PastsMayStay = PendingCallsMustCome → ⊥
 
--- if a call is left at some keys and at others, it may have to wait for calls at the others, and a
--- past that goes may be lost
+-- if a call is left at some keys and at others, it may have to wait for calls at the others, and a past that goes on may be lost
 abbrev pub TiedCallsMayWait : Type 0
 TiedCallsMayWait = TiedCallsComeNext → ⊥
 
@@ -140,9 +139,8 @@ TiedCallsMayWait = TiedCallsComeNext → ⊥
 abbrev pub EarlyReadsGain : Type 0
 EarlyReadsGain = ReadsAreTakenAtOnce → ⊥
 
--- Of the calls that began before a place, those that may come next at some of the keys are those
--- whose operations may, if these operations have no other keys. So at the other keys nothing is
--- left of such a call.
+-- Take the calls that began before a place. Those that may come next at some of the keys are those whose operations may, if these operations
+-- have no other keys. So at the other keys nothing is left of such a call.
 abbrev pub OperationsMayCome : Type 0
 OperationsMayCome =
     (keys some : Keys) (past : Choice) (limit : ℕ) (calls : List KeyedCall) (pairs : Contents) (left : List Operation)
@@ -155,8 +153,8 @@ OperationsMayCome =
     → (a : KeyedCall) × Contains calls a × IsAlikeAt keys (left_at keys past a) (keyed o) × IsWithin some (left_at keys past a)
     × MayComeNext some past calls a)
 
--- An operation whose call may come next at some of the keys, and is left only at these, leads to
--- what is left after its call: the map after it, and the other operations.
+-- Suppose that an operation's call may come next at some of the keys, and is left only at these. Then the operation leads to what is left after
+-- its call: the map after it, and the other operations.
 abbrev pub OperationsComeNext : Type 0
 OperationsComeNext =
     (keys some : Keys) (past : Choice) (limit : ℕ) (calls : List KeyedCall) (pairs : Contents) (left : List Operation) (a : KeyedCall)

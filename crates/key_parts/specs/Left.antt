@@ -1,4 +1,4 @@
--- All that is known of what is left at some keys, where a past goes with a map and operations.
+-- All that is known of what is left at some keys, if a past has a map and operations.
 use Rattle.std.specs.Prelude.{◌≡◌, ◌⊎◌, ℕ, ◌<◌, true, false, if◌then◌else◌, List, filter, Some, All, AllPairs, Contains}
 use Rattle.events.specs.declared.operation.Operation.{Operation}
 use Rattle.events.specs.declared.operation.Response.{Response}
@@ -53,6 +53,6 @@ pub record AreTogether (keys : Keys) (pairs others both : Contents) (left other_
   pub first : (o : Operation) → Contains left o → Contains all o
   pub second : (o : Operation) → Contains other_left o → Contains all o
 
--- those at some keys alone
+-- those at some keys only
 abbrev pub pairs_at : Keys → Contents → Contents
 pairs_at keys pairs = filter (λ pair. keys pair.0) pairs

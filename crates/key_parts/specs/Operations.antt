@@ -1,4 +1,4 @@
--- What is left at some keys, as calls of a map that has these keys alone.
+-- What is left at some keys, as calls of a map that has only these keys.
 use Rattle.std.specs.Prelude.{◌≡◌, ◌⊎◌, ℕ, ◌==◌, ◌<◌, true, false, not, List, filter, None, AllPairs, Contains}
 use Rattle.events.specs.declared.operation.Operation.{Operation}
 use Rattle.events.specs.Precedence.{precedes}
@@ -25,7 +25,7 @@ pub record AreLeftCalls (keys : Keys) (past : Choice) (calls : List KeyedCall) (
       ⊎ ((o : Operation) × Contains left o × IsAlikeAt keys (left_at keys past a) (keyed o))
   pub back : (o : Operation) → Contains left o → (a : KeyedCall) × Contains calls a × IsAlikeAt keys (left_at keys past a) (keyed o)
 
--- each operation is alike to a call that was not refused, and of which something is left
+-- each operation is like a call that was not refused, and some of that call is left
 abbrev pub AreOfLeftCalls : Keys → Choice → List KeyedCall → List Operation → Type 0
 AreOfLeftCalls keys past calls left =
     (o : Operation) → Contains left o

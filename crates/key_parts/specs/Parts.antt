@@ -1,5 +1,5 @@
--- What is kept of the calls so far: parts, each of some keys with the pasts that these may have. A past is a choice of which the part's keys
--- alone count. So what is known of one part does not depend on what the others have come to.
+-- What is kept of the calls so far: parts, each of some keys with the pasts that these may have. A past is a choice, and only the part's keys
+-- count. So what is known of one part does not depend on what became of the others.
 use Rattle.std.specs.Prelude.{◌≡◌, ◌⊎◌, ℕ, true, false, List, map, All, AllPairs, Contains, Option}
 use Rattle.key_effects.specs.KeyedCalls.{KeyedCall, is_completed}
 use Rattle.key_effects.specs.KeyedOrders.{HasKeyedOrder, AreDistinct}
@@ -8,7 +8,7 @@ use Rattle.key_effects.specs.Choices.{Choice, Choices, rest_of, GoesOn, StandAbo
 use Rattle.key_effects.specs.Cuts.{Keys, IsWithin}
 use Rattle.key_effects.specs.Apart.{only, AreApart, IsRead}
 
--- keys that are kept together, and the pasts that they may have
+-- keys that have their pasts in common, and those pasts
 pub record Part : Type 0 where
   pub keys : Keys
   pub pasts : List Choice
@@ -62,7 +62,7 @@ pub record AgreesAt (keys : Keys) (past : Choice) (a : KeyedCall) : Type 0 where
   pub accepted : (key : ℕ) → keys key ≡ true → past.taken a.inv key ≡ true → a.refused ≡ false
   pub fits : (key : ℕ) → keys key ≡ true → past.taken a.inv key ≡ true → (a.effect key).fits (past.found a.inv key) ≡ true
 
--- at these keys alone, a past goes on to an order of the calls
+-- at these keys, whatever the others hold, a past goes on to an order of the calls
 abbrev pub GoesOnAt : Keys → Choice → List KeyedCall → Type 0
 GoesOnAt keys past calls = All (AgreesAt keys past) calls × HasKeyedOrder past.holds (map (left_at keys past) calls)
 

@@ -22,7 +22,7 @@ pub record IsOpen (a : KeyedCall) : Type 0 where
   pub accepted : a.refused ≡ false
   pub fits : (key : ℕ) (value : Option ℕ) → (a.effect key).fits value ≡ true
 
--- calls by rising invocation, among which are all that a choice took, and of which nothing is left by it
+-- Calls by rising invocation. All calls that a choice took are among them, and nothing of them is left by it.
 pub record AreAllTaken (calls some : List KeyedCall) (w : Choice) : Type 0 where
   pub are_some : AreSomeOf w calls some
   pub rising : AllPairs (λ a b. a.inv < b.inv) some

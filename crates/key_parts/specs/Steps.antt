@@ -21,7 +21,7 @@ pub record MayComeNext (keys : Keys) (past : Choice) (calls : List KeyedCall) (a
   pub fits : (key : ℕ) → keys key ≡ true → ((rest_of past a).effect key).fits (past.holds key) ≡ true
   pub first : (b : KeyedCall) → Contains calls b → precedes b a ≡ true → (b.refused ≡ true) ⊎ NoneIsLeftAt keys past b
 
--- what a past comes to by a call that is taken at these keys: it found what they held, and leaves what it leaves
+-- what becomes of a past when a call is taken at these keys: it found what they held, and leaves what it leaves
 pub record IsAfterCall (keys : Keys) (past : Choice) (a : KeyedCall) (next : Choice) : Type 0 where
   pub taken : (inv key : ℕ) → keys key ≡ true → next.taken inv key ≡ (past.taken inv key || ((inv == a.inv) && a.concerns key))
   pub holds : (key : ℕ) → keys key ≡ true → next.holds key ≡ ((rest_of past a).effect key).leaves (past.holds key)
@@ -34,7 +34,7 @@ abbrev pub AreKnownAt : Keys → ℕ → Choice → List KeyedCall → Type 0
 AreKnownAt keys place past calls =
     (a : KeyedCall) → Contains calls a → a.inv < place → a.refused ≡ false → IsLeftAt keys past a ⊎ NoneIsLeftAt keys past a
 
--- calls that began before a place, and were not refused, are left at these keys alone, or at others alone
+-- calls that began before a place, and were not refused, are left only at these keys, or only at others
 abbrev pub ArePartedBefore : Keys → ℕ → List Part → List KeyedCall → Type 0
 ArePartedBefore keys place parts calls =
     (w : Choice) (b : KeyedCall) → choices_of parts w → Contains calls b → b.inv < place → b.refused ≡ false

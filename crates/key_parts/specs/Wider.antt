@@ -8,13 +8,13 @@ use Rattle.key_effects.specs.Cuts.{Keys}
 use Rattle.key_parts.specs.Parts.{Part, StandFor, SomePastGoesOn}
 use Rattle.key_parts.specs.Steps.{IsLeftAt, MayComeNext, IsAfterCall, AreKnownAt, ArePartedBefore, IsReadAt}
 
--- that calls have an order where each part has a past that goes on, though a call is left at the keys of two parts
+-- that calls have an order if each part has a past that goes on, though a call is left at the keys of two parts
 abbrev pub AnyPartsDecide : Type 0
 AnyPartsDecide =
     (held : ℕ → Option ℕ) (place : ℕ) (calls : List KeyedCall) (parts : List Part) → HaveGrown place calls calls
     → AllPairs (λ a b. a.inv < b.inv) calls → StandFor held place calls parts → All (SomePastGoesOn calls) parts → HasKeyedOrder held calls
 
--- that a past becomes those that it comes to where a call that was not answered is left
+-- that a past may be replaced by those after each call that may come next, if a call that was not answered is left
 abbrev pub PendingCallsMustCome : Type 0
 PendingCallsMustCome =
     (held : ℕ → Option ℕ) (place limit : ℕ) (calls : List KeyedCall) (keys : Keys) (past : Choice) (others nexts : List Choice) (rest : List Part)
@@ -28,7 +28,7 @@ PendingCallsMustCome =
     → StandFor held place calls (record { keys = keys; pasts = past ∷ others } ∷ rest)
     → StandFor held place calls (record { keys = keys; pasts = nexts ++ others } ∷ rest)
 
--- that a past becomes those that it comes to by each call that may come next at some keys, though a call is left at these and at others
+-- that a past may be replaced by those after each call that may come next at some keys, though a call is left at these and at others
 abbrev pub TiedCallsComeNext : Type 0
 TiedCallsComeNext =
     (held : ℕ → Option ℕ) (place limit : ℕ) (calls : List KeyedCall) (keys some : Keys) (past : Choice) (others nexts : List Choice)
@@ -42,7 +42,7 @@ TiedCallsComeNext =
     → StandFor held place calls (record { keys = keys; pasts = past ∷ others } ∷ rest)
     → StandFor held place calls (record { keys = keys; pasts = nexts ++ others } ∷ rest)
 
--- that a read that was answered is taken where it fits what the keys hold, though calls that may change them are left
+-- that a read that was answered is taken if it fits what the keys hold, though calls that may change them are left
 abbrev pub ReadsAreTakenAtOnce : Type 0
 ReadsAreTakenAtOnce =
     (held : ℕ → Option ℕ) (place : ℕ) (calls : List KeyedCall) (keys : Keys) (past next : Choice) (others : List Choice) (rest : List Part)

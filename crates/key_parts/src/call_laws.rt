@@ -1,4 +1,5 @@
-// Laws of what is left at some keys as events come, each the contract of a function that does nothing.
+// Laws of what is left at some keys as events come, each the contract of a function that does
+// nothing.
 ghost use Rattle.key_parts.specs.CallLaws.{AnsweredCallsAreLeft, AnsweredReadsAreLeft, BegunCallsAreLeft, CallsWithoutEffectAreTaken, LeftCallsPart, LeftCallsUnite, NothingIsLeft, OtherCallsAreAnswered, OtherCallsBegin, RefusedCallsAreNotLeft, TakenCallsAreAnswered};
 
 /// Before any event nothing is left.
@@ -11,12 +12,13 @@ pub fn begun_calls_are_left()
     ensures { BegunCallsAreLeft }
 {}
 
-/// A call of other keys changes nothing when it begins. Neither does a read that begins after the limit.
+/// A call of other keys changes nothing when it begins. Neither does a read that begins after the
+/// limit.
 pub fn other_calls_begin()
     ensures { OtherCallsBegin }
 {}
 
-/// An answer leaves the call where it was left.
+/// An answered call is left at the keys where it was left before.
 pub fn answered_calls_are_left()
     ensures { AnsweredCallsAreLeft }
 {}
@@ -31,7 +33,8 @@ pub fn taken_calls_are_answered()
     ensures { TakenCallsAreAnswered }
 {}
 
-/// The answer of a call of other keys changes nothing, unless it refuses a call that was taken at these keys.
+/// The answer of a call of other keys changes nothing, unless it refuses a call that was taken at
+/// these keys.
 pub fn other_calls_are_answered()
     ensures { OtherCallsAreAnswered }
 {}

@@ -22,18 +22,19 @@ pub fn parts_decide()
     ensures { PartsDecide }
 {}
 
-/// A past that goes on to no order may be dropped, and so may a duplicate.
+/// A past that goes on to no order may be dropped. A duplicate may be dropped too.
 pub fn dead_pasts_go()
     ensures { DeadPastsGo }
 {}
 
-/// If an answered call is left at some of a part's keys, a past may be replaced by the pasts after each call that may come next there.
+/// If an answered call is left at some of a part's keys, a past may be replaced by the pasts after
+/// each call that may come next there.
 pub fn calls_come_next()
     ensures { CallsComeNext }
 {}
 
-/// If the first call that ended is left at some of a part's keys, only calls that are left there come next. A call that ties these keys to others
-/// must be barred there.
+/// If the first call that ended is left at some of a part's keys, only calls that are left there
+/// come next. A call that ties these keys to others must be barred there.
 pub fn unbarred_calls_come_next()
     ensures { UnbarredCallsComeNext }
 {}
@@ -58,12 +59,14 @@ pub fn parts_unite()
     ensures { PartsUnite }
 {}
 
-/// What is left at some keys has an order exactly if its operations have one on a map of only these keys.
+/// What is left at some keys has an order exactly if its operations have one on a map of only these
+/// keys.
 pub fn operations_decide()
     ensures { OperationsDecide }
 {}
 
-/// If a call is left at the keys of two parts, each part may have a past that goes on while the calls have no order.
+/// If a call is left at the keys of two parts, each part may have a past that goes on while the
+/// calls have no order.
 pub fn parts_may_be_tied()
     ensures { PartsMayBeTied }
 {}

@@ -49,7 +49,7 @@ no_events start = (
   },
 )
 
--- so a history without order loses it between no events and all of them
+-- a history without order loses its orders between no events and all of them
 pub lost_in_whole : (history : HistoryView) → (IsLinearizableHistory history → ⊥) → IsLostBetween history 0 (length history.events)
 lost_in_whole history none = record {
   apart = some history.events none;
@@ -85,7 +85,7 @@ no_undecided (Yes v) b same n und = n
 no_undecided (Undecided v) b same n und = n
 
 module _ (one_verdict : OneExactVerdict) (prefixes : PrefixesAreHistories) (budget : ℕ) (history : HistoryView) (is : IsHistory history) where
-  -- so do those on as many first events
+  -- two verdicts on the same number of first events do not say different words
   same_word : (A B : Verdict → Type 0) → ((a b : Verdict) → AreSameVerdict a b → A a → B b → ⊥) → (count : ℕ)
       → IsJudged A budget history count → IsJudged B budget history count → ⊥
   same_word A B apart count first second =

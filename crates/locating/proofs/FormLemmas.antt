@@ -38,7 +38,7 @@ may_reply (Remove key) reply is = tt
 may_reply (Scan low high) reply is = scan_reply low high reply is
 may_reply (Replace key expected value) reply is = tt
 
--- so the part of a loss is kept, and its pasts have no order, if something goes wrong on its own
+-- if something goes wrong on its own, the part of a loss and others represent the calls, and its pasts have no order
 pub kept_of_own : (start : Contents) (events : List Event) (process : ℕ) (reply : Reply) (loss : Loss) (part : OwnPart)
     → IsLost start events process reply loss → own_part loss ≡ Some part
     → IsKeptWith start events process reply loss × All IsDead (pasts_of loss.part)

@@ -22,7 +22,7 @@ answer_later events number place is =
     go inv (Some r) later at = omega (arith, later, at)
 
 module _ (budget : ℕ) (history : HistoryView) where
-  -- the events before the one to which bisection comes are judged a yes, unless they are those that it began with
+  -- the events before the one that bisection finds are judged a yes, unless they are those that it began with
   judged_before : {low high : ℕ} {a : Option ℕ} → IsBisected budget history low high a → (event : ℕ) → a ≡ Some event
       → (low ≡ event) ⊎ IsJudged IsYes budget history event
   judged_before (found next) event is = inl (same_Some _ _ is)
@@ -31,7 +31,7 @@ module _ (budget : ℕ) (history : HistoryView) where
       ⊎_elim (λ same. inr (subst (λ (n : ℕ). IsJudged IsYes budget history n) same y)) (λ later. inr later) (judged_before rest event is)
   judged_before (lower wide n rest) event is = judged_before rest event is
 
-  -- so those before an event that the judge's verdicts find are
+  -- the events before one that the judge's verdicts find are judged a yes
   judged_before_found : (event number : ℕ) → IsFoundAt budget history event number → IsJudged IsYes budget history event
   judged_before_found event number here =
       let after = answer_later history.events number event here.wrong.answer in

@@ -19,7 +19,7 @@ use Rattle.monitor.specs.declared.answered.Answered.{Answered}
 use Rattle.monitor.specs.declared.answered.Answered.TheVariants.{Lost, Spent}
 use Rattle.events.specs.declared.fault.HistoryFault.TheVariants as faults
 
--- an event without a fault has its range, and comes in turn
+-- an event without a fault has its range, and is its process's turn
 two_tests : (s m c t : Bool) (x y z : HistoryFault)
     → cond (not s) (Some x) (cond (not m || c) (Some y) (cond t (Some z) None)) ≡ None → (s ≡ true) × (t ≡ false)
 two_tests false m c t x y z h = cc
@@ -78,7 +78,7 @@ fine_call history place process call here few is =
     let space = room history place e here few is in
     rw (le-ltb (high_key call) (low_key call) rises, turn, lt-leb event_limit (length (take place history.events)) space) refl
 
--- nor is an answer
+-- an answer of a history is not refused
 pub fine_answer : (history : HistoryView) (place process : ℕ) (reply : Reply) → slice_get history.events place ≡ Some (Answer process reply)
     → HistoriesHaveFewEvents → IsHistory history → answer_fault (take place history.events) process ≡ None
 fine_answer history place process reply here few is =

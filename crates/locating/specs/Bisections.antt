@@ -23,7 +23,7 @@ abbrev pub IsUndecided : Verdict → Type 0
 IsUndecided (Undecided segment) = ⊤
 IsUndecided other = ⊥
 
--- the exact verdict on the first events of a history, so many of them, has this word
+-- the exact verdict on the first `count` events of a history has this word
 pub record IsJudged (HasWord : Verdict → Type 0) (budget : ℕ) (history : HistoryView) (count : ℕ) : Type 0 where
   pub verdict : Verdict
   pub exact : IsExactVerdict history.start budget (operations (prefix_of history count).events) verdict
@@ -60,7 +60,7 @@ pub record IsRefutedWith (budget : ℕ) (history : HistoryView) (event : Option 
 abbrev pub IsLeftOpen : ℕ → HistoryView → Type 0
 IsLeftOpen budget history = IsJudgedWhole IsUndecided budget history ⊎ IsRefutedWith budget history None
 
--- a history has an order with so many of its first events, and none with so many more
+-- a history has an order with this number of its first events, and none with the other number
 pub record IsLostBetween (history : HistoryView) (low high : ℕ) : Type 0 where
   pub apart : low < high
   pub within : high ≤ length history.events

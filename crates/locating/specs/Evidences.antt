@@ -67,7 +67,7 @@ AreCallsOf history (locations.No event number) evidence = ⊤
 AreCallsOf history (locations.Lost loss) evidence = AreCallsUpTo history loss.event evidence
 AreCallsOf history (locations.Undecided event number) evidence = ⊤
 
--- the few calls have no order from the pairs that they begin with
+-- the calls that are shown have no order from the pairs that they begin with
 abbrev pub Refutes : HistoryView → Evidence → Type 0
 Refutes history (OfEvents few) = IsLinearizable history.start few.calls.items → ⊥
 Refutes history (OfPart part few) = IsRising part.start × (IsLinearizable part.start few.calls.items → ⊥)

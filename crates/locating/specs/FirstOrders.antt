@@ -12,7 +12,7 @@ use Rattle.locating.specs.declared.location.Location.{Location}
 use Rattle.locating.specs.declared.location.OrderedLocation.{OrderedLocation}
 use Rattle.locating.specs.declared.location.Location.TheVariants.{Yes, No, Lost, Undecided}
 
--- the exact verdict on the first events of a history, so many of them, is a yes with this order
+-- the exact verdict on the first `count` events of a history is a yes with this order
 abbrev pub IsJudgedOrder : ℕ → HistoryView → ℕ → List ℕ → Type 0
 IsJudgedOrder budget history count order = IsExactYes history.start budget (operations (prefix_of history count).events) order
 
@@ -20,12 +20,12 @@ IsJudgedOrder budget history count order = IsExactYes history.start budget (oper
 abbrev pub IsBeyondSearch : ℕ → HistoryView → ℕ → Type 0
 IsBeyondSearch budget history count = ReachesMoreThan history.start (operations (prefix_of history count).events) budget
 
--- so many first events have this order: that of the exact verdict on them, unless that verdict is undecided
+-- the first `count` events have this order: that of the exact verdict on them, unless that verdict is undecided
 pub record IsFirstOrder (budget : ℕ) (history : HistoryView) (count : ℕ) (order : List ℕ) : Type 0 where
   pub is_order : IsOrderOfHistory (prefix_of history count) order
   pub chosen : IsJudgedOrder budget history count order ⊎ IsJudged IsUndecided budget history count
 
--- no order of so many first events is found: the exact verdict on them is undecided, and a search of all their calls goes beyond the budget
+-- no order of the first `count` events is found: the exact verdict on them is undecided, and a search of all their calls goes beyond the budget
 pub record HasNoFirstOrder (budget : ℕ) (history : HistoryView) (count : ℕ) : Type 0 where
   pub undecided : IsJudged IsUndecided budget history count
   pub beyond : IsBeyondSearch budget history count
@@ -35,7 +35,7 @@ abbrev pub IsSearched : ℕ → HistoryView → Option (List ℕ) → Type 0
 IsSearched budget history (Some order) = IsOrderOfHistory history order
 IsSearched budget history None = ReachesMoreThan history.start (operations history.events) budget
 
--- what is found of so many first events
+-- what is found of the first `count` events
 abbrev pub IsFirstFound : ℕ → HistoryView → ℕ → Option (List ℕ) → Type 0
 IsFirstFound budget history count (Some order) = IsFirstOrder budget history count order
 IsFirstFound budget history count None = HasNoFirstOrder budget history count
@@ -48,8 +48,8 @@ IsFoundBefore budget history (No event number) found = IsFirstFound budget histo
 IsFoundBefore budget history (Lost loss) found = IsFirstFound budget history loss.event found
 IsFoundBefore budget history (Undecided event number) found = found ≡ None
 
--- what a location says of the history is so, what is found of the events before is so, and an order is found if the judge's verdicts at the
--- budget say where the history goes wrong
+-- What a location says of the history is so. What is found of the events before is so. An order is found if the judge's verdicts at the budget
+-- say where the history goes wrong.
 pub record IsOrdered (budget : ℕ) (history : HistoryView) (location : Location) (found : Option (List ℕ)) : Type 0 where
   pub located : IsLocated budget history location
   pub before : IsFoundBefore budget history location found

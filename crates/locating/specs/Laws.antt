@@ -20,8 +20,8 @@ said_by (No event number) = SaysNo event number
 said_by (Lost loss) = SaysNo loss.event loss.number
 said_by (Undecided event number) = SaysUndecided event
 
--- two do not contradict: two that say no both say the same event of the same call; none says no if another says yes, and none is undecided
--- after the event of a no
+-- Two do not contradict each other. Two that say no say the same event of the same call. None says no if another says yes, and none is
+-- undecided after the event of a no.
 abbrev pub DoNotContradict : Said → Said → Type 0
 DoNotContradict SaysYes (SaysNo event number) = ⊥
 DoNotContradict (SaysNo event number) SaysYes = ⊥

@@ -40,8 +40,8 @@ pub record IsLostAt (budget : ℕ) (history : HistoryView) (loss : Loss) : Type 
   pub wrong : GoesWrongAt history loss.number loss.event
   pub followed : IsAnswerFollowed budget history loss.event (outcomes.Lost loss)
 
--- the judge's verdicts leave it open, the events before this one have an order, it is the answer of this call, and there a search of the
--- monitor goes beyond the budget
+-- The judge's verdicts leave it open, and the events before this one have an order. The event is the answer of this call, and a search of the
+-- monitor goes beyond the budget there.
 pub record IsUndecidedAt (budget : ℕ) (history : HistoryView) (event number : ℕ) : Type 0 where
   pub open_to_judge : IsLeftOpen budget history
   pub before : IsLinearizableHistory (prefix_of history event)

@@ -16,7 +16,8 @@ pub fn history_up_to(alloc: Global, history: &History, event: usize) -> Result<H
     History::with_calls(alloc, start, events)
 }
 
-/// Returns a copy of the history of the first events, so many of them, from the same starting pairs.
+/// Returns a copy of the history that has only its first `length` events, and the same starting
+/// pairs.
 pub(crate) fn first_events(
     alloc: Global,
     history: &History,

@@ -5,10 +5,11 @@ use losses::OwnPart;
 /// What shows that a history goes wrong at an event, or may.
 #[derive(Drop)]
 pub enum Evidence {
-    /// A few calls of the events up to it do, from the pairs that the map holds at the start.
+    /// A few calls of the events up to it show that, from the pairs that the map holds at the
+    /// start.
     OfEvents(Explanation),
-    /// A few of the calls left of a part of the keys do, from the pairs that these keys had before
-    /// them.
+    /// A few of the calls left of a part of the keys show that, from the pairs that these keys had
+    /// before them.
     OfPart(OwnPart, Explanation),
     /// Nothing does.
     Missing,

@@ -4,8 +4,8 @@ ghost use Rattle.locating.specs.Laws.{LocationsAgree, OneLocationWhereJudged, Or
 use judge::one_exact_verdict;
 use prefixes::{answers_have_one_call, one_event_goes_wrong, prefixes_are_histories};
 
-/// The answers of `locate` to one history at any two budgets agree. If one says that it goes wrong,
-/// the other says the same event of the same call, or is undecided at that event or before it.
+/// The answers of `locate` to one history at any two budgets agree. If one names an event, the
+/// other names the same event and call, or is undecided at that event or before it.
 pub fn locations_agree()
     ensures { LocationsAgree }
 {
@@ -13,8 +13,8 @@ pub fn locations_agree()
     answers_have_one_call();
 }
 
-/// If the judge's verdicts on first events at a budget say where a history goes wrong, the answers
-/// of `locate` at that budget have one report.
+/// All answers of `locate` at a budget have one report, if the judge's verdicts on first events at
+/// that budget say where the history goes wrong.
 pub fn one_location_where_judged()
     ensures { OneLocationWhereJudged }
 {
@@ -23,8 +23,8 @@ pub fn one_location_where_judged()
     prefixes_are_histories();
 }
 
-/// If the judge's verdicts on first events at a budget say where a history goes wrong, an order of
-/// the events before is found at that budget.
+/// An order of the events before the one that goes wrong is found at a budget, if the judge's
+/// verdicts on first events at that budget say where that is.
 pub fn orders_are_found_where_judged()
     ensures { OrdersAreFoundWhereJudged }
 {

@@ -2,9 +2,10 @@
 //! show it.
 //!
 //! The event is found by bisection, by the judge's verdicts on first events. If one of these is
-//! undecided, all events pass through the monitor of streams. The few calls are some of those up to
-//! the event, from the pairs at the start. If none of the last calls show it, they are some of those
-//! left of a part of the keys that goes wrong on its own, from the pairs that these keys had before.
+//! undecided, all events pass through the monitor of streams. The calls that show it are a few of
+//! those up to the event, from the pairs at the start. If none of the last calls show it, they are
+//! a few of those left of a part of the keys that goes wrong on its own. Their map is then that of
+//! the pairs that these keys had before.
 //!
 //! The definitions of `prefixes` say when a history goes wrong at an event. Those in `specs/` say
 //! what a location means.

@@ -17,12 +17,12 @@ use judge::{Verdict, judge_alone};
 use map_object::SortedMap;
 use std::alloc::Global;
 
-/// Finds the event at which a history goes wrong, as `locate`, and an order of the events before it,
-/// or of all events if it goes wrong nowhere. The order is that of the judge's verdict on these
+/// Finds the event at which a history goes wrong, as `locate`, and an order of the events before
+/// it, or of all events if it goes wrong nowhere. The order is that of the judge's verdict on these
 /// events. If that verdict is undecided, a search of all their calls looks for an order, and meets
-/// at most `budget` configurations. If the judge's verdicts show the location, there is an order. If
-/// the location is undecided, there is none. Out of memory is an error and decides nothing. It costs
-/// what `locate` costs, a verdict, and a search if that is undecided.
+/// at most `budget` configurations. If the judge's verdicts show the location, there is an order.
+/// If the location is undecided, there is none. Out of memory is an error and decides nothing. It
+/// costs what `locate` costs, a verdict, and a search if that is undecided.
 pub fn locate_ordered(
     alloc: Global,
     history: &History,
@@ -80,7 +80,7 @@ fn first_order(
     }
 }
 
-/// Searches all calls of a history for an order, of which there is one.
+/// Searches all calls of a history for an order. The history has one.
 fn searched_order(alloc: Global, history: &History, budget: u32) -> Result<Option<Vec<u32>>, Memory>
     requires { IsLinearizableHistory history.now }
     ensures { IfOk result (λ found.

@@ -38,7 +38,7 @@ pub record IsOrderAnswer (budget : ℕ) (text : List ℕ) (order : Option (List 
   pub answer_is : answer ≡ answer_of_location location
   pub bytes_are : bytes ≡ line (compact_text (found_data location order))
 
--- so it answers, whether an order is found or not
+-- the answer of the engine, whether an order is found or not
 abbrev pub IsFoundAnswer : ℕ → Bool → List ℕ → Answer → List ℕ → Type 0
 IsFoundAnswer budget is_found text answer bytes = (order : Option (List ℕ)) × (is_found ≡ is_some order) × IsOrderAnswer budget text order answer bytes
 

@@ -1,4 +1,4 @@
--- What goes wrong on its own has no order: the only past of a part that is kept is of calls of the events, and sorted.
+-- What goes wrong on its own has no order: the only past of a part has only calls of the events, and is sorted.
 use Rattle.losses.proofs.Common.{◌≡◌, List, [], ◌∷◌, map, Some, subst, All, Contains, All-contains, All-head, none-some, same_Some, All-from_contains}
 use Rattle.losses.proofs.Common.{Operation, keyed, Keys, ArePasts, IsOwn, first_of, kept_of, Past, covered, pasts_of, IsOwnPartOf}
 use Rattle.losses.proofs.Common.{OwnPartsHaveNoOrder, Put}

@@ -1,4 +1,4 @@
--- What is said of keys may be so, for the pasts of a part that is kept are reached (`kept_pasts_are_reached`).
+-- What is said of keys may be so, since the pasts of a part of the state are reached (`kept_pasts_are_reached`).
 use Rattle.losses.proofs.Common.{◌≡◌, ℕ, ◌≤◌, Bool, true, false, ◌==◌, ◌&&◌, not, cond, List, [], ◌∷◌, map, Option, Some, None, ap, sym, ◌∙◌, subst}
 use Rattle.losses.proofs.Common.{inl, inr, refl, ⊎_elim, arith, ◌⊎◌, is_some, nat_le, All, Any, Contains, list_any, and_from, and_parts, cases_Bool}
 use Rattle.losses.proofs.Common.{eq-eqb, le-leb, not-true, or_left, or_right, All-contains, Contains-append_right, none-some, same_Some}

@@ -7,15 +7,15 @@ use Rattle.map_object.specs.MapObject.{Contents, value_at}
 use Rattle.kept_pasts.specs.Pasts.{KeptPast}
 use Rattle.losses.specs.KeyLosses.{IsOnlyKey, ReportsOther, pairs_in}
 
--- beside what there was, what some item gives
+-- what some item gives was added to what there was
 abbrev pub AreAdded : {X Y : Type 0} → (X → Y → Type 0) → List X → List Y → List Y → Type 0
 AreAdded {X} {Y} gives items old new = (y : Y) → Contains new y ↔ (Contains old y ⊎ Any (λ x. gives x y) items)
 
--- beside what there was, what has a property
+-- what has a property was added to what there was
 abbrev pub AreAddedOf : {Y : Type 0} → (Y → Type 0) → List Y → List Y → Type 0
 AreAddedOf {Y} P old new = (y : Y) → Contains new y ↔ (Contains old y ⊎ P y)
 
--- a key of a range at which two maps differ
+-- a key of a range where two maps differ
 pub record DiffersWithin (m n : Contents) (low high key : ℕ) : Type 0 where
   pub above : low ≤ key
   pub below : key ≤ high
@@ -27,7 +27,7 @@ pub record ListsOther (pairs : Contents) (reply : Reply) (low high key : ℕ) : 
   pub lists : pairs_in reply ≡ Some listed
   pub differs : DiffersWithin listed pairs low high key
 
--- the key of a pair, of a range, at which two maps differ
+-- the key of a pair, of a range, where two maps differ
 abbrev pub GivesDiffering : Contents → Contents → ℕ → ℕ → ℕ × ℕ → ℕ → Type 0
 GivesDiffering m n low high pair key = (pair.0 ≡ key) × DiffersWithin m n low high key
 

@@ -61,7 +61,8 @@ put_in puts past key (Some value) = last_put past key value None puts
 abbrev pub origin_in : List Put → ℕ → KeptPast → Origin
 origin_in puts key past = record { value = value_at past.pairs key; put = put_in puts past key (value_at past.pairs key) }
 
--- what is said of a key: each value that it has in some past, once for each call that put it, and who has the key of the calls that are left
+-- what is said of a key: each value that it has in some past, once for each call that put it, and the invocations of the calls left that have
+-- the key
 pub record IsKeyLoss (pasts : List KeptPast) (puts : List Put) (loss : KeyLoss) : Type 0 where
   pub distinct : AllPairs (λ a b. a ≢ b) loss.from.items
   pub from : (origin : Origin) → Contains loss.from.items origin ↔ Contains (map (origin_in puts loss.key) pasts) origin

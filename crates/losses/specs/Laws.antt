@@ -27,15 +27,15 @@ pub record IsOwnPartOf (events : List Event) (part : OwnPart) : Type 0 where
   pub apart : NonePrecedesItself part.calls
   pub are : All (Contains (operations events)) part.calls
 
--- what goes wrong on its own is so, if the part is kept beside others after the events, and its pasts have no order
+-- what goes wrong on its own is so, if the part and others represent the calls of the events, and its pasts have no order
 abbrev pub OwnPartsHaveNoOrder : Type 0
 OwnPartsHaveNoOrder =
     (start : Contents) (place : ℕ) (events : List Event) (loss : Loss) (part : OwnPart) → IsKeptBeside start place (operations events) loss.part
     → All IsDead (pasts_of loss.part) → own_part loss ≡ Some part → IsOwnPartOf events part
 
--- What is said of a key may be so where calls of these invocations are left. Some of the calls have a legal order that keeps precedence and leaves
--- the value, or none, at the key. Each answered call of the key is in the order, or is left. A call that is said to have put the value is in the
--- order, and puts it.
+-- What is said of a key may be so if calls of these invocations are left. Some of the calls have a legal order that keeps precedence and leaves
+-- the value, or none, at the key. Each answered call of the key is in the order, or is left. A call that is said to have put the value is in
+-- the order, and puts it.
 pub record MayHave (start : Contents) (calls : List Operation) (key : ℕ) (left : List ℕ) (origin : Origin) : Type 0 where
   pub order : List Operation
   pub known : (o : Operation) → Contains order o → Contains calls o
@@ -47,8 +47,8 @@ pub record MayHave (start : Contents) (calls : List Operation) (key : ℕ) (left
   pub writer : (value event : ℕ) → origin.value ≡ Some value → origin.put ≡ Some event
       → (o : Operation) × Contains order o × IsPutOf o (record { key = key; value = value; event = event })
 
--- if a part is kept beside others, and the puts are those of some of the calls, all that is said of the part's keys may be so, with those calls left
--- that have the key; and these are keys of the part
+-- Suppose that a part and others represent the calls, and that the puts are those of some of the calls. Then all that is said of the part's
+-- keys may be so, with those calls left that have the key. These are keys of the part.
 abbrev pub ValuesAreReached : Type 0
 ValuesAreReached =
     (start : Contents) (place : ℕ) (calls : List Operation) (ended : EndedPart) (own : Option Call) (puts : List Put) (losses : List KeyLoss)

@@ -20,7 +20,7 @@ pub(crate) fn spans_of(alloc: Global, pasts: &[Past]) -> Result<Vec<(usize, u64,
     Ok(spans)
 }
 
-/// The same calls, each once.
+/// Those calls, each once.
 fn each_once(mut spans: Vec<(usize, u64, u64)>) -> Vec<(usize, u64, u64)>
     ensures { (span : ℕ × ℕ × ℕ) → Contains result.items span ↔ Contains spans.items span }
 {
@@ -39,7 +39,7 @@ fn note_spans(spans: &mut Vec<(usize, u64, u64)>, calls: &[Operation]) -> Result
     Ok(())
 }
 
-/// The events at which those calls were invoked that have a key, rising.
+/// The events of the invocations of those calls that have a key, rising.
 pub(crate) fn invoked_at(
     alloc: Global,
     spans: &[(usize, u64, u64)],
@@ -66,7 +66,7 @@ fn note_event(invoked: &mut Vec<usize>, span: (usize, u64, u64), key: u64) -> Re
     Ok(())
 }
 
-/// The same events, rising, each once.
+/// Those events, rising, each once.
 fn in_order(mut invoked: Vec<usize>) -> Vec<usize>
     ensures rising { AllPairs (λ a b. a < b) result.items }
     ensures same { (inv : ℕ) → Contains result.items inv ↔ Contains invoked.items inv }

@@ -3,9 +3,9 @@ use crate::puts::Put;
 use events::Call;
 use parts::EndedPart;
 
-/// Where a stream goes wrong, or may: the event, the call that it answers, with its number, the part
-/// of the keys that does not go on, with its pasts, and calls that put values. The part has no past
-/// if no map answers the call so.
+/// Where a stream goes wrong, or may: the event, and the call that it answers, with its number.
+/// Also the part of the keys that does not go on, with its pasts, and calls that put values. The
+/// part has no past if no map answers the call so.
 pub struct Loss {
     pub event: usize,
     pub number: usize,

@@ -15,16 +15,16 @@ use events::{Call, Memory};
 use part_cuts::Past;
 use std::alloc::Global;
 
-/// A value that a key may have had, or none, and the event at which the call was invoked that put it
-/// there, if that is known.
+/// A value that a key may have had, or none. If it is known which call put it there, also the event
+/// of that call's invocation.
 #[derive(Clone, Copy, PartialEq, Eq)]
 pub struct Origin {
     pub value: Option<u64>,
     pub put: Option<usize>,
 }
 
-/// A key, the values that it may have had before the calls that are left, and the events at which
-/// those of these calls were invoked that have the key, rising.
+/// A key, and the values that it may have had before the calls that are left. Also the events of
+/// the invocations of those of these calls that have the key, rising.
 pub struct KeyLoss {
     pub key: u64,
     pub from: Vec<Origin>,
@@ -41,9 +41,9 @@ impl Drop for KeyLoss {
     }
 }
 
-/// The keys of a part that does not go on, rising: that of the call that is answered, if it is no
-/// scan, those of calls of one key that are left in some past, and those at which a scan that is left
-/// reports something else than the past holds.
+/// The keys of a part that does not go on, rising. They are of three kinds: the key of the call
+/// that is answered, if it is no scan; the keys of calls of one key that are left in some past; and
+/// the keys where a scan that is left reports something else than the past holds.
 pub fn key_losses(alloc: Global, loss: &Loss) -> Result<Vec<KeyLoss>, Memory>
     ensures { IfOk result (λ losses. AreKeyLosses (Some loss.now.call) (pasts_of loss.now.part)
         loss.now.puts.items losses.items) }
@@ -51,8 +51,8 @@ pub fn key_losses(alloc: Global, loss: &Loss) -> Result<Vec<KeyLoss>, Memory>
     losses_in(alloc, Some(loss.call), &loss.part.pasts, &loss.puts)
 }
 
-/// What is said of the keys that are named in some pasts, and of the key of a call, if one is given
-/// that has one, rising.
+/// What is said of the keys that are named in some pasts, rising. If a call is given that has one
+/// key, its key is among them.
 pub(crate) fn losses_in(
     alloc: Global,
     own: Option<Call>,
@@ -106,9 +106,9 @@ fn loss_of(
     Ok(KeyLoss { key, from, invoked })
 }
 
-/// What is said of the keys of a part may be so, if the part is kept beside others. Each value is left
-/// at its key by a legal order of calls that has all answered calls of the key but those that are
-/// left. The call that put the value is in that order.
+/// What is said of the keys of a part may be so, if the part and others represent the calls of the
+/// stream. Each value is left at its key by a legal order of calls. That order has all answered
+/// calls of the key except those that are left, and the call that put the value.
 pub fn values_are_reached()
     ensures { ValuesAreReached }
 {}

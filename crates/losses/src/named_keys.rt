@@ -11,8 +11,8 @@ use map_object::SortedMap;
 use part_cuts::Past;
 use std::alloc::Global;
 
-/// The keys that are named in some past, and the key of a call, if one is given that has one, rising,
-/// each once.
+/// The keys that are named in some past, and the key of a call, if one is given that has one,
+/// rising, each once.
 pub(crate) fn named_keys(
     alloc: Global,
     own: Option<Call>,
@@ -55,7 +55,7 @@ fn key_of(call: Call) -> Option<u64>
     }
 }
 
-/// The same keys, and those that are named in some past.
+/// Those keys, and the ones that are named in some past.
 fn with_named(alloc: Global, keys: Vec<u64>, pasts: &[Past]) -> Result<Vec<u64>, Memory>
     requires { AllPairs (λ a b. a < b) keys.items }
     ensures rising { IfOk result (λ all. AllPairs (λ a b. a < b) all.items) }
@@ -70,7 +70,7 @@ fn with_named(alloc: Global, keys: Vec<u64>, pasts: &[Past]) -> Result<Vec<u64>,
     Ok(all)
 }
 
-/// The same keys, rising, each once.
+/// Those keys, rising, each once.
 fn in_order(mut keys: Vec<u64>) -> Vec<u64>
     ensures rising { AllPairs (λ a b. a < b) result.items }
     ensures same { (key : ℕ) → Contains result.items key ↔ Contains keys.items key }
@@ -80,7 +80,7 @@ fn in_order(mut keys: Vec<u64>) -> Vec<u64>
     keys
 }
 
-/// Notes the keys that calls name where the keys hold these pairs.
+/// Notes the keys that calls name if the keys hold these pairs.
 fn note_calls(
     alloc: Global,
     keys: &mut Vec<u64>,
@@ -95,7 +95,7 @@ fn note_calls(
     Ok(())
 }
 
-/// Notes those that a call names: its only key, or those at which it reports something else.
+/// Notes those that a call names: its only key, or those where it reports something else.
 fn note_call(
     alloc: Global,
     keys: &mut Vec<u64>,
@@ -116,7 +116,7 @@ fn note_call(
     }
 }
 
-/// Notes those of a range at which a reply lists something else than the map holds.
+/// Notes those of a range where a reply lists something else than the map holds.
 fn note_reply(
     alloc: Global,
     keys: &mut Vec<u64>,
@@ -137,7 +137,7 @@ fn note_reply(
     }
 }
 
-/// Notes those of a range at which two maps differ.
+/// Notes those of a range where two maps differ.
 fn note_differing(
     keys: &mut Vec<u64>,
     map: &SortedMap,
@@ -152,7 +152,7 @@ fn note_differing(
     note_pairs(keys, other.pairs(), map, other, low, high)
 }
 
-/// Notes the keys of pairs at which two maps differ, if they are of a range.
+/// Notes the keys of pairs where two maps differ, if they are of a range.
 fn note_pairs(
     keys: &mut Vec<u64>,
     pairs: &[(u64, u64)],

@@ -32,8 +32,8 @@ impl Model for OwnPart {
     ghost view = { λ p. record { start = p.start.items; calls = p.calls.items; puts = p.puts.items } };
 }
 
-/// What goes wrong on its own if a stream does: the part that does not go on, if it has one past. It
-/// has no order (`own_parts_have_no_order`).
+/// What goes wrong on its own if a stream does: the part that does not go on, if it has one past.
+/// It has no order (`own_parts_have_no_order`).
 pub fn own_part(alloc: Global, loss: &Loss) -> Result<Option<OwnPart>, Memory>
     ensures { IfOk result (λ part. part ≡ own_part loss.now) }
 {
@@ -71,7 +71,7 @@ fn puts_but(alloc: Global, calls: &[Operation], puts: &[Put]) -> Result<Vec<Put>
     Ok(others)
 }
 
-/// The same calls again.
+/// A copy of these calls.
 fn copies_of(alloc: Global, calls: &[Operation]) -> Result<Vec<Operation>, Memory>
     ensures { IfOk result (λ copies. copies.items ≡ calls.now) }
 {
@@ -108,7 +108,7 @@ fn losses_of_few(
     losses_in(alloc, None, &pasts, puts)
 }
 
-/// A past in which some calls are left of these pairs.
+/// A past of these pairs with some calls left.
 fn past_of(alloc: Global, start: &[(u64, u64)], few: &[Operation]) -> Result<Past, Memory>
     ensures values { IfOk result (λ past. (key : ℕ) → value_at past.map key ≡ value_at start.now key) }
     ensures left { IfOk result (λ past. past.calls.items ≡ few.now) }
@@ -120,7 +120,8 @@ fn past_of(alloc: Global, start: &[(u64, u64)], few: &[Operation]) -> Result<Pas
     })
 }
 
-/// What goes wrong on its own has no order: its calls are calls of the stream, by rising invocation.
+/// What goes wrong on its own has no order: its calls are calls of the stream, by rising
+/// invocation.
 pub fn own_parts_have_no_order()
     ensures { OwnPartsHaveNoOrder }
 {}

@@ -28,7 +28,7 @@ fn rises(pairs: &[(u64, u64)]) -> bool
     true
 }
 
-/// The same map, by one insert after another, the first of the pairs last.
+/// A map of these pairs, by one insert after another, the first of the pairs last.
 fn map_of_each(alloc: Global, pairs: &[(u64, u64)]) -> Result<SortedMap, Memory>
     ensures { IfOk result (λ m. (key : ℕ) → value_at m key ≡ value_at pairs.now key) }
 {

@@ -18,7 +18,7 @@ fn answered(call: Call, inv: usize, reply: Reply) -> Operation {
     }
 }
 
-/// A past of these pairs, in which one call is left.
+/// A past of these pairs with one call left.
 fn past(alloc: Global, pairs: &[(u64, u64)], call: Operation) -> Result<Past, Memory> {
     let map = map_of(alloc, pairs)?;
     let mut calls = Vec::new(alloc);
@@ -108,7 +108,8 @@ fn put_that_is_left(rt: HostRuntime) -> Result<(), Memory> {
     Ok(())
 }
 
-// 2 is 7, 3 is 9, 4 is 0 and 9 is 1, and scan 1 8 was answered 2 7, 4 8, 5 3: it differs at 3, 4 and 5
+// 2 is 7, 3 is 9, 4 is 0 and 9 is 1, and scan 1 8 was answered 2 7, 4 8, 5 3: it differs at 3, 4
+// and 5
 #[test]
 fn scan_that_differs(rt: HostRuntime) -> Result<(), Memory> {
     let alloc = rt.alloc();
@@ -143,7 +144,8 @@ fn without_pasts(rt: HostRuntime) -> Result<(), Memory> {
     Ok(())
 }
 
-// the part of the only past has no put of the insert that is left; of none of its calls no key is named
+// the part of the only past has no put of the insert that is left; of none of its calls no key is
+// named
 #[test]
 fn own_part_of_one_past(rt: HostRuntime) -> Result<(), Memory> {
     let alloc = rt.alloc();

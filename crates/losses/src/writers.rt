@@ -27,7 +27,7 @@ pub(crate) fn origins_at(
     origins_in(alloc, pasts, &own, key)
 }
 
-/// The same with the puts of the key.
+/// Where the values come from, with the puts of the key.
 fn origins_in(alloc: Global, pasts: &[Past], own: &[Put], key: u64) -> Result<Vec<Origin>, Memory>
     ensures distinct { IfOk result (λ from. AllPairs (λ a b. a ≢ b) from.items) }
     ensures same { IfOk result (λ from. (origin : From) → Contains from.items origin

@@ -59,7 +59,7 @@ turns_after process reply (e ∷ before) call between waiting turns =
     let (then, later) = turns_later process reply e (before ++ Invoke process call ∷ between) waiting turns in
     turns_after process reply before call between then later
 
--- so if it is open, no event of its process comes after it
+-- if a call is open, no event of its process comes after it
 none_after : (before : List Event) (process : ℕ) (call : Call) (between : List Event) (reply : Reply) (a : Operation)
     → IsWellFormed (before ++ Invoke process call ∷ between) → Contains (operations (before ++ Invoke process call ∷ between)) a
     → a.inv ≡ length before → a.response ≡ None → events_of process between ≡ []

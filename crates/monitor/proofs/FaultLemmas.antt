@@ -37,7 +37,7 @@ module _ (events : List Event) (process : ℕ) (call : Call) (shaped : low_key c
   pub no_fault : has_open_call process events ≡ false → length events < event_limit → invocation_fault events process call ≡ None
   no_fault closed room = rw (le-ltb (high_key call) (low_key call) shaped, closed, lt-leb event_limit (length events) room) refl
 
--- and of an answer
+-- of an answer
 module _ (events : List Event) (process : ℕ) where
   pub idle_answer : has_open_call process events ≡ false → answer_fault events process ≡ Some faults.NotWellFormed
   idle_answer closed = rw closed refl

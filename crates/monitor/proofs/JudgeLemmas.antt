@@ -119,7 +119,7 @@ HasOrder past = IsLinearizable past.pairs past.left
 none_alive : (pasts : List KeptPast) → All IsDead pasts → Any HasOrder pasts → ⊥
 none_alive pasts dead h = All-contains IsDead pasts h.1 dead (h.0, h.2, h.3) h.4
 
--- so there is none if a part has only dead pasts
+-- if a part has only dead pasts, there is no order
 pub none_with_part : KeptPartsDecide → (start : Contents) (events : List Event) (place : ℕ) (part : EndedPart) → IsRising start
     → IsKeptBeside start place (operations events) part → All IsDead (pasts_of part) → IsLinearizable start (operations events) → ⊥
 none_with_part decide start events place part rising beside dead has =
@@ -127,7 +127,7 @@ none_with_part decide start events place part rising beside dead has =
     none_alive (pasts_of part) dead
     (All-head GoesOn own beside.others ((decide start events place (own ∷ beside.others) rising beside.are_kept).0 has))
 
--- and there is none if no map answers the call so
+-- if no map answers the call so, there is no order
 pub none_without_form : OrdersAreKeyedOrders → (start : Contents) (events : List Event) (process : ℕ) (known : OpenCall) (reply : Reply)
     → IsRising start → IsCallOf events process known → (MayReply known.call reply → ⊥)
     → IsLinearizable start (operations (events ++ Answer process reply ∷ [])) → ⊥

@@ -43,7 +43,7 @@ module _ (start : Contents) (events : List Event) (m : MonitorView) (process : â
       (around_it start events m process known reply h here).front
       ++ is_reported (begun known.call known.event) reply m.parts.now âˆ· (around_it start events m process known reply h here).back
 
-  -- and without it
+  -- the calls without the answer
   abbrev pub calls_before : List Operation
   calls_before =
       (around_it start events m process known reply h here).front

@@ -42,7 +42,7 @@ module _ (events : List Event) (process : ℕ) (call : Call) (formed : IsWellFor
         (invoked_later events process call a is);
   }
 
-  -- and the new one by the next
+  -- the new call is known by the next number
   known_new : (c : OpenCall) → c.event ≡ length events → c.call ≡ call → c.number ≡ length (operations events) → IsCallOf then process c
   known_new c place asks number = record {
     is_open = subst (λ (n : ℕ). IsOpenCall then process n c.call) (sym place)

@@ -15,7 +15,7 @@ at_process process other = grind arith
 
 -- ---- processes with an open call
 
--- if an answer of a process is in turn, its last event is an invocation
+-- if it is a process's turn to answer, its last event is an invocation
 waits_before : (w : Bool) (own : List Event) (p : ℕ) (reply : Reply) → takes_turns w (own ++ Answer p reply ∷ []) ≡ true → ends_waiting w own ≡ true
 waits_before w [] p reply turns = (and_parts w true turns).0
 waits_before w (Invoke q call ∷ own) p reply turns =
@@ -97,7 +97,7 @@ open_or_none p i (e ∷ events) w h = by_test (open_or_none p (suc i) events) (p
         ⊎_elim (λ last. inr (open_first p i e events (eqb-true (process_of e) p same) last.0 last.1)) (λ there. inr (open_later p i e events there))
         (rest (is_invocation e) (subst (λ (l : List Event). ends_waiting w l ≡ true) own h))
 
--- and one that has an open call has it at a place
+-- a process that has an open call has it at a place
 pub open_of : (events : List Event) (process : ℕ) → IsWellFormed events → has_open_call process events ≡ true
     → (place : ℕ) × ((call : Call) × IsOpenCall events process place call)
 open_of events process well h = ⊎_elim

@@ -38,7 +38,7 @@ one_put o p q own other =
 
 -- ---- the puts of calls that were answered
 
--- calls of which the same puts were answered have the same last puts
+-- if the same puts of calls were answered, the last puts are the same
 pub same_puts : (limit : ℕ) (calls others : List Operation) (puts : List Put)
     → ((p : Put) (place : ℕ) → IsAnsweredPut calls p place → IsAnsweredPut others p place)
     → ((p : Put) (place : ℕ) → IsAnsweredPut others p place → IsAnsweredPut calls p place)
@@ -397,7 +397,7 @@ module _ (events : List Event) (open_calls : List (ℕ × OpenCall)) (formed : I
       let none = own.pending a is at in
       subst (Contains (operations events)) (same_operation a.call c.call a.inv c.event a.response None asks at none) is
 
-  -- and a pending call is known
+  -- a pending call is known
   pending_known : (o : Operation) → Contains (operations events) o → o.response ≡ None
       → (process : ℕ) × (c : OpenCall) × (known_call open_calls process ≡ Some c) × (begun c.call c.event ≡ o)
   pending_known o o_is none =

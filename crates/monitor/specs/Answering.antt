@@ -14,7 +14,7 @@ use Rattle.monitor.specs.declared.answering.Judged.{Judged}
 use Rattle.monitor.specs.declared.answering.Judged.TheVariants.{Going, Lost, Spent}
 use Rattle.monitor.specs.declared.open_calls.OpenCall.{OpenCall}
 
--- parts are kept for calls of which an open one is pending
+-- parts represent calls, and an open one of these is pending
 pub record IsPendingIn (known : OpenCall) (parts : PartsView) : Type 0 where
   pub start : Contents
   pub front : List Operation
@@ -27,7 +27,7 @@ IsLostPart start place calls call reply part =
     ((MayReply call reply → ⊥) × (part.pasts.items ≡ []))
     ⊎ (MayReply call reply × IsKeptBeside start place calls part × All IsDead (pasts_of part))
 
--- what the parts make of an answer, with which the calls are these
+-- what the parts make of an answer, and the calls with it
 abbrev pub AreAnswered : Contents → ℕ → PartsView → List Operation → Call → Reply → Judged → Type 0
 AreAnswered start budget old calls call reply (Going next) = IsStateOf start calls next × IsCounted old next × All GoesOn (kept_parts next)
 AreAnswered start budget old calls call reply (Lost part) = IsLostPart start (suc old.now) calls call reply part

@@ -27,7 +27,7 @@ answer_fault events process =
     else if nat_le event_limit (length events) then Some faults.TooMany
     else None
 
--- what an error shows of an event: nothing where memory ran out
+-- what an error shows of an event: nothing if memory ran out
 abbrev pub shown : FollowFault → Option FollowFault
 shown faults.Memory = None
 shown fault = Some fault

@@ -1,4 +1,4 @@
--- Where a monitor stands after some events, which are kept nowhere.
+-- What a monitor knows after some events, which it does not store.
 use Rattle.std.specs.Prelude.{◌≡◌, ℕ, ◌≤◌, List, length, Some, None, All, Contains, slice_get}
 use Rattle.events.specs.declared.event.Call.{Call}
 use Rattle.events.specs.declared.event.Event.{Event}
@@ -25,8 +25,8 @@ pub record IsCallOf (events : List Event) (process : ℕ) (c : OpenCall) : Type 
   pub is_open : IsOpenCall events process c.event c.call
   pub numbered : (a : Operation) → Contains (operations events) a → a.inv ≡ c.event → slice_get (operations events) c.number ≡ Some a
 
--- A monitor has taken these events, from these pairs: what it keeps is kept for their calls, it knows the open calls, the last puts that were
--- answered, and how many calls there were; and so far the events have an order.
+-- A monitor has taken these events, from these pairs. Its parts represent their calls. It knows the open calls, the last puts that were
+-- answered, and how many calls there were. So far the events have an order.
 pub record IsFollowing (start : Contents) (events : List Event) (m : MonitorView) : Type 0 where
   pub state : IsStateOf start (operations events) m.parts
   pub rising : IsRising start

@@ -21,7 +21,8 @@ use Rattle.losses.specs.declared.lost_keys.KeyLoss.{KeyLoss}
 use Rattle.monitor.specs.Calls.{MayReply}
 use Rattle.monitor.specs.Outcomes.{IsLost}
 
--- if some map answers the call so, all that is said of keys is of keys of the lost part, and may be so with those calls left that have the key
+-- Suppose that some map answers the call so. Then all keys that are named are keys of the lost part, and what is said of them may be so, with
+-- those calls left that have the key.
 abbrev pub LossesAreReached : Type 0
 LossesAreReached =
     (start : Contents) (events : List Event) (process : ℕ) (reply : Reply) (loss : Loss) (losses : List KeyLoss) → IsRising start
@@ -38,8 +39,8 @@ read_after events key reply = record {
       (record { res = suc (length events); reply = reply });
 }
 
--- The pasts of a part that is kept after some events miss nothing. If a get of one of its keys may be given a reply then, it may be given it after
--- the calls that are left in one of these pasts.
+-- The pasts of a part of the monitor after some events miss nothing. If a get of one of its keys may be given a reply then, it may be given it
+-- after the calls that are left in one of these pasts.
 abbrev pub NothingIsMissed : Type 0
 NothingIsMissed =
     (start : Contents) (events : List Event) (part : KeptPart) (rest : List KeptPart) (process key : ℕ) (reply : Reply) → IsRising start

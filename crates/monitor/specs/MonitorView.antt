@@ -7,7 +7,7 @@ use Rattle.losses.specs.declared.puts.Put.{Put}
 use Rattle.parts.specs.Views.{PartsView}
 use Rattle.monitor.specs.declared.open_calls.OpenCall.{OpenCall}
 
--- what is kept of the calls, the open calls by process, the last puts that were answered, and how many calls there were
+-- the parts of the monitor, the open calls by process, the last puts that were answered, and how many calls there were
 pub record MonitorView : Type 0 where
   pub parts : PartsView
   pub open_calls : List (ℕ × OpenCall)

@@ -1,4 +1,4 @@
--- What becomes of a monitor where a call is answered.
+-- What becomes of a monitor when a call is answered.
 use Rattle.std.specs.Prelude.{◌≡◌, ◌≢◌, ℕ, suc, false, List, [], ◌∷◌, ◌++◌, length, All, None, Some}
 use Rattle.events.specs.declared.event.Event.{Event}
 use Rattle.events.specs.declared.event.Event.TheVariants.{Answer}
@@ -31,14 +31,14 @@ pub record IsOfAnswer (events : List Event) (process : ℕ) (loss : Loss) : Type
   pub call_is : loss.call ≡ known.call
   pub answers : (reply : Reply) (more : List Event) → IsAnswerOf (events ++ Answer process reply ∷ more) loss.number loss.event
 
--- a part is kept with the answer beside others
+-- a part with the answer and other parts represent the calls
 abbrev pub IsKeptWith : Contents → List Event → ℕ → Reply → Loss → Type 0
 IsKeptWith start events process reply loss =
     IsKeptBeside start (suc (length events)) (operations (events ++ Answer process reply ∷ [])) loss.part
 
--- The events go wrong at this answer, whatever follows. There is no past if no map answers the call so. Else the part that is kept with the answer
--- has no past with an order, and its pasts are those kept before with the answer in each (`IsEndedBy`): at least one if the call is a read. Each past
--- is reached: some of the calls have a legal order that leaves the values that it has at the part's keys.
+-- The events go wrong at this answer, whatever follows. There is no past if no map answers the call so. Else the part with the answer has no
+-- past with an order, and its pasts are those from before with the answer in each (`IsEndedBy`). If the call is a read, there is at least one.
+-- Each past is reached: some of the calls have a legal order that leaves the values that it has at the part's keys.
 pub record IsLost (start : Contents) (events : List Event) (process : ℕ) (reply : Reply) (loss : Loss) : Type 0 where
   pub accepted : answer_fault events process ≡ None
   pub of_answer : IsOfAnswer events process loss
@@ -61,7 +61,7 @@ pub record IsSpent (start : Contents) (events : List Event) (process : ℕ) (rep
   pub part : IsKeptWith start events process reply loss × AreDoubtful budget (pasts_of loss.part)
   pub puts : ArePutsOf (operations (events ++ Answer process reply ∷ [])) loss.puts.items
 
--- what an answer comes to
+-- what an answer makes of the monitor
 abbrev pub IsAnswered : Contents → List Event → MonitorView → ℕ → Reply → ℕ → Answered → Type 0
 IsAnswered start events m process reply budget (Going next) =
     (answer_fault events process ≡ None) × IsFollowing start (events ++ Answer process reply ∷ []) next

@@ -11,8 +11,8 @@ use losses::{Put, put_of, put_with};
 use std::alloc::Global;
 use std::collections::BTreeMap;
 
-/// Notes what a call puts that is answered so, if it puts a value: the last one. If there is no room,
-/// the first one goes.
+/// Notes the put of a call with its answer as the last one, if the call puts a value. If there is no
+/// room, the first put is dropped.
 pub(crate) fn note_answer(
     recent: &mut HeapCircularBuffer<Put>,
     call: &Call,

@@ -1,5 +1,5 @@
-//! Follows a stream of events of any length: after each it is known whether the events so far have
-//! an order. Nothing is kept of calls that later events can't concern.
+//! Follows a stream of events of any length. After each event it is known whether the events so far
+//! have an order. Nothing is saved of calls that later events cannot concern.
 #![tactic(auto)]
 
 mod all_puts;

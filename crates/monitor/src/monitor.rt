@@ -33,8 +33,8 @@ const PUT_LIMIT: usize = 1 << 16;
 /// How many events are taken at most.
 const EVENT_LIMIT: usize = (1 << 44) - 2;
 
-/// Follows a stream of events: what is kept of the calls so far, the open calls by process, the last
-/// puts that were answered, and how many calls there were.
+/// Follows a stream of events. It has what is left of the calls so far, the open calls by process,
+/// the last puts that were answered, and how many calls there were.
 pub struct Monitor {
     parts: Parts,
     open_calls: BTreeMap<u16, OpenCall>,
@@ -100,9 +100,9 @@ impl Monitor {
         self.calls
     }
 
-    /// Takes an invocation. The fault is the first of these, and the monitor is lost then: `Shape`
-    /// if the call's first key is above its last, `NotWellFormed` if the process has an open call,
-    /// `TooMany` after 2^44 - 2 events, or `Memory`.
+    /// Takes an invocation. The fault is the first of these: `Shape` if the call's first key is
+    /// above its last, `NotWellFormed` if the process has an open call, `TooMany` after 2^44 - 2
+    /// events, or `Memory`. After a fault the monitor is lost.
     pub fn invoke(self, alloc: Global, process: u16, call: Call) -> Result<Monitor, FollowFault>
         ensures follows { (start : Contents) (events : List Event) → IsFollowing start events self
             → IfOk result (IsFollowing start (events ++ Invoke process call ∷ [])) }

@@ -1,4 +1,4 @@
-// Streams of few events, worked by hand.
+// Streams of a few events, worked by hand.
 use crate::answered::Answered;
 use crate::fault::FollowFault;
 use crate::monitor::Monitor;

@@ -38,8 +38,8 @@ pub record IsOrderedText (budget : ℕ) (text shown : List ℕ) : Type 0 where
   pub is_printed : IsOrderAnswer budget text order answer printed
   pub shown_is : shown ≡ shown_order order printed
 
--- what `page` answers to the text at the budget: the answer of `judge`, with the page of the text and
--- of what `judge`, `locate` and `explain` print of it, and `locate --order` if that has an order
+-- What `page` answers to the text at the budget: the answer of `judge`, and the page of the text. The page has what `judge`, `locate` and
+-- `explain` print of the text, and what `locate --order` prints if that has an order.
 pub record IsPageAnswer (budget : ℕ) (text : List ℕ) (answer : Answer) (bytes : List ℕ) : Type 0 where
   pub judged : List ℕ
   pub located : List ℕ

@@ -53,8 +53,9 @@ pub fn run_page<S: Source, O: Sink, F: Sink, H: Sink, J: Judge>(
     run_text(alloc, source, output, faults, hints, MAX_TEXT, answer)
 }
 
-/// Returns the page that shows the history that the text spells, with what `judge`, `locate` and
-/// `explain` print of it at the judge's budget, and `locate --order` if that has an order.
+/// Returns the page of the history that the text spells. It has what `judge`, `locate` and
+/// `explain` print of the text at the judge's budget. It also has what `locate --order` prints, if
+/// that has an order.
 pub fn page_outcome<J: Judge>(alloc: Global, text: &[u8], judge: &J) -> RunOutcome
     requires { J.ready judge.now }
     ensures { IsTextOutcome (IsPageAnswer (J.budget judge.now)) IsHistoryRefusal (Some text.now)
@@ -97,7 +98,7 @@ fn located_page(alloc: Global, verdict: JudgedText<'_>) -> RunOutcome
     outcome
 }
 
-/// Returns the page of a text that was judged, and of which `locate` prints this.
+/// Returns the page of a text that was judged, with what `locate` prints of it.
 fn explained_page(alloc: Global, verdict: JudgedText<'_>, located: &str) -> RunOutcome
     requires budget { (1 ≤ verdict.budget) × (verdict.budget ≤ budget_limit) }
     requires judged { IsJudgeAnswer verdict.budget verdict.text.now verdict.answer
@@ -113,7 +114,7 @@ fn explained_page(alloc: Global, verdict: JudgedText<'_>, located: &str) -> RunO
     outcome
 }
 
-/// Returns the page of a text that was judged, and of which `locate` and `explain` print these.
+/// Returns the page of a text that was judged, with what `locate` and `explain` print of it.
 fn ordered_page(
     alloc: Global,
     verdict: JudgedText<'_>,
@@ -145,7 +146,7 @@ fn shown_order(is_found: bool, line: &str) -> &str
     if is_found { line } else { "" }
 }
 
-/// Returns the page of a text that was judged, and of which `locate` and `explain` print these, with
+/// Returns the page of a text that was judged, with what `locate` and `explain` print of it, and
 /// what is shown of an order.
 fn page_with(
     alloc: Global,

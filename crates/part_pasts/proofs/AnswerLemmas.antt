@@ -10,7 +10,7 @@ use Rattle.part_pasts.proofs.Common.{found_at, Found, IsAnswerOf}
 use Rattle.std.proofs.Common.{eq-eqb}
 use Rattle.list_laws.proofs.Places.{parts_at}
 
--- a past, as it is kept
+-- a past, as a past of the laws
 abbrev kept : Contents → List Operation → List Found → KeptPast
 kept pairs calls found = record { pairs = pairs; left = calls; found = map found_at found }
 
@@ -124,7 +124,7 @@ has_found pairs calls found o operation response none answer known =
     ))
     known
 
--- if the answer fits that, it is kept no more
+-- if the answer fits what the call found, that is dropped
 pub found_as_answered : (pairs : Contents) (calls : List Operation) (found others : List Found) (o operation : Operation) (response : Response)
     (f : Found) → Contains found f → f.inv ≡ operation.inv → f.key ≡ low_key operation.call
     → is_refused operation.response ≡ false → (effect_at operation.call operation.response (low_key operation.call)).fits f.value ≡ true

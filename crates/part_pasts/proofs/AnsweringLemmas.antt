@@ -1,4 +1,4 @@
--- Pasts are answered in turn, and searched in turn.
+-- Pasts are answered one after another, and searched one after another.
 use Rattle.part_pasts.proofs.Common.{◌≡◌, ℕ, ◌<◌, true, List, [], ◌∷◌, ◌++◌, length, get_or, map, append-nil, arith, refl, sym, ap, ◌∙◌, subst, All}
 use Rattle.part_pasts.proofs.Common.{AllPairs, Any, Contains, remove, append_assoc, All-nil, All-cons, All-head, All-tail, All-append, All-front}
 use Rattle.part_pasts.proofs.Common.{All-back, Operation, Response, may_change, NonePrecedesItself, Contents, IsAnswer, Kept, Order, NoOrder, Spent}

@@ -81,7 +81,7 @@ module _ (first past : Past) (none called found differing busy : List Range) (ca
       (λ of_past. inr (inl (inr (inr (of_past.0, of_past.1)))))
       ((other key).0 holds)
 
--- the pasts so far are busy there alone
+-- the pasts so far are busy only there
 pub record AreBusySoFar (pasts done : List Past) (busy : List Range) : Type 0 where
   pub each : (first : Past) (more : List Past) → pasts ≡ first ∷ more → All (λ (past : Past). IsBusyFor first past (covered busy)) done
   pub only : (key : ℕ) → covered busy key ≡ true → Any (IsOfKey key) pasts

@@ -7,7 +7,7 @@ use Rattle.std.proofs.Common.{eq-eqb, eqb-true}
 use Rattle.events.specs.declared.event.Reply.{Reply}
 use Rattle.quiet_cuts.specs.Values.{MayBeAnswered}
 
--- a value or none may be answered so exactly where it passes
+-- a value or none may be answered so exactly if it passes
 answers : (call : Call) (reply : Reply) (value : Option ℕ)
     → ((reply ≡ replies.Refused) ⊎ TellsOf call (value_reply value) reply) ↔ (is_answer call reply value ≡ true)
 answers call replies.None None = (λ h. refl, λ h. inr refl)

@@ -19,7 +19,7 @@ module _ (ranges : List Range) where
   pub was_none : (reads : List OpenRead) (first : Option ℕ) → first ≡ None → IsFirst ranges reads first → HaveNoRead ranges reads
   was_none reads first is had = subst (λ (o : Option ℕ). IsFirst ranges reads o) is had
 
-  -- an earlier moment, and any where there are no reads
+  -- an earlier moment, and any moment if there are no reads
   pub begun_earlier : (reads : List OpenRead) (moment earlier : ℕ) → AreBegunAfter ranges reads moment → earlier ≤ moment
       → AreBegunAfter ranges reads earlier
   begun_earlier reads moment earlier after less read there before = after read there (omega arith)

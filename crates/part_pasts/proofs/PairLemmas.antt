@@ -1,4 +1,4 @@
--- Pairs that come to a map one after another (`more_pairs`), as values at keys.
+-- Pairs that are added to a map one after another (`more_pairs`), as values at keys.
 use Rattle.part_pasts.proofs.Common.{◌≡◌, ℕ, ◌+◌, ◌<◌, ◌==◌, Bool, true, false, cond, [], ◌∷◌, ◌++◌, length, get_or, take, Option, None, Some, refl}
 use Rattle.part_pasts.proofs.Common.{sym, ap, ◌∙◌, subst, ⊎_elim, arith, if◌then◌else◌, All, cases_Bool, eqb-true, eqb-false, ne_eqb, take_more}
 use Rattle.part_pasts.proofs.Common.{get_or-take, get_or_default, length-take, none-some, All-head, All-tail, Contents, IsRising, value_at, or_else}
@@ -56,7 +56,7 @@ else_moved : (b : Bool) (v : Option ℕ) (x y : Option ℕ) (w : ℕ) → v ≡ 
 else_moved true v x y w e = refl
 else_moved false v x y w e = e
 
--- one pair more came to a map
+-- one pair more was added to a map
 pub more_pairs : (pairs start old new : Contents) (i : ℕ) (e : ℕ × ℕ) → IsRising pairs → i < length pairs
     → ((other : ℕ) → packed_at new other ≡ (if other == (get_or pairs i e).0 then Some (get_or pairs i e).1 else packed_at old other))
     → ((key : ℕ) → value_at old key ≡ or_else (value_at (take i pairs) key) (value_at start key))

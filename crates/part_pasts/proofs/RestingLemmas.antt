@@ -25,9 +25,9 @@ some_rise test pairs out i list rising past so_far same =
     subst (λ (m : Contents). IsRising m) (sym (same ∙ (so_far ∙ ap (filter test) (take_all i pairs past))))
     (AllPairs-filter (λ (a : ℕ × ℕ) (b : ℕ × ℕ). a.0 < b.0) test pairs rising)
 
--- ---- the keys of pairs that other pairs have not
+-- ---- the keys of pairs that are not among other pairs
 
--- whether a pair is of a key, and others have not the same value there
+-- whether a pair is of a key, and others do not have that value there
 abbrev pub differs_at : Contents → ℕ → ℕ × ℕ → Bool
 differs_at others key pair = (pair.0 == key) && not (is_same_value (value_at others pair.0) (Some pair.1))
 
@@ -43,7 +43,7 @@ same_is None (Some y) same = absurd (none-some y same)
 same_is (Some x) None same = absurd (none-some x (sym same))
 same_is (Some x) (Some y) same = eq-eqb x y (same_Some x y same)
 
--- a value that others have not
+-- a value that others do not have
 abbrev pub Differs : Contents → Contents → ℕ → Type 0
 Differs pairs others key = (value : ℕ) × (value_at pairs key ≡ Some value) × (value_at others key ≡ Some value → ⊥)
 
@@ -84,7 +84,7 @@ differs_from ((k, v) ∷ pairs) others key value at differ =
         absurd (differ (subst (λ (n : ℕ). value_at others n ≡ Some v) (eqb-true k key here) (is_same (value_at others k) (Some v) is) ∙ h))
     by_test false same here is h later = later h differ
 
--- the keys of all pairs that others have not
+-- the keys of all pairs that others do not have
 pub differing_end : (pairs list others : Contents) (i : ℕ) (old ranges : List Range) → list ≡ pairs → IsRising pairs → length list ≤ i
     → ((key : ℕ) → covered ranges key ≡ (covered old key || list_any (differs_at others key) (take i list)))
     → HasDiffering pairs others old ranges

@@ -84,7 +84,7 @@ pasts_apart united part own same beside =
 
 -- ---- the loop over the parts
 
--- the first parts have come to the keys at rest; those that are left may come
+-- the first parts were united with the keys at rest; those that are left may be
 pub record AreUniting (met : List Part) (united : United) (left : List Part) (first : United) : Type 0 where
   pub all : (last : United) → UniteAll united left last → UniteAll first met last
   pub shaped : AreShaped united.pasts.items
@@ -191,7 +191,7 @@ rows_more pasts others all next i past within here row so =
     (subst (λ (l : List Past). AreAllPairs (take i pasts ++ past ∷ []) others l) (sym row.is)
     (rows_push (take i pasts) others all row.row past so row.each))
 
--- ---- a part that comes to others
+-- ---- a part that is united with others
 
 pub pasts_apart_at : (united : United) (part : Part) (own pasts others : List Past) → pasts ≡ united.pasts.items → others ≡ own
     → map kept_of own ≡ (kept_part part).pasts → AreBesidePasts part (map kept_of united.pasts.items)

@@ -152,7 +152,7 @@ pair_of (past ∷ pasts) own all (front, back, same, row, more) one one_in = ⊎
 
 -- ---- parts that come one after another
 
--- parts came to a part in turn
+-- parts were united with a part, one after another
 abbrev pub UniteAll : United → List Part → United → Type 0
 UniteAll united [] last = last ≡ united
 UniteAll united (part ∷ parts) last = (next : United) × IsTogetherWith united part next × UniteAll next parts last

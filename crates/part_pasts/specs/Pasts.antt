@@ -18,13 +18,13 @@ use Rattle.part_pasts.specs.declared.pasts.GoneOn.TheVariants.{Alive, Dead, Doub
 abbrev pub IsDead : KeptPast → Type 0
 IsDead past = IsLinearizable past.pairs past.left → ⊥
 
--- pasts that go on: one with an order and those after it, where those before it are dead; or all are dead; or those before one are, and the
--- search of that one is beyond the budget
+-- these are the pasts from one on, and those before it are dead
 pub record AreAlive (pasts left : List KeptPast) : Type 0 where
   pub front : List KeptPast
   pub dead : All IsDead front
   pub parts : pasts ≡ front ++ left
 
+-- the pasts before one are dead, and the search of that one is beyond the budget
 pub record AreDoubtful (budget : ℕ) (pasts : List KeptPast) : Type 0 where
   pub front : List KeptPast
   pub past : KeptPast
@@ -33,6 +33,7 @@ pub record AreDoubtful (budget : ℕ) (pasts : List KeptPast) : Type 0 where
   pub parts : pasts ≡ front ++ past ∷ back
   pub reaches : ReachesMoreThan past.pairs past.left budget
 
+-- what becomes of pasts: the first with an order and those after it; or all of them, which are dead; or all, if a search is beyond the budget
 abbrev pub AreGoneOn : ℕ → List KeptPast → GoneOn → Type 0
 AreGoneOn budget pasts (Alive first found others) = AreAlive pasts (past_of first found.items ∷ map kept_of others.items)
 AreGoneOn budget pasts (Dead again) = (map kept_of again.items ≡ pasts) × All IsDead pasts

@@ -1,4 +1,4 @@
--- Which keys come to rest.
+-- Which keys are at rest.
 use Rattle.std.specs.Prelude.{◌≡◌, ◌⊎◌, ◌↔◌, ℕ, ◌==◌, ◌&&◌, ◌||◌, true, false, not, nat_le, List, [], ◌∷◌, Some, All, Any}
 use Rattle.std.specs.List.{AllZip, list_any}
 use Rattle.events.specs.declared.operation.Operation.{Operation}
@@ -12,7 +12,7 @@ use Rattle.part_cuts.specs.declared.past.Past.{Past}
 use Rattle.part_pasts.specs.Ranges.{covered}
 use Rattle.part_pasts.specs.declared.ranges.Range.{Range}
 
--- busy are the keys of calls that are left, those at which something was found, and those at which a past differs from the first one
+-- busy keys are those of calls that are left, those where something was found, and those where a past differs from the first one
 pub record IsBusyFor (first past : Past) (busy : Keys) : Type 0 where
   pub calls : All (λ o. (key : ℕ) → concerns_key o.call key ≡ true → busy key ≡ true) past.calls.items
   pub found : All (λ f. busy f.key ≡ true) past.found.items
@@ -35,7 +35,7 @@ pub record AreBusy (pasts : List Past) (busy : Keys) : Type 0 where
 abbrev pub AreResting : Keys → Contents → Contents → Type 0
 AreResting busy pairs left = left ≡ pairs_at (λ key. not (busy key)) pairs
 
--- a past with the pairs of busy keys alone
+-- a past with the pairs of busy keys only
 pub record IsOnly (busy : Keys) (past only : Past) : Type 0 where
   pub pairs : only.map ≡ pairs_at busy past.map
   pub calls : only.calls.items ≡ past.calls.items
@@ -44,7 +44,7 @@ pub record IsOnly (busy : Keys) (past only : Past) : Type 0 where
 abbrev pub AreOnly : Keys → List Past → List Past → Type 0
 AreOnly busy pasts left = AllZip (IsOnly busy) pasts left
 
--- the keys of calls, of what was found, and of pairs that other pairs have not, in further ranges
+-- the keys of calls, of what was found, and of pairs that are not among other pairs, in further ranges
 abbrev pub HasCalls : List Operation → List Range → List Range → Type 0
 HasCalls calls old new =
     (key : ℕ) → covered new key ≡ (covered old key || list_any (λ o. nat_le (low_key o.call) key && nat_le key (high_key o.call)) calls)

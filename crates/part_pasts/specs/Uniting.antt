@@ -36,19 +36,19 @@ pub record AreOne (past other one : Past) : Type 0 where
   pub left : (o : Operation) → Contains one.calls.items o ↔ (Contains past.calls.items o ⊎ Contains other.calls.items o)
   pub found : one.found.items ≡ past.found.items ++ other.found.items
 
--- a past with each of others came to pasts
+-- a past with each of others was added to pasts
 pub record HasRow (past : Past) (others old new : List Past) : Type 0 where
   pub row : List Past
   pub is : new ≡ old ++ row
   pub each : AllZip (AreOne past) others row
 
--- all pairs of two lists of them, in turn
+-- all pairs of two lists of pasts, one after another
 abbrev pub AreAllPairs : List Past → List Past → List Past → Type 0
 AreAllPairs [] others all = all ≡ []
 AreAllPairs (past ∷ pasts) others all =
     (front : List Past) × (back : List Past) × (all ≡ front ++ back) × AllZip (AreOne past) others front × AreAllPairs pasts others back
 
--- a part came to others
+-- a part was united with others
 pub record IsTogetherWith (united : United) (part : Part) (next : United) : Type 0 where
   pub keys : (key : ℕ) → covered next.ranges.items key ≡ (covered united.ranges.items key || covered part.ranges.items key)
   pub own : List Past
@@ -59,14 +59,15 @@ pub record IsTogetherWith (united : United) (part : Part) (next : United) : Type
 abbrev pub IsIn : List Part → ℕ → Type 0
 IsIn parts key = Any (λ part. covered part.ranges.items key ≡ true) parts
 
--- keys at rest, as they are kept, without those of some ranges
+-- keys at rest, as a part of the laws
 abbrev pub resting : Keys → Contents → KeptPart
 resting keys pairs = record { keys = keys; pasts = at_rest pairs ∷ [] }
 
+-- some keys without others
 abbrev pub outside : Keys → Keys → Keys
 outside keys others key = keys key && not (others key)
 
--- Parts that meet a range and the keys at rest became a part of these keys and pasts, which has all keys of the range and of the parts. All keys
+-- Parts that meet a range and the keys at rest became a part of these keys and pasts. It has all keys of the range and of the parts. All keys
 -- of the range are at rest or in one of these parts.
 pub record Become (low high : ℕ) (old new : Contents) (met : List Part) (ranges : List Range) (pasts : List KeptPast) : Type 0 where
   pub rises : IsRising new

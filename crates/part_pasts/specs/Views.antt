@@ -8,7 +8,7 @@ use Rattle.part_cuts.specs.declared.past.Found.{Found}
 use Rattle.part_pasts.specs.Ranges.{covered}
 use Rattle.part_pasts.specs.declared.part.Part.{Part}
 
--- a past with an order of its calls, as it is kept
+-- a past with an order of its calls, as a past of the laws
 abbrev pub past_of : KeptOrderView → List Found → KeptPast
 past_of order found = record { pairs = order.start; left = order.calls; found = map found_at found }
 

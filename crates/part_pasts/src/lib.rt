@@ -1,5 +1,5 @@
-//! A part of the keys: its ranges, its pasts, the first one with a kept order; what an answer makes of
-//! pasts, how parts become one, which keys come to rest.
+//! A part of the keys: its ranges, and its pasts, the first one with a saved order. Functions say
+//! what an answer makes of pasts, how parts become one, and which keys are at rest.
 #![tactic(auto)]
 
 mod moments;

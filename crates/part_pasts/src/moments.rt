@@ -1,4 +1,4 @@
-// When a part moves on, and to which moment.
+// When a part moves on, and the moment that it moves to.
 ghost use Rattle.std.specs.Prelude.{◌≡◌, IfOk, IfSome, MatchOption};
 ghost use Rattle.part_pasts.specs.Moments.{AreBegunAfter, HaveNoRead};
 
@@ -29,7 +29,8 @@ pub fn is_time(part: &Part) -> bool {
     open == 0 || size >= LEAST_CALLS && size / 3 >= open
 }
 
-/// The moment to which a part may move on, if there is one. No pending read of its keys began before.
+/// The moment that a part may move on to, if there is one. No pending read of its keys began
+/// before.
 pub fn moment_for(
     alloc: Global,
     part: &Part,
@@ -83,8 +84,9 @@ fn first_read(ranges: &[Range], reads: &[OpenRead]) -> Option<usize>
     first
 }
 
-/// The moment for a cut: one after an answer before `hold`, with half of the answers before it. It
-/// is the one at which the fewest open calls may change the map, and the latest of these.
+/// The moment for a cut: one after an answer before `hold`, with half of the answers before it. Of
+/// these moments it has the fewest open calls that may change the map, and it is the latest such
+/// one.
 fn best_moment(alloc: Global, calls: &[Operation], hold: usize) -> Result<Option<usize>, Memory> {
     let ends = ends_of(alloc, calls)?;
     let half = ends.len() / 2;
@@ -113,7 +115,7 @@ fn best_moment(alloc: Global, calls: &[Operation], hold: usize) -> Result<Option
     Ok(best)
 }
 
-/// When calls ended, in turn, and whether they may change the map.
+/// When calls ended, one after another, and whether they may change the map.
 fn ends_of(alloc: Global, calls: &[Operation]) -> Result<Vec<(usize, bool)>, Memory> {
     let mut ends = Vec::with_capacity(alloc, calls.len())?;
     for call in calls {

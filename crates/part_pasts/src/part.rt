@@ -9,8 +9,8 @@ use kept_orders::KeptOrder;
 use part_cuts::{Found, Past};
 use std::alloc::Global;
 
-/// Keys that are kept together, with their pasts: the first one with an order of its calls. `tried` is
-/// how many calls were left when it was last tried to move on.
+/// Keys that have their pasts in common. The first past has an order of its calls. `tried` is how
+/// many calls were left when the part last tried to move on.
 pub struct Part {
     pub ranges: Vec<Range>,
     pub first: KeptOrder,

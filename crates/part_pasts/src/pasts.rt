@@ -29,13 +29,13 @@ pub enum GoneOn {
     },
     /// None has an order. Here they are again.
     Dead(Vec<Past>),
-    /// Those before one are dead, and the search of that one is beyond the budget. Here are all of them
-    /// again.
+    /// Those before one are dead, and the search of that one is beyond the budget. Here are all of
+    /// them again.
     Doubtful(Vec<Past>),
 }
 
-/// The first of the pasts that has an order, and those after it. `kept` is what is known of the calls
-/// of the first of them, `found` what its pending calls found.
+/// The first of the pasts that has an order, and those after it. `kept` is what is known of the
+/// calls of the first of them, `found` what its pending calls found.
 pub fn first_alive(
     alloc: Global,
     kept: Kept,
@@ -87,8 +87,8 @@ pub fn first_alive(
     }
 }
 
-/// The first of these pasts that has an order, and those after it. `guess` is an order that is tried
-/// first for the first of them.
+/// The first of these pasts that has an order, and those after it. `guess` is an order that is
+/// tried first for the first of them.
 pub fn any_alive(
     alloc: Global,
     mut pasts: Vec<Past>,
@@ -151,7 +151,7 @@ pub fn was_refused(operation: &Operation) -> bool
     }
 }
 
-/// What a call found at a key where it took effect.
+/// What a call found at a key when it took effect.
 pub fn found_of(found: &[Found], inv: usize, key: u64) -> Option<Found>
     ensures { MatchOption result (All (λ f. f.inv ≡ inv → f.key ≢ key) found.now)
         (λ f. Contains found.now f × (f.inv ≡ inv) × (f.key ≡ key)) }

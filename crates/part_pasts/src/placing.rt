@@ -1,4 +1,4 @@
-// Where a read is guessed to come among the calls of an order.
+// Where among the calls of an order a read is guessed to be.
 ghost use Rattle.std.specs.Prelude.{◌<◌, AllPairs};
 
 use crate::pasts::place_of;
@@ -7,8 +7,8 @@ use part_cuts::Past;
 use quiet_cuts::value_behind;
 use std::alloc::Global;
 
-/// A call of an order: its key, if it has only one, its place among the calls, and a moment at which
-/// it takes effect.
+/// A call of an order: its key, if it has only one, its place among the calls, and a moment when it
+/// takes effect.
 #[derive(Clone, Copy)]
 struct Turn {
     key: Option<u64>,
@@ -17,8 +17,8 @@ struct Turn {
 }
 
 /// A turn of a call that has only one key, which a read has too: the key, the turn and its place.
-/// `end` is when the first of the key's calls from this turn on ended. `is_last` says whether the key
-/// has no later turn.
+/// `end` is when the first of the key's calls from this turn on ended. `is_last` says whether the
+/// key has no later turn.
 #[derive(Clone, Copy)]
 struct OwnTurn {
     key: u64,
@@ -36,8 +36,8 @@ struct Walk {
     moment: usize,
 }
 
-/// The moments, from one to before another, at which a read finds at a key what it reported, if the
-/// calls of this key from a turn on come after the read, and the others before it.
+/// The moments when a read finds at a key what it reported, from one to before another. The calls
+/// of this key from a turn on then come after the read, and the others before it.
 #[derive(Clone, Copy)]
 struct Window {
     key: u64,
@@ -46,10 +46,10 @@ struct Window {
     to: usize,
 }
 
-/// The places of the calls of an order and of a read, in the order in which they are to be tried.
-/// `points` has a moment for each call of the order, with its invocation, by rising moments. The read
-/// comes at a moment at which it finds what it reported at the most keys. The calls of each of these
-/// keys come before the read or after it as that needs, and the others by their moments.
+/// The places of the calls of an order and of a read, sorted by when they are to be tried. `points`
+/// has a moment for each call of the order, with its invocation, by rising moments. The moment of
+/// the read is one when it finds what it reported at the most keys. The calls of each of these keys
+/// come before the read or after it as that needs, and the others by their moments.
 pub fn places_with(
     alloc: Global,
     past: &Past,
@@ -137,7 +137,8 @@ fn own_turns(
     Ok(own)
 }
 
-/// Notes when the first call of a key from each turn on ended, and which turns of a key are the last.
+/// Notes when the first call of a key from each turn on ended, and which turns of a key are the
+/// last.
 fn note_ends(calls: &[Operation], own: &mut [OwnTurn]) {
     let mut key = None;
     let mut end = usize::MAX;

@@ -1,4 +1,4 @@
-// Keys come to rest.
+// Which keys are at rest.
 ghost use Rattle.std.specs.Prelude.{◌≡◌, ◌≤◌, IfOk, OnOk};
 ghost use Rattle.map_object.specs.MapObject.{IsRising};
 ghost use Rattle.key_parts.specs.Left.{pairs_at};
@@ -12,7 +12,7 @@ use packed_map::PackedMap;
 use part_cuts::{Found, Past};
 use std::alloc::Global;
 
-/// The keys of calls that are left, those at which something was found, and those at which pasts differ.
+/// The keys of calls that are left, those where something was found, and those where pasts differ.
 pub fn busy_ranges(alloc: Global, pasts: &[Past]) -> Result<Vec<Range>, Memory>
     ensures { IfOk result (λ busy. AreBusy pasts.now (covered busy.items)) }
 {
@@ -39,7 +39,7 @@ fn add_calls(busy: &mut Vec<Range>, calls: &[Operation]) -> Result<(), Memory>
     Ok(())
 }
 
-/// Adds the keys at which something was found.
+/// Adds the keys where something was found.
 fn add_found(busy: &mut Vec<Range>, found: &[Found]) -> Result<(), Memory>
     ensures { OnOk result (HasFound found.now busy.old.items busy.new.items) }
 {
@@ -52,7 +52,7 @@ fn add_found(busy: &mut Vec<Range>, found: &[Found]) -> Result<(), Memory>
     Ok(())
 }
 
-/// Adds the keys of those pairs of a map that another one has not.
+/// Adds the keys of those pairs of a map that another map does not have.
 fn add_differing(busy: &mut Vec<Range>, map: &SortedMap, other: &SortedMap) -> Result<(), Memory>
     ensures { OnOk result (HasDiffering map.now other.now busy.old.items busy.new.items) }
 {
@@ -80,7 +80,7 @@ pub fn resting_pairs(alloc: Global, busy: &[Range], past: &Past) -> Result<Vec<(
     Ok(pairs)
 }
 
-/// The pasts with the pairs of busy keys alone.
+/// The pasts with the pairs of busy keys only.
 pub fn only_pasts(alloc: Global, busy: &[Range], pasts: Vec<Past>) -> Result<Vec<Past>, Memory>
     ensures { IfOk result (λ left. AreOnly (covered busy.now) pasts.items left.items) }
 {
@@ -93,7 +93,7 @@ pub fn only_pasts(alloc: Global, busy: &[Range], pasts: Vec<Past>) -> Result<Vec
     Ok(left)
 }
 
-/// The pairs of these keys alone.
+/// The pairs of these keys only.
 fn only(alloc: Global, busy: &[Range], map: &SortedMap) -> Result<SortedMap, Memory>
     ensures { IfOk result (λ only. only ≡ pairs_at (covered busy.now) map.now) }
 {

@@ -18,7 +18,7 @@ use part_cuts::Past;
 use std::alloc::Global;
 
 /// Parts that became one: the keys and the pasts of the new part. It also has a moment for each
-/// call of the orders that were kept, with the call's invocation, by rising moments.
+/// call of the saved orders, with the call's invocation, by rising moments.
 pub struct United {
     pub ranges: Vec<Range>,
     pub tried: usize,
@@ -52,8 +52,8 @@ impl United {
     }
 }
 
-/// One part of these parts and of the keys at rest from `low` to `high`. It has as many pasts as there
-/// are ways to choose one of each part.
+/// One part of these parts and of the keys at rest from `low` to `high`. It has as many pasts as
+/// there are ways to choose one of each part.
 pub fn unite(
     alloc: Global,
     rest: &mut PackedMap<u64>,
@@ -156,8 +156,8 @@ fn with_part(alloc: Global, united: United, part: &Part) -> Result<United, Memor
     })
 }
 
-/// The calls of an order, each with a moment at which it may take effect: no later than those of the
-/// calls after it.
+/// The calls of an order, each with a moment when it may take effect. That is no later than the
+/// moments of the calls after it.
 fn add_points(
     alloc: Global,
     points: &mut Vec<(usize, usize)>,

@@ -2,7 +2,7 @@
 use Rattle.parts.proofs.Common.{◌≡◌, ℕ, suc, ◌<◌, List, [], ◌∷◌, map, length, get_or, refl, ap, ◌∙◌, arith, Operation, KeptPast, with_begun, kept_of}
 use Rattle.parts.proofs.Common.{Past}
 
--- where it began in each place, it began in all
+-- if a call began in the past at each place, it began in all pasts
 pub begun_in_each : (o : Operation) (olds news : List Past) → length news ≡ length olds
     → ((k : ℕ) (d : Past) → k < length olds → kept_of (get_or news k d) ≡ with_begun o (kept_of (get_or olds k d)))
     → map kept_of news ≡ map (with_begun o) (map kept_of olds)

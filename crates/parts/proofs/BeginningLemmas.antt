@@ -1,4 +1,5 @@
--- A call begins: what is kept of the calls (`change_begins`, `read_begins`), also where a key that was at rest becomes a part (`key_is_taken`).
+-- A call begins: what the state has of the calls then (`change_begins`, `read_begins`), also if a key that was at rest becomes a part
+-- (`key_is_taken`).
 use Rattle.parts.proofs.Common.{◌≡◌, ℕ, suc, ◌==◌, Bool, true, false, not, ◌||◌, cond, List, [], ◌∷◌, ◌++◌, map, Option, None, Some, append-nil, refl}
 use Rattle.parts.proofs.Common.{sym, ap, ◌∙◌, subst, ⊎_elim, eqb-true, arith, ◌⊎◌, if◌then◌else◌, All, Contains, list_any, All-nil, All-head}
 use Rattle.parts.proofs.Common.{Contains-append_left, Contains-push, list_any-append, list_any_none, AllPairs-cons, AllPairs-filter, AllPairs-nil}
@@ -13,7 +14,7 @@ use mathlib.Core.Path.{fun_ext}
 
 -- ---- pending reads
 
--- those of the calls stay where a call that may change the map begins
+-- the pending reads of the calls stay if a call that may change the map begins
 pub reads_stay : (calls : List Operation) (o : Operation) (reads : List OpenRead) → may_change o.call ≡ true → AreReadsOf calls reads
     → AreReadsOf (calls ++ o ∷ []) reads
 reads_stay calls o reads changes are inv low high = (
@@ -29,7 +30,7 @@ reads_stay calls o reads changes are inv low high = (
 abbrev pub read_of : Operation → OpenRead
 read_of o = record { inv = o.inv; low = low_key o.call; high = high_key o.call }
 
--- a read that begins comes to them
+-- a read that begins becomes one of them
 pub reads_more : (calls : List Operation) (o : Operation) (reads : List OpenRead) → o.response ≡ None → may_change o.call ≡ false
     → AreReadsOf calls reads → AreReadsOf (calls ++ o ∷ []) (reads ++ read_of o ∷ [])
 reads_more calls o reads pending keeps are inv low high = (

@@ -1,4 +1,4 @@
--- The shape of what is kept, as a call begins (`shaped_change`, `shaped_read`), and as a key that was at rest becomes a part (`shaped_key`).
+-- The shape of the state, as a call begins (`shaped_change`, `shaped_read`), and as a key that was at rest becomes a part (`shaped_key`).
 use Rattle.parts.proofs.Common.{◌≡◌, ℕ, suc, ◌<◌, false, List, [], ◌∷◌, ◌++◌, map, Option, None, Some, refl, sym, ap, ◌∙◌, subst, ⊎_elim, arith}
 use Rattle.parts.proofs.Common.{get_or, nat_le, if◌then◌else◌, All, AllPairs, All-nil, All-cons, All-tail, All-same, All-append, All-push, All-weaker}
 use Rattle.parts.proofs.Common.{All-map, All-contains, AllPairs-cons, AllPairs-nil, AllPairs-head, AllPairs-tail, AllPairs-append, AllPairs-front}

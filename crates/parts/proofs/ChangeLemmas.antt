@@ -11,7 +11,7 @@ use Rattle.parts.proofs.BegunLemmas.{same_view, shaped_change, shaped_key}
 
 module _ (s : PartsView) (rest : Contents) (parts : List Part) (place : ℕ) (call : Call)
     (w : IsWithPartOf (low_key call) s.rest s.parts rest parts place) (shaped : IsShaped s) where
-  -- the state where a part has the key
+  -- the state if a part has the key
   pub there_is_shaped : IsShaped (record { rest = rest; parts = parts; reads = s.reads; now = s.now })
   there_is_shaped = ⊎_elim
       (λ (e, f). subst (λ (v : PartsView). IsShaped v)

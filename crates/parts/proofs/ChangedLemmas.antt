@@ -1,4 +1,4 @@
--- A call is answered in all pasts of a part (`answer_in`): how what is left stands, and what becomes of it.
+-- A call is answered in all pasts of a part (`answer_in`): the shape of what is left, and what becomes of it.
 use Rattle.parts.proofs.Common.{◌≡◌, ◌∙◌, ℕ, suc, ◌<◌, false, List, [], ◌∷◌, ◌++◌, map, Option, None, Some, refl, sym, ap, ⊎_elim, arith, All, Any}
 use Rattle.parts.proofs.Common.{Contains, IsSome, le-ltb, same_Some, All-nil, All-cons, All-head, All-tail, All-append, All-contains, All-weaker}
 use Rattle.parts.proofs.Common.{All-from_contains, Any-first, Any-later, Operation, Response, is_before, precedes, Contents, IsAnswer, Kept, KeptPast}
@@ -62,7 +62,7 @@ module _ (operation : Operation) (response : Response) (reported : operation.res
       (nexts_shaped pasts nexts before
       (All-tail (λ (x : KeptPast). Any (λ (past : KeptPast). AreLeftAfter operation past.left x.left) pasts) (kept_of next) (map kept_of nexts) left))
 
--- ---- what is left, of which past
+-- ---- the past that calls are left of
 
 of_pasts : (operation : Operation) (pasts : List KeptPast) (nexts : List Past) → AreLeftOf operation pasts (map kept_of nexts)
     → All (IsLeftOfOne operation pasts) (lefts nexts)
@@ -134,7 +134,7 @@ pub gone_with_others : (budget : ℕ) (o : Operation) (response : Response) (fir
 gone_with_others budget o response first pasts nexts gone lost after goes =
     record { nexts = map kept_of nexts; after = ([], map kept_of nexts, refl, lost, after); gone = goes }
 
--- ---- the pasts of a part, of which the first is taken apart
+-- ---- the pasts of a part, with the first one taken out
 
 was_shaped : (now : ℕ) (others : List Past) → All (IsPastBefore now) (map kept_of others) → AreShaped others
 was_shaped now [] before = All-nil IsPastOk

@@ -1,5 +1,5 @@
--- A pending read has ended: the reads that are left (`reads_ended`), the shape without it (`ended_is_shaped`, `ended_is_own`), and the state
--- where it reports nothing (`nothing_is_kept`). And a part that an answer ends (`has_ended`).
+-- A pending read has ended: the reads that are left (`reads_ended`), the shape without it (`ended_is_shaped`, `ended_is_own`), and the state if
+-- it reports nothing (`nothing_is_kept`). Also a part that an answer ends (`has_ended`).
 use Rattle.parts.proofs.Common.{◌≡◌, ℕ, suc, ◌<◌, true, false, List, ◌∷◌, ◌++◌, Option, None, Some, refl, sym, ap, ◌∙◌, subst, ⊎_elim, arith, get_or}
 use Rattle.parts.proofs.Common.{◌≢◌, All, AllPairs, Contains, Result, Ok, Err, IfOk, All-append, All-contains, All-head, All-tail, All-weaker}
 use Rattle.parts.proofs.Common.{Contains-append_left, Contains-append_right, Contains-append_cases, All-from_contains, AllPairs-append}

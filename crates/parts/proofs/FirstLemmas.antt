@@ -4,7 +4,7 @@ use Rattle.parts.proofs.Common.{slice_set, All, AllPairs, All-weaker, slice_get_
 use Rattle.parts.proofs.Common.{IsAnswerOf, is_the_call, set_parts, IsCallBefore}
 use Rattle.kept_orders.specs.Views as views
 
--- calls, where the one at a place has its answer
+-- calls, with an answer of the one at a place
 pub answered_parts : (calls : List Operation) (place : ℕ) (a o operation : Operation) (r response : Response)
     → slice_get calls place ≡ Some a → a ≡ o → r ≡ response → IsAnswerOf o response operation
     → views.answered calls place r ≡ take place calls ++ operation ∷ drop (place + 1) calls
@@ -33,7 +33,7 @@ above_of : (place : ℕ) (r : Option Response) → ((response : Response) → r 
 above_of place None ended = tt
 above_of place (Some response) ended = ended response refl
 
--- a pending call may be answered, where all events of the calls are before its answer
+-- a pending call may be answered, if all events of the calls are before its answer
 pub may_be_answered : (calls : List Operation) (place : ℕ) (a : Operation) (r : Response) → slice_get calls place ≡ Some a
     → is_some a.response ≡ false → All (IsCallBefore r.res) calls → views.MayBeAnswered calls place r
 may_be_answered calls place a r at waits before = record {

@@ -1,4 +1,4 @@
--- A part that an answer came to goes on (`going_is_shaped`, `going_is_state`), or it is kept beside the others (`kept_beside`).
+-- After an answer a part goes on (`going_is_shaped`, `going_is_state`), or it and the others represent the calls (`kept_beside`).
 use Rattle.parts.proofs.Common.{◌≡◌, ℕ, Bool, true, false, not, ◌&&◌, ◌||◌, List, [], ◌∷◌, ◌++◌, map, append-nil, refl, sym, ap, ◌∙◌, subst, get_or}
 use Rattle.parts.proofs.Common.{◌≢◌, All, list_any, map-append, All-nil, All-cons, All-head, All-tail, All-push, All-contains, All-map, All-weaker}
 use Rattle.parts.proofs.Common.{list_any-append, AllPairs-cons, All-back, All-from_contains, AllPairs-nil, AllPairs-append, Operation, Contents, Keys}
@@ -23,7 +23,7 @@ lefts_to P (past ∷ pasts) all = All-cons (λ (p : KeptPast). P p.left) (kept_o
     (All-head P past.calls.items (lefts pasts) all)
     (lefts_to P pasts (All-tail P past.calls.items (lefts pasts) all))
 
--- of pasts, and so of those that go on
+-- of pasts, and therefore of those that go on
 pub lefts_gone : (P : List Operation → Type 0) (budget : ℕ) (pasts : List KeptPast) (gone : GoneOn) → AreGoneOn budget pasts gone
     → All (λ (past : KeptPast). P past.left) pasts → All P (lefts_of gone)
 lefts_gone P budget pasts (Alive first found others) alive all =
@@ -141,7 +141,7 @@ pub others_have_pasts : (s : PartsView) (keys : Keys)
 others_have_pasts s keys =
     All-cons HasPasts (resting (outside (is_at_rest s.parts) keys) s.rest) (map kept_part s.parts) (λ none. cc) (all_have_pasts s.parts)
 
--- a part that does not go on, beside the others
+-- a part that does not go on, and the others
 pub kept_beside : (s : PartsView) (start : Contents) (place : ℕ) (calls : List Operation) (pasts : List KeptPast) (ended : EndedPart)
     → s.now ≡ place → pasts_of ended ≡ pasts → AreKept start s.now calls (kept_with s (covered ended.ranges.items) pasts)
     → IsKeptBeside start place calls ended

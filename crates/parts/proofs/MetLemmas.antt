@@ -190,7 +190,7 @@ none_met low high old left met is none key here =
     let both = and_parts (nat_le low key) (nat_le key high) here in
     at_rest_from left key (λ k d within. is.others k d within key (leb-true low key both.0) (leb-true key high both.1))
 
--- the keys at rest that are in none of these ranges, where the parts were taken out that have some of them
+-- the keys at rest that are in none of these ranges, after the parts were taken out that have some of them
 pub met_rest : (low high : ℕ) (old left met : List Part) → AreMet low high old left met → (ranges : List Range)
     → ((key : ℕ) → IsIn met key → covered ranges key ≡ true) → (key : ℕ)
     → outside (is_at_rest left) (covered ranges) key ≡ outside (is_at_rest old) (covered ranges) key

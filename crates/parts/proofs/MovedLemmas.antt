@@ -1,5 +1,5 @@
--- The pasts of a part at a moment: those that are alive stand in place of all (`alive_stand`), in two parts (`two_parts`), where dead ones go
--- (`front_goes`); where no key is busy, all keys come to rest (`all_rest`).
+-- The pasts of a part at a moment. Those that are alive may replace all (`alive_stand`), also in two parts (`two_parts`). Dead ones may be
+-- dropped (`front_goes`). If no key is busy, all keys are at rest (`all_rest`).
 use Rattle.parts.proofs.Common.{◌≡◌, ℕ, ◌<◌, ◌≤◌, ◌==◌, Bool, true, false, cond, not, ◌&&◌, ◌||◌, List, [], ◌∷◌, ◌++◌, map, Option, None, inl, inr}
 use Rattle.parts.proofs.Common.{append_assoc, refl, sym, ap, ◌∙◌, subst, ⊎_elim, arith, ◌⊎◌, nat_le, All, AllPairs, Any, Contains, AllZip, false≢true}
 use Rattle.parts.proofs.Common.{and_parts, leb-true, cases_lt, none-some, All-head, All-tail, All-contains, Contains-map, Contains-from_map}
@@ -219,7 +219,7 @@ module _ (start : Contents) (now : ℕ) (calls : List Operation) (keys busy : Ke
   within_first : IsWithinKeys keys (kept_of first)
   within_first = All-head (IsWithinKeys keys) (kept_of first) (map kept_of others) all_within
 
-  -- a past says something of keys of the part alone
+  -- a past says something only of keys of the part
   of_key_in : (key : ℕ) → Any (IsOfKey key) pasts → keys key ≡ true
   of_key_in key any =
       let (past, past_in, of_key) = any_to (IsOfKey key) pasts any in

@@ -1,4 +1,4 @@
--- A read that comes to the calls of pasts.
+-- A read is added to the calls of pasts.
 use Rattle.parts.proofs.Common.{◌≡◌, ℕ, suc, ◌<◌, ◌≤◌, ◌+◌, false, List, [], ◌∷◌, ◌++◌, map, length, get_or, set, take, drop, append-nil, Option}
 use Rattle.parts.proofs.Common.{None, Some, refl, sym, ap, ◌∙◌, subst, below_more, get_or-set_other, get_or-set_same, arith, ◌≢◌, All, AllPairs}
 use Rattle.parts.proofs.Common.{AllZip, false≢true, length-set, get_or_default, take_all, drop_all, All-cons, All-head, All-tail, All-append}
@@ -88,7 +88,7 @@ module _ (o : Operation) (last : precedes o o ≡ false) where
       (one_shaped old next zip.0 (All-head IsShapedPast old olds shaped))
       (reads_shaped olds pasts zip.1 (All-tail IsShapedPast old olds shaped))
 
--- ---- a read that comes to a part
+-- ---- a read that is added to a part
 
 abbrev first_past : Part → KeptPast
 first_past part = past_of part.first part.found.items

@@ -39,7 +39,7 @@ parted_left (first ∷ done) left out part (inr (more, same, is)) = inr (more, s
 abbrev pub HasNone : ℕ → ℕ → Part → Type 0
 HasNone low high part = (key : ℕ) → low ≤ key → key ≤ high → covered part.ranges.items key ≡ false
 
--- of the parts that were looked at, those that the range meets were taken out, and the others stand before the place
+-- of the parts that were looked at, those that the range meets were taken out, and the others are before the place
 pub record AreMeeting (low high : ℕ) (olds parts met : List Part) (place : ℕ) : Type 0 where
   pub done : List Part
   pub all : olds ≡ done ++ drop place parts

@@ -1,4 +1,4 @@
--- A read that reports something is answered: where its keys are at rest (`taken_at_rest`), or in a part that is made of those that it met
+-- A read that reports something is answered: with its keys at rest (`taken_at_rest`), or in a part that is made of those that it met
 -- (`report_is_kept`, `report_is_left`).
 use Rattle.parts.proofs.Common.{◌≡◌, ℕ, suc, ◌<◌, ◌≤◌, true, false, List, [], ◌∷◌, ◌++◌, map, Option, None, Some, refl, sym, ap, ◌∙◌, subst, eqb-true}
 use Rattle.parts.proofs.Common.{arith, get_or, ◌≢◌, nat_le, nat_lt, All, AllPairs, Any, Contains, AllZip, and_from, le-leb, nat_tests, All-nil}
@@ -55,7 +55,7 @@ told_at now o response reported is =
     let equal : reported.response ≡ response = cc in
     subst (λ (r : Response). r.res ≡ now) equal reported.res
 
--- ---- parts beside each other
+-- ---- parts that are apart
 
 pub beside_turned : (part other : Part) → AreBesideEachOther part other → AreBesideEachOther other part
 beside_turned part other beside k d within i e there j f here m g at same = beside i e there k d within m g at j f here (sym same)
@@ -100,7 +100,7 @@ module _ (s : PartsView) (shaped : IsShaped s) (left met : List Part) (parted : 
   pub met_apart : AllPairs AreBesideEachOther met
   met_apart = pairs_out AreBesideEachOther s.parts left met parted shaped.apart
 
-  -- a call that is left of a part that was taken out may stand beside the others
+  -- a call that is left of a part that was taken out may be left in one more part
   met_stands : (part : Part) → Contains met part → (past : KeptPast) → Contains (kept_part part).pasts past → (a : Operation)
       → Contains past.left a → MayStand next a
   met_stands part part_in past past_in a a_in = record {
@@ -141,7 +141,7 @@ module _ (s : PartsView) (shaped : IsShaped s) (left met : List Part) (parted : 
       met_stands part part_in past past_in o o_in
 
   module _ (o : Operation) (reported : IsReportedAt s.now o) (begun : o.inv < s.now) (own : HasOwnPlace s o) where
-    -- the read may come to each part
+    -- the read may be added to each part
     pub met_comes : All (MayComeTo o) met
     met_comes = All-from_contains (MayComeTo o) met (λ part part_in. record {
       other = All-contains (λ (p : Part). All (λ (past : KeptPast). All (λ (x : Operation). x.inv ≢ o.inv) past.left) (kept_part p).pasts)
@@ -247,7 +247,7 @@ module _ (s : PartsView) (left met : List Part) (start : Contents) (front back :
   report_keys o response operation answer rest ranges pasts become key here =
       become.spans key (concerned_within operation.call key (subst (λ (x : Operation). concerns_key x.call key ≡ true) (sym answer.is) here))
 
-  -- where the read is left
+  -- the state with the read left in it
   kept_so : (o : Operation) (response : Response) → AreMet (low_key o.call) (high_key o.call) s.parts left met → (rest : Contents)
       → (ranges : List Range) (pasts nexts : List KeptPast) → Become (low_key o.call) (high_key o.call) s.rest rest met ranges pasts
       → AllZip (IsWithRead (answered response o)) pasts nexts → o.response ≡ None → IsReport s.now (answered response o)
@@ -292,7 +292,7 @@ module _ (s : PartsView) (left met : List Part) (start : Contents) (front back :
       (kept_so o response met_is rest ranges pasts nexts become_is there answer.pending
       (subst (λ (x : Operation). IsReport s.now x) answer.is report) kept)
 
-  -- where its keys are at rest
+  -- the state if the read's keys are at rest
   rest_so : (o : Operation) (response : Response) → AreMet (low_key o.call) (high_key o.call) s.parts left met → met ≡ []
       → o.response ≡ None → IsReport s.now (answered response o) → IsLegalCall s.rest o.call (Some response)
       → AreKept start s.now (front ++ o ∷ back) (kept_parts s)

@@ -1,5 +1,5 @@
--- A part moves on, and keys of it come to rest: the state after it (`stay_state`, `gone_state`, `left_state`) and its shape (`stay_shape`,
--- `gone_shape`, `left_shape`). What is left of the part stands at the end of the list.
+-- A part moves on, and some of its keys are then at rest: the state after it (`stay_state`, `gone_state`, `left_state`) and its shape
+-- (`stay_shape`, `gone_shape`, `left_shape`). What is left of the part is at the end of the list.
 use Rattle.parts.proofs.Common.{◌≡◌, ℕ, Bool, true, false, not, ◌&&◌, ◌||◌, List, [], ◌∷◌, ◌++◌, map, length, get_or, take, drop, ◌<◌, ◌+◌, inl, inr}
 use Rattle.parts.proofs.Common.{Option, None, Some, append-nil, refl, sym, ap, ◌∙◌, subst, ⊎_elim, ◌⊎◌, ◌≢◌, All, AllPairs, Contains, IfSome}
 use Rattle.parts.proofs.Common.{if◌then◌else◌, list_any, false≢true, map-append, list_any-append, list_any_none, All-nil, All-cons, All-head}
@@ -42,7 +42,7 @@ any_last : (f : Part → Bool) (others : List Part) (part : Part) → list_any f
 any_last f others part = list_any-append f others (part ∷ [])
     ∙ (ap (λ (b : Bool). list_any f others || b) (or_nothing (f part)) ∙ or_turned (list_any f others) (f part))
 
--- the keys at rest with those that came to rest
+-- the keys at rest with those that are new at rest
 came_gone : (p a : Bool) → (p ≡ true → a ≡ false) → not a ≡ (p || not (p || a))
 came_gone true a none = ap not (none refl)
 came_gone false a none = refl
@@ -53,7 +53,7 @@ came_left true false a own none = ap not (none refl)
 came_left false true a own none = absurd (false≢true (own refl))
 came_left false false a own none = refl
 
--- ---- pairs that came to rest are united with those at rest
+-- ---- pairs of keys that are new at rest are united with those at rest
 
 else_same : (b : Bool) (x y : Option ℕ) → (b ≡ true → y ≡ None) → (b ≡ false → x ≡ None) → or_else x y ≡ (if b then x else y)
 else_same true None y none other = none refl
@@ -133,7 +133,7 @@ module _ (start : Contents) (now : ℕ) (calls : List Operation) (rest : Content
       (subst (λ (ps : List KeptPart). AreKept start now calls (kept_part last ∷ ps))
       (sym (append-nil (resting keys rest_then ∷ map kept_part others))) are)))
 
-  -- it stays as it is kept
+  -- a part that stays as it is
   pub stay_kept : (again : Part) → IsKeptSo part again
       → AreKept start now calls (kept_rest rest (others ++ again ∷ []) ∷ map kept_part (others ++ again ∷ []))
   stay_kept again same = to_the_end again rest (is_at_rest (front ++ part ∷ back))
@@ -141,7 +141,7 @@ module _ (start : Contents) (now : ℕ) (calls : List Operation) (rest : Content
       ∙ (ap (λ (k : KeptPart). k.keys key || list_any (has_key key) others) same.kept ∙ sym (any_split (has_key key) front part back))))
       (subst (λ (k : KeptPart). AreKept start now calls (k ∷ first ∷ map kept_part others)) (sym same.kept) ahead)
 
-  -- all its keys came to rest
+  -- all its keys are at rest now
   pub gone_kept : (pairs rest_new : Contents) → IsWithPairs pairs rest rest_new
       → AreKept start now calls (resting (covered part.ranges.items) pairs ∷ first ∷ map kept_part others)
       → AreKept start now calls (kept_rest rest_new others ∷ map kept_part others)
@@ -222,7 +222,7 @@ module _ (rest : Contents) (front : List Part) (part : Part) (back : List Part) 
 beside_turned : (a b : Part) → AreBesideEachOther a b → AreBesideEachOther b a
 beside_turned a b beside k d within i e there m f of_first n g of_second same = beside i e there k d within n g of_second m f of_first (sym same)
 
--- a part whose calls were left of another stands beside what that stood beside
+-- a part whose calls were left of another part is apart from what that part was apart from
 beside_left : (x part left : Part) → AreBesideEachOther x part → IsOfLeft part left → AreBesideEachOther x left
 beside_left x part left beside own k d within i e there m f here n g at =
     let o : Operation = get_or (get_or (kept_part x).pasts k d).left m f in

@@ -42,7 +42,7 @@ rest_cases false true false = refl
 rest_cases false false true = refl
 rest_cases false false false = refl
 
--- the keys at rest beside a part are not its own
+-- the keys at rest are not a part's own
 rest_without : (front back : List Part) (part : Part)
     → is_at_rest (front ++ part ∷ back) ≡ outside (is_at_rest (front ++ back)) (covered part.ranges.items)
 rest_without front back part = fun_ext (λ (key : ℕ).
@@ -51,7 +51,7 @@ rest_without front back part = fun_ext (λ (key : ℕ).
     ∙ (rest_cases (list_any has front) (has part) (list_any has back)
     ∙ ap (λ (b : Bool). not b && not (has part)) (sym (list_any-append has front back))))
 
--- ---- the part that has the key, and the state beside it
+-- ---- the part that has the key, and the rest of the state
 
 remove_parts : (parts : List Part) (place : ℕ) → remove parts place ≡ take place parts ++ drop (place + 1) parts
 remove_parts parts place = rw add-one refl
@@ -259,7 +259,7 @@ module _ (s : PartsView) (place : ℕ) (part : Part) (within : place < length s.
 
 -- ---- pending reads
 
--- they stay where a call that may change the map is answered
+-- the pending reads stay if a call that may change the map is answered
 pub reads_stay_answered : (front back : List Operation) (o : Operation) (response : Response) (reads : List OpenRead) → may_change o.call ≡ true
     → AreReadsOf (front ++ o ∷ back) reads → AreReadsOf (front ++ answered response o ∷ back) reads
 reads_stay_answered front back o response reads changes are inv low high = (

@@ -12,7 +12,7 @@ use Rattle.part_pasts.specs.Pasts.{AreGoneOn, AreLeftAfter, IsLeftKept}
 use Rattle.parts.specs.declared.answering.First.{First}
 use Rattle.parts.specs.declared.answering.First.TheVariants.{Known, Against, Unknown}
 
--- the calls that are left of a first past after an answer, where it is known
+-- the calls that are left of a first past after an answer, if they are known
 abbrev pub IsLeftFirst : Operation → List Operation → First → Type 0
 IsLeftFirst operation calls (Known kept) = IsLeftKept operation calls kept
 IsLeftFirst operation calls Against = ⊤

@@ -1,4 +1,4 @@
--- What is left of a part that an answer came to, and how it stands beside the others.
+-- What is left of a part after an answer, and how it fits the other parts.
 use Rattle.std.specs.Prelude.{◌≡◌, ◌≢◌, ◌<◌, false, List, ◌∷◌, map, All, AllPairs, ⊤}
 use Rattle.events.specs.declared.operation.Operation.{Operation}
 use Rattle.events.specs.Precedence.{precedes}
@@ -19,19 +19,19 @@ pub record HasOwnPlace (s : PartsView) (o : Operation) : Type 0 where
   pub reads : All (λ read. read.inv ≢ o.inv) s.reads
   pub parts : All (λ part. All (λ past. All (λ p. p.inv ≢ o.inv) past.left) (kept_part part).pasts) s.parts
 
--- a call may be left in one more part of a state: so is its invocation, the call does not precede itself, and its events are before the state's
--- place
+-- a call may be left in one more part of a state: no other call has its invocation, it does not precede itself, and its events are before the
+-- state's place
 pub record MayStand (s : PartsView) (o : Operation) : Type 0 where
   pub apart : precedes o o ≡ false
   pub before : IsCallBefore s.now o
   pub own : HasOwnPlace s o
 
--- so may calls, which stand by rising invocation
+-- calls may be left in one more part of a state: each may, and they are sorted by invocation
 pub record MayBeLeft (s : PartsView) (left : List Operation) : Type 0 where
   pub rising : AllPairs (λ a b. a.inv < b.inv) left
   pub each : All (MayStand s) left
 
--- the parts of a state, beside one more of these keys and pasts
+-- the parts of a state, and one more of these keys and pasts
 abbrev pub kept_with : PartsView → Keys → List KeptPast → List KeptPart
 kept_with s keys pasts =
     record { keys = keys; pasts = pasts } ∷ resting (outside (is_at_rest s.parts) keys) s.rest ∷ map kept_part s.parts

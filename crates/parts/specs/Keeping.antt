@@ -51,10 +51,11 @@ pub record IsStateOf (start : Contents) (calls : List Operation) (s : PartsView)
 abbrev pub IsCounted : PartsView → PartsView → Type 0
 IsCounted old new = new.now ≡ suc old.now
 
--- a part that is kept beside others, each of which has a past
+-- the pasts of a part that does not go on
 abbrev pub pasts_of : EndedPart → List KeptPast
 pasts_of ended = map kept_of ended.pasts.items
 
+-- a part that does not go on and others represent the calls, and each of the others has a past
 pub record IsKeptBeside (start : Contents) (now : ℕ) (calls : List Operation) (ended : EndedPart) : Type 0 where
   pub others : List KeptPart
   pub are_kept : AreKept start now calls (record { keys = covered ended.ranges.items; pasts = pasts_of ended } ∷ others)
@@ -74,8 +75,8 @@ AreWithAnswer o response pasts nexts =
     ((may_change o.call ≡ true) × AreAfterAnswer o response pasts nexts)
     ⊎ ((may_change o.call ≡ false) × AllZip (IsWithRead (answered response o)) pasts nexts)
 
--- A part ended by an answer has all keys of the call. Before the answer, pasts of its keys were kept beside other parts, and each part had a past.
--- The pasts of the ended part are those with the answer, and no others.
+-- A part ended by an answer has all keys of the call. Before the answer, pasts of its keys and other parts represented the calls, and each part
+-- had a past. The pasts of the ended part are those with the answer, and no others.
 pub record IsEndedBy (start : Contents) (now : ℕ) (calls : List Operation) (o : Operation) (response : Response) (ended : EndedPart) : Type 0 where
   pub keys : HasKeysIn (covered ended.ranges.items) o
   pub pasts : List KeptPast

@@ -21,7 +21,7 @@ use Rattle.parts.specs.Shapes.{IsPartBefore}
 use Rattle.parts.specs.Keeping.{AreReadsOf, IsStateOf}
 use Rattle.parts.specs.declared.settling.Moved.{Moved}
 
--- a part that is kept as another is
+-- a part has the same first order, keys and pasts as another
 pub record IsKeptSo (part again : Part) : Type 0 where
   pub first : again.first ≡ part.first
   pub kept : kept_part again ≡ kept_part part
@@ -36,7 +36,7 @@ pub record IsWithPairs (pairs old new : Contents) : Type 0 where
   pub rises : IsRising old → IsRising new
   pub values : IsRising pairs → (key : ℕ) → value_at new key ≡ or_else (value_at pairs key) (value_at old key)
 
--- what is kept of what a part has come to
+-- the parts that a part becomes at a later moment
 abbrev pub kept_moved : Keys → Contents → Option Part → List KeptPart
 kept_moved keys pairs None = resting keys pairs ∷ []
 kept_moved keys pairs (Some part) = resting (outside keys (covered part.ranges.items)) pairs ∷ kept_part part ∷ []
@@ -49,7 +49,7 @@ AreOfLeft old pasts = All (λ past. All (λ o. Any (λ other. Contains other.lef
 abbrev pub IsOfLeft : Part → Part → Type 0
 IsOfLeft old part = AreOfLeft old (kept_part part).pasts
 
--- a part has moved on: wherever it stands among others, what it has come to may stand in its place
+-- a part has moved on: whatever the other parts are, what it became may replace it
 pub record MovesOn (now : ℕ) (reads : List OpenRead) (part : Part) (moved : Moved) : Type 0 where
   pub shaped : IfSome moved.left (λ left. IsPartBefore now reads left × IsOfLeft part left)
   pub leads : (start : Contents) (calls : List Operation) (more : List KeptPart) → AreReadsOf calls reads
@@ -68,7 +68,7 @@ AreThoseAlive [] alive = alive ≡ []
 AreThoseAlive (past ∷ made) alive =
     ((more : List KeptPast) × (alive ≡ past ∷ more) × AreThoseAlive made more) ⊎ (IsDead past × AreThoseAlive made alive)
 
--- pasts at a moment: they may stand in place of those of a part where no pending read of its keys began before
+-- pasts at a moment: they may replace those of a part if no pending read of its keys began before
 pub record AreThen (moment : ℕ) (part : Part) (pasts : List Past) : Type 0 where
   pub shaped : AreShaped pasts
   pub own : AreOfLeft part (map kept_of pasts)
@@ -83,7 +83,7 @@ pub record IsPartFrom (own : List Range) (pasts : List Past) (part : Part) : Typ
   pub first : IsKeptOrder part.first
   pub alive : AreAlive (map kept_of pasts) (kept_part part).pasts
 
--- what pasts of some keys come to, where those of busy keys are kept apart
+-- what becomes of pasts of some keys if the busy keys are separated from the others
 pub record IsParted (pasts : List Past) (moved : Moved) : Type 0 where
   pub first : IfSome moved.left (λ left. IsKeptOrder left.first)
   pub own : IfSome moved.left (λ left. All (λ past. Any (λ other. past.left ≡ other.left) (map kept_of pasts)) (kept_part left).pasts)

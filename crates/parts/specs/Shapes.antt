@@ -1,4 +1,4 @@
--- The shape of what is kept, whatever the events were.
+-- The shape of the state, whatever the events were.
 use Rattle.std.specs.Prelude.{◌≡◌, ◌≢◌, ℕ, ◌<◌, List, Some, All, AllPairs, Contains}
 use Rattle.events.specs.declared.operation.Operation.{Operation}
 use Rattle.events.specs.declared.operation.Response.{Response}
@@ -17,13 +17,13 @@ pub record IsCallBefore (now : ℕ) (o : Operation) : Type 0 where
   pub begun : o.inv < now
   pub ended : (response : Response) → o.response ≡ Some response → response.res < now
 
--- the calls that are left of a past stand by rising invocation, none precedes itself, and all of their events are before a place
+-- the calls that are left of a past are sorted by invocation, none precedes itself, and all of their events are before a place
 pub record IsPastBefore (now : ℕ) (past : KeptPast) : Type 0 where
   pub rising : AllPairs (λ a b. a.inv < b.inv) past.left
   pub apart : NonePrecedesItself past.left
   pub before : All (IsCallBefore now) past.left
 
--- a call comes to the calls of a part: it is none of them, and all of their events are before its response
+-- a call may be added to the calls of a part: it is none of them, and all of their events are before its response
 pub record MayComeTo (o : Operation) (part : Part) : Type 0 where
   pub other : All (λ past. All (λ p. p.inv ≢ o.inv) past.left) (kept_part part).pasts
   pub before : (response : Response) → o.response ≡ Some response

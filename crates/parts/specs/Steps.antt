@@ -34,7 +34,7 @@ pub record IsPartOf (key : ℕ) (value : Option ℕ) (part : Part) : Type 0 wher
   pub no_found : part.found.items ≡ []
   pub alone : part.others.items ≡ []
 
--- some part has a key: it had it, or it has come, with what was at rest there
+-- some part has a key: it had it, or it is new, with what was at rest there
 abbrev pub IsOneWithKey : ℕ → Contents → List Part → Contents → List Part → ℕ → Type 0
 IsOneWithKey key rest parts rest_new parts_new place =
     ((rest_new ≡ rest) × (parts_new ≡ parts))
@@ -84,13 +84,13 @@ pub record AreMet (low high : ℕ) (old left met : List Part) : Type 0 where
   pub parted : AreParted old left met
   pub others : All (λ part. (key : ℕ) → low ≤ key → key ≤ high → covered part.ranges.items key ≡ false) left
 
--- a read came to all of some pasts, and these have gone on
+-- a read was added to all of some pasts, and these have gone on
 pub record HasGoneIn (budget : ℕ) (o : Operation) (pasts : List KeptPast) (read : Read) : Type 0 where
   pub nexts : List KeptPast
   pub with_read : AllZip (IsWithRead o) pasts nexts
   pub gone : AreGoneOn budget nexts read.gone
 
--- a read came to all pasts, some, of a part that others and keys at rest became (`Become`), and these have gone on
+-- a read was added to all pasts, `some`, of a part that others and keys at rest became (`Become`), and these have gone on
 pub record IsReadIn (budget : ℕ) (o : Operation) (old new : Contents) (met : List Part) (read : Read) : Type 0 where
   pub pasts : List KeptPast
   pub some : pasts ≢ []

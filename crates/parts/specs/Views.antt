@@ -20,10 +20,10 @@ pub record PartsView : Type 0 where
 abbrev pub is_at_rest : List Part → Keys
 is_at_rest parts key = not (list_any (λ part. covered part.ranges.items key) parts)
 
--- the keys at rest, as a part that is kept
+-- the keys at rest, as one of the parts of the laws
 abbrev pub kept_rest : Contents → List Part → KeptPart
 kept_rest rest parts = record { keys = is_at_rest parts; pasts = at_rest rest ∷ [] }
 
--- the parts that are kept: the keys at rest, and the parts
+-- the parts of the laws: the keys at rest, and the parts
 abbrev pub kept_parts : PartsView → List KeptPart
 kept_parts s = kept_rest s.rest s.parts ∷ map kept_part s.parts

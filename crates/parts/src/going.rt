@@ -1,4 +1,4 @@
-// A part that an answer came to goes on, or it does not.
+// Whether a part goes on after an answer.
 ghost use Rattle.std.specs.Prelude.{◌≡◌, ℕ, suc, List, All, IfOk};
 ghost use Rattle.events.specs.declared.operation.Operation.{Operation as Done};
 ghost use Rattle.map_object.specs.MapObject.{Contents};
@@ -16,8 +16,8 @@ use events::Memory;
 use part_pasts::{GoneOn, Part, Range};
 use std::alloc::Global;
 
-/// A part that an answer came to goes on at the end of the list, if one of its pasts has an order.
-/// `state` has the other parts, and counts the answer.
+/// Puts a part at the end of the list after an answer, if one of its pasts has an order. `state`
+/// has the other parts, and counts the answer.
 pub(crate) fn go_on(
     alloc: Global,
     state: Parts,

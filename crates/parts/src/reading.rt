@@ -80,8 +80,8 @@ pub(crate) fn answer_read(
     answer_report(alloc, state, operation, budget)
 }
 
-/// The answer of a read that reports something, and is no longer among the pending reads. Nothing is
-/// left of it where its keys are at rest, and hold what it reported.
+/// Answers a read that reports something, and is no longer among the pending reads. Nothing is left
+/// of it if its keys are at rest, and hold what it reported.
 fn answer_report(
     alloc: Global,
     state: Parts,
@@ -162,8 +162,8 @@ pub(crate) struct Read {
     pub gone: GoneOn,
 }
 
-/// A read is left in each past of the part that has all its keys, which is made of these parts and of
-/// keys at rest, where none is there.
+/// Leaves a read in each past of the part that has all its keys. If there is no such part, one is
+/// made of these parts and of keys at rest.
 fn read_in(
     alloc: Global,
     rest: &mut PackedMap<u64>,

@@ -21,7 +21,7 @@ use std::alloc::Global;
 /// The most positions of a level, and the most pasts.
 const WIDTH: usize = 64;
 
-/// The most configurations that are searched to see whether a past goes on.
+/// The most configurations that are searched to find out whether a past goes on.
 const NEAR_BUDGET: u32 = 2_000;
 
 /// The last part moves on, if it is time.
@@ -50,7 +50,7 @@ pub(crate) fn settle_met(alloc: Global, state: Parts, low: u64, high: u64) -> Re
     Ok(state)
 }
 
-/// The part at a place moves on, if it is time. What is left of it comes to the end of the list.
+/// Moves the part at a place on, if it is time. What is left of it is then at the end of the list.
 fn settle(alloc: Global, state: Parts, place: usize) -> Result<Parts, Memory>
     requires { place < length state.parts }
     ensures { IfOk result (IsSettled state) }
@@ -110,8 +110,8 @@ pub(crate) fn add_pairs(
     Ok(rest)
 }
 
-/// What a part has come to at a later moment: the pairs of the keys that are at rest there, and the part
-/// of the others, if there are any.
+/// What a part becomes at a later moment: the pairs of the keys that are at rest there, and the
+/// part of the others, if there are any.
 pub(crate) struct Moved {
     pub pairs: Vec<(u64, u64)>,
     pub left: Option<Part>,
@@ -137,8 +137,8 @@ impl Moved {
     }
 }
 
-/// What a part comes to at a later moment, if it is time, there are not too many pasts, and an order of
-/// one is found.
+/// Returns what a part becomes at a later moment. There is nothing to return if it is not time, if
+/// there are too many pasts, or if no order of one is found.
 fn moved_on(
     alloc: Global,
     part: &Part,
@@ -157,8 +157,8 @@ fn moved_on(
     }
 }
 
-/// The pasts of a part at a moment, but for those of which it is found that they have no order; none if
-/// there are too many.
+/// Returns the pasts of a part at a moment, without those that are found to have no order. Returns
+/// none if there are too many.
 fn pasts_then(alloc: Global, part: &Part, moment: usize) -> Result<Option<Vec<Past>>, Memory>
     requires { All IsPastShaped (kept_part part.now).pasts }
     ensures { IfOk result (λ then. IfSome then (λ pasts. AreThen moment part.now pasts.items)) }
@@ -175,8 +175,8 @@ fn pasts_then(alloc: Global, part: &Part, moment: usize) -> Result<Option<Vec<Pa
     }
 }
 
-/// What pasts come to where those of busy keys are kept apart from the others, which are at rest, if
-/// an order of one is found. `old` is an order that is tried first.
+/// Separates the busy keys of pasts from the others, which are at rest. Returns none if no past is
+/// found to have an order. `old` is an order that is tried first.
 fn parted(alloc: Global, old: &KeptOrder, pasts: Vec<Past>) -> Result<Option<Moved>, Memory>
     requires { AreShaped pasts.items }
     ensures { IfOk result (λ moved. IfSome moved (IsParted pasts.items)) }
@@ -232,7 +232,7 @@ fn part_from(
     }
 }
 
-/// The pasts without those of which it is found that they have no order.
+/// The pasts without those that are found to have no order.
 fn those_alive(alloc: Global, made: Vec<Past>, old: &KeptOrder) -> Result<Vec<Past>, Memory>
     requires { AreShaped made.items }
     ensures { IfOk result (λ alive. AreThoseAlive (map kept_of made.items)
@@ -287,7 +287,7 @@ fn guess_of(alloc: Global, old: &KeptOrder, calls: &[Operation]) -> Result<Vec<u
     Ok(guess)
 }
 
-/// The place, among these calls, of the call that stands at a place among others, if it is there.
+/// The place, among these calls, of the call at a place among others, if these calls have it.
 fn place_among(known: &[Operation], calls: &[Operation], place: u32) -> Option<u32>
     requires { AllPairs (λ a b. a.inv < b.inv) calls.now }
 {

@@ -20,8 +20,8 @@ use part_pasts::{OpenRead, Part, Range};
 use std::alloc::Global;
 use std::marker::Model;
 
-/// The state after some events: the keys at rest that have a value, the parts of the other keys, the
-/// reads that are pending, and how many events there were.
+/// The state after some events: the keys at rest that have a value, the parts of the other keys,
+/// the reads that are pending, and how many events there were.
 pub struct Parts {
     pub(crate) rest: PackedMap<u64>,
     pub(crate) parts: Vec<Part>,
@@ -83,8 +83,8 @@ pub enum Answered {
     Going(Parts),
     /// They have none: no past of this part has one.
     Lost(EndedPart),
-    /// It is not known: the search of a past of this part reached more configurations than the budget,
-    /// and those before it have no order.
+    /// It is not known: the search of a past of this part reached more configurations than the
+    /// budget, and those before it have no order.
     Spent(EndedPart),
     /// No such call is pending.
     Unknown,
@@ -133,7 +133,7 @@ impl Parts {
         self.now
     }
 
-    /// Each part goes on, so the calls so far have an order (`kept_parts_decide`).
+    /// Each part goes on, which means that the calls so far have an order (`kept_parts_decide`).
     pub fn goes_on(&self)
         ensures { All GoesOn (kept_parts self.entry.now) }
     {
@@ -154,8 +154,8 @@ impl Parts {
         begin_read(self, call)
     }
 
-    /// Takes the answer of a pending call, which began at this place. A part that does not go on has
-    /// the pasts that it had before, with the answer.
+    /// Takes the answer of a pending call, which began at this place. A part that does not go on
+    /// has the pasts that it had before, with the answer.
     pub fn answer(
         self,
         alloc: Global,

@@ -1,4 +1,4 @@
-// Streams of few events, worked by hand.
+// Streams of a few events, worked by hand.
 ghost use Rattle.std.specs.Prelude.{ℕ, ◌≤◌};
 ghost use Rattle.events.specs.Keys.{low_key, high_key};
 ghost use Rattle.key_effects.specs.Forms.{HasForm};

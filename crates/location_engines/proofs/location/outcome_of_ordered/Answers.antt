@@ -13,7 +13,7 @@ use Rattle.history_engines.specs.Answers.{IsHistoryRefusal, IsTextOf}
 use Rattle.location_engines.specs.Answers.{answer_of_location, IsFoundAnswer}
 use Rattle.location_engines.proofs.location.outcome_of_ordered.Goals as goal
 
--- there is a value if there is one of which it is made
+-- there is a value if there is one that it is made of
 is_some-map : {A B : Type 0} (f : A → B) (o : Option A) → is_some o ≡ is_some (option_map f o)
 is_some-map f None = refl
 is_some-map f (Some a) = refl

@@ -1,7 +1,7 @@
 use Rattle.parts.proofs.Common.{◌≡◌, ℕ, take, IsRising, value_at, or_else}
 use Rattle.parts.proofs.settling.add_pairs.Given as goal
 
--- the pairs so far came to the map
+-- the pairs so far were added to the map
 abbrev pub invariant-loop-pair : goal.invariant-loop-pair
 invariant-loop-pair l = record {
   rises : IsRising l.fn.rest → IsRising l.rest;
