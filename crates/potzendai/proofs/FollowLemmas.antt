@@ -1,8 +1,9 @@
 -- What is written of the follower of a handle.
-use Rattle.potzendai.proofs.Common.{◌≡◌, ℕ, List, [], Option, Some, None, refl, sym, ◌∙◌, LineFollower, lines_of, Follows, standing_of, IsToldSoFar}
+use Rattle.potzendai.proofs.Common.{◌≡◌, ◌≢◌, ℕ, List, [], Option, Some, None, refl, sym, ◌∙◌, LineFollower, lines_of, Follows, standing_of, IsToldSoFar}
 use Rattle.potzendai.proofs.Common.{SpellLinearizable, BeginUnlinearizable}
 use Rattle.std.proofs.Common.{append-nil}
 use Rattle.stream_engines.specs.declared.handed.LineFollower.TheVariants.{Going, Ended}
+use Rattle.stream_engines.specs.Handed.{HasEnded}
 use Rattle.stream_engines.specs.Reading.{AreLinesOf}
 use Rattle.stream_engines.specs.StreamTexts.{BeginsWith}
 use Rattle.potzendai.proofs.StreamLemmas.{yes_has_order, no_has_none}
@@ -11,6 +12,11 @@ use Rattle.potzendai.proofs.StreamLemmas.{yes_has_order, no_has_none}
 pub all_begin : (told : Option (List ℕ)) (lines : List (List ℕ)) → AreLinesOf told lines → BeginsWith told lines
 all_begin None lines are = tt
 all_begin (Some text) lines are = ([], are ∙ sym (append-nil lines))
+
+-- a follower has ended if its status is not 0
+pub has_ended : (f : LineFollower) → standing_of (Some f) ≢ 0 → HasEnded f
+has_ended (Going followed lines given) other = absurd (other refl)
+has_ended (Ended outcome) other = tt
 
 -- the status of no, of what is followed, is that of lines without an order
 pub standing_no : (budget : ℕ) (all : List ℕ) (follows : Option LineFollower) → Follows budget (lines_of all) follows

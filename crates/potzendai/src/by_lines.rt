@@ -1,5 +1,5 @@
 // The calls on a stream whose lines are given as they come.
-ghost use Rattle.std.specs.Prelude.{◌≡◌, ℕ, List, ◌++◌, None};
+ghost use Rattle.std.specs.Prelude.{◌≡◌, ◌≢◌, ℕ, List, ◌++◌, None};
 ghost use Rattle.potzendai.specs.Follows.{Follows, standing_of, IsOpening, IsToldSoFar, IsToldClosed};
 ghost use Rattle.potzendai.specs.Streams.{SpellLinearizable, BeginUnlinearizable};
 ghost use Rattle.stream_engines.specs.Handed.{IsHanded};
@@ -50,6 +50,7 @@ pub extern "C" fn potzendai_follow_event(
     ensures handed { (budget : ℕ) (lines : List (List ℕ)) → Follows budget lines handle.old.follows
         → Follows budget (lines ++ lines_of text.now) handle.new.follows }
     ensures closed { handle.old.follows ≡ None → handle.new.follows ≡ None }
+    ensures stays { standing_of handle.old.follows ≢ 0 → handle.new.follows ≡ handle.old.follows }
     ensures status { result ≡ standing_of handle.new.follows }
 
     // What a no says of a stream if all its lines so far were given.

@@ -1,11 +1,11 @@
 // The calls on a stream whose events are given by their values.
-ghost use Rattle.std.specs.Prelude.{◌≡◌, ℕ, List, [], ◌∷◌, ◌++◌, Option, None, IfOk, IfSome};
+ghost use Rattle.std.specs.Prelude.{◌≡◌, ◌≢◌, ℕ, List, [], ◌∷◌, ◌++◌, Option, None, IfOk, IfSome};
 ghost use Rattle.events.specs.declared.event.Reply.{Reply as Answer};
 ghost use Rattle.potzendai.specs.Follows.{Follows, standing_of};
 ghost use Rattle.potzendai.specs.Streams.{BeginUnlinearizable};
 ghost use Rattle.potzendai.specs.Values.{call_line, call_of, reply_line, reply_of};
 ghost use Rattle.stream_engines.specs.EventLines.{CallHasWords, ReplyHasWords};
-ghost use Rattle.stream_engines.specs.Handed.{IsHanded};
+ghost use Rattle.stream_engines.specs.Handed.{HasEnded, IsHanded};
 ghost use Rattle.stream_text.specs.Cuts.{lines_of};
 
 use crate::handle::{PotzendaiFollower, put, take};
@@ -35,6 +35,7 @@ pub extern "C" fn potzendai_follow_invoke(
         → Follows budget (lines ++ call_line process (call_of kind key value other) ∷ [])
         handle.new.follows }
     ensures closed { handle.old.follows ≡ None → handle.new.follows ≡ None }
+    ensures stays { standing_of handle.old.follows ≢ 0 → handle.new.follows ≡ handle.old.follows }
     ensures status { result ≡ standing_of handle.new.follows }
 
     // What a no says of a stream if all its lines so far were given.
@@ -68,6 +69,7 @@ pub extern "C" fn potzendai_follow_answer_with(
         → Follows budget (lines ++ reply_line process (reply_of kind value pairs.now) ∷ [])
         handle.new.follows }
     ensures closed { handle.old.follows ≡ None → handle.new.follows ≡ None }
+    ensures stays { standing_of handle.old.follows ≢ 0 → handle.new.follows ≡ handle.old.follows }
     ensures status { result ≡ standing_of handle.new.follows }
 
     // What a no says of a stream if all its lines so far were given.
@@ -93,9 +95,10 @@ fn take_call(
     process: u32,
     call: Option<Call>,
 ) -> LineFollower
-    ensures { (budget : ℕ) (lines : List (List ℕ)) → IfSome call CallHasWords
+    ensures handed { (budget : ℕ) (lines : List (List ℕ)) → IfSome call CallHasWords
         → IsHanded budget lines follower
         → IsHanded budget (lines ++ call_line process call ∷ []) result }
+    ensures ended { HasEnded follower → result ≡ follower }
 {
     match call {
         Some(call) => follower.take_call(alloc, process, call),
@@ -110,10 +113,11 @@ fn take_answer(
     process: u32,
     reply: Result<Option<Reply>, Memory>,
 ) -> LineFollower
-    ensures { (budget : ℕ) (lines : List (List ℕ)) (given : Option Answer)
+    ensures handed { (budget : ℕ) (lines : List (List ℕ)) (given : Option Answer)
         → IfOk reply (λ found. found ≡ given) → IfOk reply (λ found. IfSome found ReplyHasWords)
         → IsHanded budget lines follower
         → IsHanded budget (lines ++ reply_line process given ∷ []) result }
+    ensures ended { HasEnded follower → result ≡ follower }
 {
     match reply {
         Ok(reply) => take_reply(alloc, follower, process, reply),
@@ -128,9 +132,10 @@ fn take_reply(
     process: u32,
     reply: Option<Reply>,
 ) -> LineFollower
-    ensures { (budget : ℕ) (lines : List (List ℕ)) → IfSome reply ReplyHasWords
+    ensures handed { (budget : ℕ) (lines : List (List ℕ)) → IfSome reply ReplyHasWords
         → IsHanded budget lines follower
         → IsHanded budget (lines ++ reply_line process reply ∷ []) result }
+    ensures ended { HasEnded follower → result ≡ follower }
 {
     match reply {
         Some(reply) => follower.take_reply(alloc, process, reply),

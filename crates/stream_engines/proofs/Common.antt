@@ -44,7 +44,7 @@ pub use Rattle.stream_engines.specs.Answers.{IsFollowAnswer, IsJudgedAnswer, IsL
 pub use Rattle.stream_engines.specs.Answers.{Judgement}
 pub use Rattle.stream_engines.specs.EventLines.{CallHasWords, HasFewPairs, HasWords, IsWord, MayStand, ReplyHasWords, event_line}
 pub use Rattle.stream_engines.specs.Followed.{FollowsStream, IsFollowed}
-pub use Rattle.stream_engines.specs.Handed.{IsHanded, MayTake}
+pub use Rattle.stream_engines.specs.Handed.{HasEnded, IsHanded, MayTake}
 pub use Rattle.stream_engines.specs.Leaves.{IsAnsweredWith, IsLineRefusal, IsLostOutcome, IsManyRefusal, IsRefusalAfter, IsSpentOutcome}
 pub use Rattle.stream_engines.specs.Leaves.{IsTurnRefusal, IsYesOutcome}
 pub use Rattle.stream_engines.specs.Outcomes.{IsFollowOutcome, IsStreamOutcome}

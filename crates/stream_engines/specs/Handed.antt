@@ -16,6 +16,11 @@ IsHanded budget lines (Going followed count given) =
     (given ≡ budget) × (count ≡ length lines) × (count ≤ most_lines) × IsFollowed lines followed
 IsHanded budget lines (Ended outcome) = (known : Option (List ℕ)) → BeginsWith known lines → IsStreamOutcome budget known outcome
 
+-- the outcome is known
+abbrev pub HasEnded : LineFollower → Type 0
+HasEnded (Going followed count given) = ⊥
+HasEnded (Ended outcome) = ⊤
+
 -- if the stream goes on, the line of this event is not one too many, and spells it in the stream's version
 abbrev pub MayTake : LineFollower → Event → Type 0
 MayTake (Going followed count given) e = (count < most_lines) × MayStand followed.version e

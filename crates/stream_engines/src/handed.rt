@@ -5,7 +5,7 @@ ghost use Rattle.stream_text.specs.Cuts.{lines_of};
 ghost use Rattle.stream_text.specs.LineLimits.{number_limit};
 ghost use Rattle.stream_text.specs.Lines.{as_event};
 ghost use Rattle.stream_engines.specs.EventLines.{event_line, CallHasWords, ReplyHasWords, HasWords, MayStand};
-ghost use Rattle.stream_engines.specs.Handed.{IsHanded, MayTake};
+ghost use Rattle.stream_engines.specs.Handed.{HasEnded, IsHanded, MayTake};
 ghost use Rattle.stream_engines.specs.Outcomes.{IsStreamOutcome};
 ghost use Rattle.stream_engines.specs.Reading.{AreLinesOf};
 
@@ -35,7 +35,7 @@ pub enum LineFollower {
         lines: u64,
         budget: u32,
     },
-    /// This is the outcome, and further lines are ignored.
+    /// This is the outcome. It stays so, whatever lines follow.
     Ended(RunOutcome),
 }
 
@@ -54,8 +54,9 @@ impl LineFollower {
 
     /// Takes the lines of some bytes. A line feed ends each line, but the last one may lack it.
     pub fn take_lines(self, alloc: Global, bytes: &[u8]) -> LineFollower
-        ensures { (budget : ℕ) (lines : List (List ℕ)) → IsHanded budget lines self
+        ensures handed { (budget : ℕ) (lines : List (List ℕ)) → IsHanded budget lines self
             → IsHanded budget (lines ++ lines_of bytes.now) result }
+        ensures ended { HasEnded self → result ≡ self }
     {
         let mut follower = self;
         let mut rest = bytes;
@@ -73,9 +74,10 @@ impl LineFollower {
 
     /// Takes the invocation of a call by a process of this number, as its line (`event_line`).
     pub fn take_call(self, alloc: Global, process: u32, call: Call) -> LineFollower
-        ensures { (budget : ℕ) (lines : List (List ℕ)) → CallHasWords call
+        ensures handed { (budget : ℕ) (lines : List (List ℕ)) → CallHasWords call
             → IsHanded budget lines self
             → IsHanded budget (lines ++ event_line (Invoke process call) ∷ []) result }
+        ensures ended { HasEnded self → result ≡ self }
     {
         match process_number(process) {
             Some(process) => self.take_event(alloc, &StreamEvent::Invoke { process, call }),
@@ -85,9 +87,10 @@ impl LineFollower {
 
     /// Takes the answer of the open call of a process of this number, as its line (`event_line`).
     pub fn take_reply(self, alloc: Global, process: u32, reply: Reply) -> LineFollower
-        ensures { (budget : ℕ) (lines : List (List ℕ)) → ReplyHasWords reply
+        ensures handed { (budget : ℕ) (lines : List (List ℕ)) → ReplyHasWords reply
             → IsHanded budget lines self
             → IsHanded budget (lines ++ event_line (Answer process reply) ∷ []) result }
+        ensures ended { HasEnded self → result ≡ self }
     {
         match process_number(process) {
             Some(process) => self.take_event(alloc, &StreamEvent::Answer { process, reply }),
@@ -97,10 +100,11 @@ impl LineFollower {
 
     /// Takes an event that is given by its values, as its line (`event_line`). That line is written only
     /// if the stream ends at it, or if it may be too long.
-    pub fn take_event(self, alloc: Global, event: &StreamEvent) -> LineFollower
-        ensures { (budget : ℕ) (lines : List (List ℕ)) → HasWords (as_event event.now)
+    fn take_event(self, alloc: Global, event: &StreamEvent) -> LineFollower
+        ensures handed { (budget : ℕ) (lines : List (List ℕ)) → HasWords (as_event event.now)
             → IsHanded budget lines self
             → IsHanded budget (lines ++ event_line (as_event event.now) ∷ []) result }
+        ensures ended { HasEnded self → result ≡ self }
     {
         if self.may_take(event) {
             self.take_values(alloc, event)
@@ -126,9 +130,10 @@ impl LineFollower {
     /// Takes an event whose line surely spells it, as that line.
     fn take_values(self, alloc: Global, event: &StreamEvent) -> LineFollower
         requires { MayTake self (as_event event.now) }
-        ensures { (budget : ℕ) (lines : List (List ℕ)) → HasWords (as_event event.now)
+        ensures handed { (budget : ℕ) (lines : List (List ℕ)) → HasWords (as_event event.now)
             → IsHanded budget lines self
             → IsHanded budget (lines ++ event_line (as_event event.now) ∷ []) result }
+        ensures ended { HasEnded self → result ≡ self }
     {
         match self {
             LineFollower::Going {
@@ -149,9 +154,10 @@ impl LineFollower {
 
     /// Takes the next line, which was written; if memory ran out for it, that ends the stream.
     fn take_written(self, alloc: Global, line: Result<String, AllocError>) -> LineFollower
-        ensures { (budget : ℕ) (lines : List (List ℕ)) (next : List ℕ)
+        ensures handed { (budget : ℕ) (lines : List (List ℕ)) (next : List ℕ)
             → IfOk line (λ text. string_bytes text ≡ next) → IsHanded budget lines self
             → IsHanded budget (lines ++ next ∷ []) result }
+        ensures ended { HasEnded self → result ≡ self }
     {
         match line {
             Ok(line) => self.take_line(alloc, line.as_bytes()),
@@ -161,8 +167,9 @@ impl LineFollower {
 
     /// Memory ran out for the next line.
     pub fn out_of_memory(self) -> LineFollower
-        ensures { (budget : ℕ) (lines : List (List ℕ)) (next : List ℕ)
+        ensures handed { (budget : ℕ) (lines : List (List ℕ)) (next : List ℕ)
             → IsHanded budget lines self → IsHanded budget (lines ++ next ∷ []) result }
+        ensures ended { HasEnded self → result ≡ self }
     {
         match self {
             LineFollower::Going { .. } => LineFollower::Ended(RunOutcome::Memory),
@@ -172,8 +179,9 @@ impl LineFollower {
 
     /// Takes the next line.
     fn take_line(self, alloc: Global, line: &[u8]) -> LineFollower
-        ensures { (budget : ℕ) (lines : List (List ℕ)) → IsHanded budget lines self
+        ensures handed { (budget : ℕ) (lines : List (List ℕ)) → IsHanded budget lines self
             → IsHanded budget (lines ++ line.now ∷ []) result }
+        ensures ended { HasEnded self → result ≡ self }
     {
         match self {
             LineFollower::Going {

@@ -1,12 +1,12 @@
-use Rattle.potzendai.proofs.Common.{◌++◌, Option, Some, ap, sym, ◌∙◌, subst, lines_of, IsHanded, LineFollower, Follows, standing_of}
-use Rattle.potzendai.proofs.FollowLemmas.{standing_no}
+use Rattle.potzendai.proofs.Common.{◌≢◌, ◌++◌, Option, Some, ap, sym, ◌∙◌, subst, lines_of, IsHanded, LineFollower, Follows, standing_of}
+use Rattle.potzendai.proofs.FollowLemmas.{has_ended, standing_no}
 use Rattle.potzendai.proofs.by_lines.potzendai_follow_event.Goals as goal
 
 pub returns-clause-handed : goal.returns-clause-handed
 returns-clause-handed c = λ budget lines follows.
     let held = subst (λ (f : Option LineFollower). Follows budget lines f) (sym c.in-Some.ensures.taken) follows in
     let taken = sym (c.replace-follower.ensures.value ∙ c.deref_mut.ensures.value) in
-    let handed = c.take_lines.ensures budget lines (subst (λ (f : LineFollower). IsHanded budget lines f) taken held) in
+    let handed = c.take_lines.ensures.handed budget lines (subst (λ (f : LineFollower). IsHanded budget lines f) taken held) in
     subst (λ (f : Option LineFollower). Follows budget (lines ++ lines_of c.args.text.now) f) (sym c.put.ensures) handed
 
 pub returns-clause-no : goal.returns-clause-no
@@ -14,3 +14,10 @@ returns-clause-no c = λ budget all follows one.
     let stands = ap standing_of c.put.ensures in
     let told = c.stream_status-status.ensures ∙ ap (λ (f : LineFollower). standing_of (Some f)) c.deref.ensures in
     standing_no budget all c.put.new.handle.follows follows (stands ∙ sym told ∙ one)
+
+pub returns-clause-stays : goal.returns-clause-stays
+returns-clause-stays c = λ stopped.
+    let is = c.replace-follower.ensures.value ∙ c.deref_mut.ensures.value in
+    let was = ap (λ (f : LineFollower). Some f) is ∙ c.in-Some.ensures.taken in
+    let ended = has_ended c.replace-follower.result (subst (λ (f : Option LineFollower). standing_of f ≢ 0) (sym was) stopped) in
+    c.put.ensures ∙ (ap (λ (f : LineFollower). Some f) (c.take_lines.ensures.ended ended) ∙ was)

@@ -6,11 +6,11 @@ pub returns-in-Going : goal.returns-in-Going
 returns-in-Going c =
     let lines = lines_of c.args.text.now in
     let handed = subst (λ (f : LineFollower). IsHanded c.args.budget lines f) c.in-Going.is
-    (c.take_lines.ensures c.args.budget [] c.in-Ok.ensures) in
+    (c.take_lines.ensures.handed c.args.budget [] c.in-Ok.ensures) in
     c.finish.ensures (Some c.args.text.now) lines c.args.budget handed.3 refl
 
 pub returns-in-Ended : goal.returns-in-Ended
 returns-in-Ended c =
     ended_with c.args.budget c.args.text.now c.in-Ended.outcome
     (subst (λ (f : LineFollower). IsHanded c.args.budget (lines_of c.args.text.now) f) c.in-Ended.is
-    (c.take_lines.ensures c.args.budget [] c.in-Ok.ensures))
+    (c.take_lines.ensures.handed c.args.budget [] c.in-Ok.ensures))

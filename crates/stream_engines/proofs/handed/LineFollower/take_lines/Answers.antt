@@ -1,4 +1,4 @@
-use Rattle.stream_engines.proofs.Common.{◌≡◌, ℕ, List, length, [], ◌∷◌, ◌++◌, take, refl, sym, ap, ◌∙◌, subst, append_assoc, append-nil, IsHanded}
+use Rattle.stream_engines.proofs.Common.{◌≡◌, ℕ, List, length, [], ◌∷◌, ◌++◌, take, refl, sym, ap, ◌∙◌, subst, append_assoc, append-nil, IsHanded, HasEnded}
 use Rattle.stream_engines.proofs.HandedLemmas.{lines_of-cut, handed_next, handed_all, handed_last, none_left}
 use Rattle.stream_engines.proofs.handed.LineFollower.take_lines.Goals as goal
 
@@ -7,6 +7,7 @@ loop-count-init c = (
   [],
   refl,
   λ budget lines handed. subst (λ (ls : List (List ℕ)). IsHanded budget ls c.args.self) (sym (append-nil lines)) handed,
+  λ ended. refl,
 )
 
 pub loop-count-preserved : goal.loop-count-preserved
@@ -19,20 +20,28 @@ loop-count-preserved c =
       at.0 ++ line ∷ [],
       at.1 ∙ (ap (λ (ls : List (List ℕ)). at.0 ++ ls) read ∙ sym (append_assoc at.0 (line ∷ []) _)),
       λ budget lines handed. handed_next budget lines at.0 line c.take_line-follower.result
-          (c.take_line-follower.ensures budget (lines ++ at.0) (at.2 budget lines handed)),
+          (c.take_line-follower.ensures.handed budget (lines ++ at.0) (at.2 budget lines handed)),
+      λ ended. c.take_line-follower.ensures.ended (subst HasEnded (sym (at.3 ended)) ended) ∙ at.3 ended,
     )
 
-pub returns-then-is_empty : goal.returns-then-is_empty
-returns-then-is_empty c = λ budget lines handed.
+pub returns-then-is_empty-clause-handed : goal.returns-then-is_empty-clause-handed
+returns-then-is_empty-clause-handed c = λ budget lines handed.
     let l = c.loop-count in
     let at = l.invariant in
     handed_all budget lines at.0 c.args.bytes.now l.rest.now l.follower at.1
     (none_left l.rest.now c.is_empty.result c.is_empty.ensures c.if-is_empty.true) (at.2 budget lines handed)
 
-pub returns-else-is_empty : goal.returns-else-is_empty
-returns-else-is_empty c = λ budget lines handed.
+pub returns-else-is_empty-clause-handed : goal.returns-else-is_empty-clause-handed
+returns-else-is_empty-clause-handed c = λ budget lines handed.
     let l = c.loop-count in
     let at = l.invariant in
     handed_last budget lines at.0 c.args.bytes.now l.rest.now c.take_line.result at.1
     (λ (none : length l.rest.now ≡ 0). let t = rw none at c.is_empty.ensures in cc) c.in_default.ensures.none
-    (c.take_line.ensures budget (lines ++ at.0) (at.2 budget lines handed))
+    (c.take_line.ensures.handed budget (lines ++ at.0) (at.2 budget lines handed))
+
+pub returns-else-is_empty-clause-ended : goal.returns-else-is_empty-clause-ended
+returns-else-is_empty-clause-ended c = λ ended.
+    let at = c.loop-count.invariant in c.take_line.ensures.ended (subst HasEnded (sym (at.3 ended)) ended) ∙ at.3 ended
+
+pub returns-then-is_empty-clause-ended : goal.returns-then-is_empty-clause-ended
+returns-then-is_empty-clause-ended c = c.loop-count.invariant.3

@@ -1,12 +1,12 @@
 use Rattle.stream_engines.proofs.Common.{ℕ, [], ◌∷◌, ◌++◌, subst, Answer, event_line, IsHanded}
 use Rattle.stream_engines.proofs.handed.LineFollower.take_reply.Goals as goal
 
-pub returns-in-Some : goal.returns-in-Some
-returns-in-Some c = λ budget lines words handed.
+pub returns-in-Some-clause-handed : goal.returns-in-Some-clause-handed
+returns-in-Some-clause-handed c = λ budget lines words handed.
     let is = c.in-Some.ensures in
     subst (λ (process : ℕ). IsHanded budget (lines ++ event_line (Answer process c.args.reply) ∷ []) c.take_event.result) is.0
-    (c.take_event.ensures budget lines (is.1, words) handed)
+    (c.take_event.ensures.handed budget lines (is.1, words) handed)
 
-pub returns-in-None : goal.returns-in-None
-returns-in-None c = λ budget lines words handed.
-    c.take_written.ensures budget lines (event_line (Answer c.args.process c.args.reply)) c.reply_line.ensures handed
+pub returns-in-None-clause-handed : goal.returns-in-None-clause-handed
+returns-in-None-clause-handed c = λ budget lines words handed.
+    c.take_written.ensures.handed budget lines (event_line (Answer c.args.process c.args.reply)) c.reply_line.ensures handed
