@@ -1,4 +1,5 @@
--- Values and texts in the compact form: no spaces, members by rising bytes, numbers in plain decimal.
+-- Values and texts in the compact form: no spaces, members by rising bytes, numbers in plain
+-- decimal.
 use Rattle.std.specs.Prelude.{◌≡◌, ℕ, List, [], ◌∷◌, ◌++◌, Some, ⊤}
 use Rattle.std.specs.Str.{IsAscii}
 use Rattle.json.specs.Tree.{HasNumbers}

@@ -14,8 +14,8 @@ use events::{Call, Pairs, Reply};
 use history_text::TextVersion;
 use std::alloc::Global;
 
-/// The event that a line in the compact form spells, in a stream of a version. `None` says nothing:
-/// the line may have another form, the event may not be allowed in that version, or memory may have
+/// Returns the event that a line in the compact form spells, in a stream of a version. `None` means
+/// nothing. The line may have another form, the version may not allow the event, or memory may have
 /// run out.
 pub fn compact_event(alloc: Global, version: TextVersion, line: &[u8]) -> Option<StreamEvent>
     ensures { IfSome result (λ e. SpellsEvent version line.now (as_event e)) }
@@ -26,7 +26,7 @@ pub fn compact_event(alloc: Global, version: TextVersion, line: &[u8]) -> Option
     event_in(alloc, version, line)
 }
 
-/// The event that is the whole of a line.
+/// Returns the event that the whole line spells.
 fn event_in(alloc: Global, version: TextVersion, line: &[u8]) -> Option<StreamEvent>
     ensures text { IfSome result (λ e. IsCompact (event_data (as_event e)) line.now) }
     ensures stands { IfSome result (λ e. MayStandIn version (as_event e)) }
@@ -38,7 +38,7 @@ fn event_in(alloc: Global, version: TextVersion, line: &[u8]) -> Option<StreamEv
     }
 }
 
-/// The invocation that is the whole of a line.
+/// Returns the invocation that the whole line spells.
 fn invocation(version: TextVersion, line: &[u8]) -> Option<StreamEvent>
     ensures text { IfSome result (λ e. IsCompact (event_data (as_event e)) line.now) }
     ensures stands { IfSome result (λ e. MayStandIn version (as_event e)) }
@@ -52,7 +52,7 @@ fn invocation(version: TextVersion, line: &[u8]) -> Option<StreamEvent>
     Some(StreamEvent::Invoke { process, call })
 }
 
-/// The response that is the whole of a line.
+/// Returns the response that the whole line spells.
 fn response(alloc: Global, version: TextVersion, line: &[u8]) -> Option<StreamEvent>
     ensures text { IfSome result (λ e. IsCompact (event_data (as_event e)) line.now) }
     ensures stands { IfSome result (λ e. MayStandIn version (as_event e)) }
@@ -66,7 +66,7 @@ fn response(alloc: Global, version: TextVersion, line: &[u8]) -> Option<StreamEv
     Some(StreamEvent::Answer { process, reply })
 }
 
-/// The process at the end of a line.
+/// Returns the process at the end of a line.
 fn last_process(text: &[u8]) -> Option<u16>
     ensures text { IfSome result (λ process. text.now
         ≡ codes ",\"process\":" ++ (decimal process ++ codes "}")) }
@@ -78,7 +78,7 @@ fn last_process(text: &[u8]) -> Option<u16>
     if is_brace(rest) { Some(process) } else { None }
 }
 
-/// A process number of a stream.
+/// Returns a number as that of a process, if it is small enough.
 fn process_of(number: u64) -> Option<u16>
     ensures { IfSome result (λ process. process ≡ number) }
 {
@@ -91,7 +91,7 @@ fn is_brace(text: &[u8]) -> bool
     text == b"}".as_slice()
 }
 
-/// The call that a text begins with.
+/// Returns the call that a text begins with, and the rest of the text.
 fn call_at(text: &[u8]) -> Option<(Call, &[u8])>
     ensures call { IfSome result (λ found. BeginsWith (call_data found.0) text.now found.1.now) }
     ensures range { IfSome result (λ found. IsTrue (has_range found.0)) }
@@ -134,7 +134,7 @@ fn remove_at(text: &[u8]) -> Option<(Call, &[u8])>
     Some((Call::Remove(key), rest))
 }
 
-/// A scan only with its ends in order.
+/// Returns the scan only if its ends are in order.
 fn scan_at(text: &[u8]) -> Option<(Call, &[u8])>
     ensures call { IfSome result (λ found. BeginsWith (call_data found.0) text.now found.1.now) }
     ensures range { IfSome result (λ found. IsTrue (has_range found.0)) }
@@ -159,7 +159,7 @@ fn replace_at(text: &[u8]) -> Option<(Call, &[u8])>
     Some((Call::Replace(key, old, new), rest))
 }
 
-/// The reply that a text begins with.
+/// Returns the reply that a text begins with, and the rest of the text.
 fn reply_at(alloc: Global, text: &[u8]) -> Option<(Reply, &[u8])>
     ensures { IfSome result (λ found. BeginsWith (reply_data found.0) text.now found.1.now) }
 {
@@ -233,15 +233,15 @@ fn pairs_at(alloc: Global, text: &[u8]) -> Option<(Reply, &[u8])>
     Some((pairs_reply(pairs), rest))
 }
 
-/// The reply that lists the pairs.
+/// Returns the reply that lists the pairs.
 fn pairs_reply(pairs: Vec<(u64, u64)>) -> Reply
     ensures { result ≡ replies.Pairs pairs.items }
 {
     Reply::Pairs(Pairs::new(pairs))
 }
 
-/// Puts the pairs that a text begins with into a list, which has none: one or more, with a comma
-/// between two of them, before a closing bracket. Returns what is left after that.
+/// Puts the pairs that a text begins with into an empty list. There is one or more, with a comma
+/// between two of them, before a closing bracket. Returns the rest of the text.
 fn pairs_in<'a>(pairs: &mut Vec<(u64, u64)>, text: &'a [u8]) -> Option<&'a [u8]>
     requires { pairs.old.items ≡ [] }
     ensures text { IfSome result (λ rest. text.now
@@ -266,7 +266,7 @@ fn keep(pairs: &mut Vec<(u64, u64)>, pair: (u64, u64)) -> Option<()>
     pairs.push(pair).ok()
 }
 
-/// The pair that a text begins with.
+/// Returns the pair that a text begins with, and the rest of the text.
 fn pair_at(text: &[u8]) -> Option<((u64, u64), &[u8])>
     ensures { IfSome result (λ found. BeginsWith (pair_data found.0) text.now found.1.now) }
 {
@@ -276,7 +276,7 @@ fn pair_at(text: &[u8]) -> Option<((u64, u64), &[u8])>
     Some(((key, value), rest))
 }
 
-/// The number that a text begins with, and what is left after it and these bytes.
+/// Returns the number that a text begins with, and what is left after the number and these bytes.
 #[inline(always)]
 fn number_before<'a>(text: &'a [u8], end: &[u8]) -> Option<(u64, &'a [u8])>
     ensures text { IfSome result (λ found. text.now ≡ decimal found.0 ++ (end.now ++ found.1.now)) }
@@ -287,8 +287,8 @@ fn number_before<'a>(text: &'a [u8], end: &[u8]) -> Option<(u64, &'a [u8])>
     Some((number, rest))
 }
 
-/// The number in plain decimal that a text begins with, if its digits end before the text does.
-/// After a 0 nothing more of it is read.
+/// Returns the number in plain decimal that a text begins with, and the rest of the text. The text
+/// must not end with the digits. After a 0 no more digits are read.
 fn number_at(text: &[u8]) -> Option<(u64, &[u8])>
     ensures text { IfSome result (λ found. text.now ≡ decimal found.0 ++ found.1.now) }
     ensures fits { IfSome result (λ found. found.0 < 2 ^ 64) }
@@ -307,7 +307,7 @@ fn number_at(text: &[u8]) -> Option<(u64, &[u8])>
     None
 }
 
-/// A number with one digit more, if it has at most 64 bits.
+/// Returns the number with one more digit, if it has at most 64 bits.
 #[inline(always)]
 fn with_digit(number: u64, unit: u64) -> Option<u64>
     ensures more { IfSome result (λ more. more ≡ number * 10 + unit) }
@@ -316,7 +316,7 @@ fn with_digit(number: u64, unit: u64) -> Option<u64>
     number.checked_mul(10)?.checked_add(unit)
 }
 
-/// The digit at a place of a text.
+/// Returns the digit at a place of a text.
 #[inline(always)]
 fn digit_at(text: &[u8], place: usize) -> Option<u64>
     ensures within { OnSome result (place < length text.now) }
@@ -333,7 +333,7 @@ fn digit_at(text: &[u8], place: usize) -> Option<u64>
     Some(u64::from(byte - b'0'))
 }
 
-/// What is left of a text after a front.
+/// If the text begins with `front`, returns the rest of the text.
 #[inline(always)]
 fn after<'a>(text: &'a [u8], front: &[u8]) -> Option<&'a [u8]>
     ensures { IfSome result (λ rest. text.now ≡ front.now ++ rest.now) }
