@@ -1,4 +1,4 @@
--- What a terminal shows next to an answer.
+-- What a terminal shows after an answer.
 use Rattle.std.specs.Prelude.{ℕ, nat_lt, if◌then◌else◌, List, [], ◌++◌, length, codes}
 use Rattle.events.specs.declared.event.Event.{Event}
 use Rattle.events.specs.Operations.{operations}

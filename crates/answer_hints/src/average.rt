@@ -1,11 +1,11 @@
-// A number a call, with two decimals.
+// An average over calls, with two decimals.
 ghost use Rattle.std.specs.Prelude.{◌≡◌, ◌%◌, IfOk, string_bytes};
 ghost use Rattle.answer_hints.specs.Averages.{hundredths, average_text};
 
 use std::alloc::{AllocError, Global};
 
-/// Returns a sum divided by a number of calls, in hundredths and rounded down. No calls count as
-/// one.
+/// Returns a sum divided by a number of calls, in hundredths, rounded down. No calls count as one
+/// call.
 pub(crate) fn hundredths(calls: usize, total: u64) -> u128
     ensures { result ≡ hundredths calls total }
 {
@@ -19,7 +19,7 @@ fn last_digit(number: u128) -> u8
     (number % 10) as u8
 }
 
-/// Returns this quotient with two decimals.
+/// Returns a sum divided by a number of calls, with two decimals.
 pub fn average_text(alloc: Global, calls: usize, total: u64) -> Result<String, AllocError>
     ensures { IfOk result (λ text. string_bytes text ≡ average_text calls total) }
 {

@@ -1,4 +1,4 @@
-// Answers with what a terminal shows next to them.
+// Answers, with what a terminal shows after them.
 ghost use Rattle.std.specs.Prelude.{◌≡◌, if◌then◌else◌, ℕ, List, [], IfOk, string_bytes};
 ghost use Rattle.answer_hints.specs.Hints.{rare_hint, yes_hint, no_hint, undecided_hint};
 ghost use Rattle.answer_hints.specs.Outcomes.{IsHintedBy};
@@ -8,8 +8,8 @@ use crate::average::{average_text, hundredths};
 use outcomes::{Answer, RunOutcome};
 use std::alloc::{AllocError, Global};
 
-/// Returns a yes with this line. If there are at least two calls, and on average fewer than 0.1
-/// other calls were open at an invocation, a hint says how many.
+/// Returns a yes with this line. It has a hint if there are at least two calls, and on average
+/// fewer than 0.1 other calls were open at an invocation. The hint says how many.
 pub fn hinted_yes(
     alloc: Global,
     line: Result<String, AllocError>,

@@ -1,5 +1,5 @@
-//! What a terminal shows next to an answer: how few other calls were open at an invocation, and
-//! which subcommand reports more.
+//! What a terminal shows after an answer: how few other calls were open at an invocation, and which
+//! subcommand reports more.
 #![tactic(auto)]
 
 mod average;

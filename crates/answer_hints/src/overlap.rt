@@ -4,7 +4,7 @@ ghost use Rattle.answer_hints.specs.Overlaps.{overlap_of};
 
 use events::Event;
 
-/// Returns how many other calls were open at the invocations among some events, in all.
+/// Returns how many other calls were open at the invocations among some events, added up.
 pub fn overlap_of(events: &[Event]) -> u64
     ensures { result ≡ overlap_of events.now }
 {

@@ -27,13 +27,13 @@ values_of (within least greatest) = 1
 values_of (among words) = 1
 values_of switch = 0
 
--- the values that are read where none is written
+-- the texts that are read as values if none is given
 abbrev pub missing_of : Choice → List Text
 missing_of (within least greatest) = []
 missing_of (among words) = []
 missing_of switch = codes "given" ∷ []
 
--- `--NAME VALUE`, or `--NAME`, which has to be there where it has no default
+-- `--NAME VALUE`, or `--NAME`; it is required if it has no default
 abbrev pub option_rule : Flag → Rule
 option_rule f = record (new_rule f.name) {
   long = Some f.name;
@@ -56,7 +56,7 @@ rules_for u = map option_rule u.flags ++ calls_rules u.takes_calls
 abbrev pub leaf : Text → List Rule → App
 leaf name rules = record { top = record (new_shape name) { rules = rules }; subs = [] }
 
--- the program: one of its subcommands has to be named
+-- the program: one of its subcommands is required
 abbrev pub table_app : Text → List Usage → App
 table_app name table = record {
   top = record (new_shape name) { subcommand_required = true; is_leaf = has_none table };

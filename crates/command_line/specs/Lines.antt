@@ -54,7 +54,7 @@ asked_by Replay = record { name = codes "replay"; numbers = []; calls = [] }
 asked_by (Drive asked) =
     record { name = codes "drive"; numbers = place_of asked.tree ∷ rows_then asked.rows (asked.limit ∷ []); calls = [] }
 
--- the words ask for this line, the program's name first
+-- the words ask for this line; the first word is the program's name
 abbrev pub IsLineOf : List Text → Line → Type 0
 IsLineOf words line = Asks bench_table (subcommand_of bench_app words) (asked_by line)
 
@@ -63,8 +63,8 @@ abbrev pub AreRowsWithin : Rows → Type 0
 AreRowsWithin rows = (rows.rows4 ≤ rows4_limit) × (rows.rows16 ≤ rows16_limit) × (rows.rows48 ≤ rows48_limit) × (1 ≤ rows.rows256)
     × (rows.rows256 ≤ rows256_limit)
 
--- each number of the line is within its limits, and the tree of a schedule is not the map under a lock; the numbers of `generate` have no
--- limits but those of their types
+-- each number of the line is within its limits, and the tree of a schedule is not the map under a
+-- lock; the numbers of `generate` have only the limits of their types
 abbrev pub IsWithinLimits : Line → Type 0
 IsWithinLimits (Check order) = ⊤
 IsWithinLimits (Judge budget workers) =
@@ -82,7 +82,7 @@ IsWithinLimits (Schedule asked) = (1 ≤ asked.depth) × (asked.depth ≤ depth_
 IsWithinLimits Replay = ⊤
 IsWithinLimits (Drive asked) = AreRowsWithin asked.rows × (1 ≤ asked.limit) × (asked.limit ≤ steps_limit)
 
--- the words are a name, `check` and texts of which each spells a number
+-- the words are a name, `check`, and texts that each spell a number
 abbrev pub IsCheck : List Text → List Text → Type 0
 IsCheck words calls = (name : Text) × (words ≡ name ∷ codes "check" ∷ calls) × All IsNumber calls
 
@@ -91,11 +91,12 @@ abbrev pub ChecksNumbers : List Text → Line → Type 0
 ChecksNumbers calls (Check order) = order.items ≡ map number_of calls
 ChecksNumbers calls other = ⊥
 
--- the words of an option: its flag and its value, and none where it is left out
+-- the words of an option: its flag and its value, and none if it is left out
 abbrev pub option_words : Text → Option Text → List Text
 option_words flag value = option_map_or (λ text. flag ∷ text ∷ []) value []
 
--- the words are a name, `judge` and these options of it, in either order, where the value of each spells a number within its limits
+-- the words are a name, `judge` and these options of it, in either order; the value of each option
+-- spells a number within its limits
 pub record IsJudge (words : List Text) (budget workers : Option Text) : Type 0 where
   pub name : Text
   pub options : List Text
@@ -107,7 +108,8 @@ pub record IsJudge (words : List Text) (budget workers : Option Text) : Type 0 w
   pub budget_within : IfSome budget (IsNumberWithin budget_limit)
   pub workers_within : IfSome workers (IsNumberWithin workers_limit)
 
--- the words are a name, `locate` and its budget, whose value spells a number within its limits
+-- the words are a name, `locate` and its budget; the budget's value spells a number within its
+-- limits
 pub record IsLocate (words : List Text) (budget : Option Text) : Type 0 where
   pub name : Text
   pub words_are : words ≡ name ∷ codes "locate" ∷ option_words (codes "--budget") budget
@@ -125,12 +127,12 @@ pub record IsDrive (words : List Text) (given : List Given) : Type 0 where
   pub words_are : words ≡ name ∷ codes "drive" ∷ words_of given
   pub options : AreOptionsOf drive_usage.flags given
 
--- the tree is the one that the value names, and optimistic where there is no value
+-- the tree is the one that the value names, and optimistic if there is no value
 abbrev pub NamesTree : Option Text → Tree → Type 0
 NamesTree None tree = tree ≡ Optimistic
 NamesTree (Some text) tree = name_of tree ≡ text
 
--- the number that the value of an option spells, or the default where it is left out
+-- the number that the value of an option spells, or the default if it is left out
 abbrev pub number_given : List Given → Text → ℕ → ℕ
 number_given given name default = option_map_or number_of (value_given given name) default
 

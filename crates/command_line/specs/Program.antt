@@ -37,7 +37,7 @@ judge_usage = search_usage (codes "judge")
 abbrev pub budget_usage : Text → Usage
 budget_usage name = record { name = name; flags = number_flag (codes "budget") 1 budget_limit budget_default ∷ []; takes_calls = false }
 
--- `--NAME`, which stands for 1, and for 0 where it is left out
+-- `--NAME`, whose number is 1 if it is given, and 0 if it is left out
 abbrev pub switch_flag : Text → Flag
 switch_flag name = record { name = name; values = switch; default = Some 0 }
 
@@ -72,7 +72,7 @@ page_usage = search_usage (codes "page")
 abbrev pub follow_usage : Usage
 follow_usage = budget_usage (codes "follow")
 
--- `--NAME N`, which may not be left out, with any number up to the greatest
+-- `--NAME N`, which is required, with any number up to the greatest
 abbrev pub required_flag : Text → ℕ → Flag
 required_flag name greatest = record { name = name; values = within 0 greatest; default = None }
 
@@ -88,7 +88,7 @@ generate_usage = record {
   takes_calls = false;
 }
 
--- `--strategy NAME`, and `pos` where it is left out
+-- `--strategy NAME`, and `pos` if it is left out
 abbrev pub strategy_flag : Flag
 strategy_flag = record {
   name = codes "strategy";
@@ -96,7 +96,7 @@ strategy_flag = record {
   default = Some (strategy_place Pos);
 }
 
--- `--tree NAME` with a schedule, and `optimistic` where it is left out
+-- `--tree NAME` with a schedule, and `optimistic` if it is left out
 abbrev pub scheduled_tree_flag : Flag
 scheduled_tree_flag = record {
   name = codes "tree";
@@ -126,7 +126,7 @@ schedule_usage = record {
 abbrev pub replay_usage : Usage
 replay_usage = record { name = codes "replay"; flags = []; takes_calls = false }
 
--- `--tree NAME`, and `optimistic` where it is left out
+-- `--tree NAME`, and `optimistic` if it is left out
 abbrev pub tree_flag : Flag
 tree_flag = record {
   name = codes "tree";

@@ -32,37 +32,37 @@ number_named name r = slice_index r.numbers.items (place_named name (flags_of r)
 abbrev pub IsDescribedBy : List Usage → Request → Type 0
 IsDescribedBy table r = usage_named r.subcommand.now.name.now table ≡ Some (usage_of r.subcommand.now)
 
--- the text stands for the number: it spells the number, or is the word at this place, the first that
--- is this text; any text that is read of a switch stands for 1
+-- the text stands for the number: it spells the number, or the first word that is this text has
+-- this place; any text of a switch stands for 1
 abbrev pub StandsFor : Choice → Text → ℕ → Type 0
 StandsFor (within least greatest) text n =
     IsSpelled text × (number_of text < 2 ^ 64) × (n ≡ number_of text)
 StandsFor (among words) text n = position (λ word. bytes_eq word text) words ≡ Some n
 StandsFor switch text n = n ≡ 1
 
--- the number is the one that the value stands for, or the default where there is no value
+-- the number is the one that the value stands for, or the default if there is no value
 abbrev pub IsReadFrom : Flag → Option Text → ℕ → Type 0
 IsReadFrom f None n = f.default ≡ Some n
 IsReadFrom f (Some text) n = StandsFor f.values text n
 
--- and is within the limits of the option
+-- the number is read from the value, and is within the limits of the option
 pub record IsNumberOf (f : Flag) (value : Option Text) (n : ℕ) : Type 0 where
   pub read : IsReadFrom f value n
   pub least : least_of f.values ≤ n
   pub greatest : n ≤ greatest_of f.values
 
--- so it is of the number of each option, where each has its value
+-- the numbers are those of the options, in their order, with these values
 abbrev pub AreNumbersOf : List Flag → (Text → Option Text) → List ℕ → Type 0
 AreNumbersOf [] value [] = ⊤
 AreNumbersOf [] value (n ∷ ns) = ⊥
 AreNumbersOf (f ∷ fs) value [] = ⊥
 AreNumbersOf (f ∷ fs) value (n ∷ ns) = IsNumberOf f (value f.name) n × AreNumbersOf fs value ns
 
--- the values of an argument, none where it was not used
+-- the values of an argument, and none if it was not used
 abbrev pub values_of : Text → List Row → List Text
 values_of id rows = unwrap_or (all_of id rows) []
 
--- the calls are the numbers that these texts spell, and none where the subcommand takes none
+-- the calls are the numbers that these texts spell, and none if the subcommand takes none
 abbrev pub AreCallsOf : Bool → List Text → List ℕ → Type 0
 AreCallsOf true texts calls = All IsNumber texts × (calls ≡ map number_of texts)
 AreCallsOf false texts calls = calls ≡ []
@@ -78,13 +78,13 @@ pub record Asks (table : List Usage) (met : Option (Text × List Row)) (asked : 
 
 -- ---- values that `clap` does not check
 
--- the value is one of the words of its option, where that takes some words
+-- the value is one of the words of its option, if the option takes words
 abbrev pub is_named : Choice → Option Text → Bool
 is_named (within least greatest) value = true
 is_named (among words) value = option_map_or (λ text. is_among text words) value true
 is_named switch value = true
 
--- so it is of each option
+-- the value of each option is one of its words, if the option takes words
 abbrev pub are_named : List Flag → (Text → Option Text) → Bool
 are_named flags value = list_all (λ f. is_named f.values (value f.name)) flags
 
@@ -93,7 +93,7 @@ abbrev pub has_named : List Usage → Option (Text × List Row) → Bool
 has_named table met = option_map_or (λ m. option_map_or (λ u.
     are_named u.flags (λ name. first_of name m.1)) (usage_named m.0 table) true) met true
 
--- a subcommand was met, and asks for something where its values are words of their options
+-- a subcommand was met, and asks for something if its values are words of their options
 pub record Meets (table : List Usage) (met : Option (Text × List Row)) : Type 0 where
   pub usage : Usage
   pub rows : List Row
@@ -117,8 +117,8 @@ AreWithinFrom i [] ns = ⊤
 AreWithinFrom i (f ∷ fs) ns = (i < length ns) × (least_of f.values ≤ slice_index ns i)
     × (slice_index ns i ≤ greatest_of f.values) × AreWithinFrom (suc i) fs ns
 
--- there is a number within its limits for each option and no other, and there are calls only where
--- the subcommand takes them
+-- there is a number within its limits for each option and no other, and there are calls only if the
+-- subcommand takes them
 pub record Fits (u : Usage) (asked : Asked) : Type 0 where
   pub all : asked.numbers ≡ numbers_from 0 u.flags asked.numbers
   pub within : AreWithinFrom 0 u.flags asked.numbers

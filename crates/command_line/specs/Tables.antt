@@ -1,5 +1,5 @@
--- Tables of subcommands: the name of each, its options with their values and defaults, and whether it
--- takes the numbers of calls.
+-- Tables of subcommands: the name of each, its options with their values and defaults, and whether
+-- it takes the numbers of calls.
 use Rattle.std.specs.Prelude.{◌-◌, ◌==◌, ℕ, Bool, true, false, not, ◌&&◌, nat_le, length, List, [], ◌∷◌, Option, map, codes, find}
 use Rattle.std.specs.List.{list_all, list_any, position_or_len}
 use Rattle.std.specs.Option.{option_map_or}
@@ -13,9 +13,9 @@ use Rattle.command_line.specs.declared.table.ValueOption.{ValueOption}
 use Rattle.command_line.specs.declared.table.Values.{Values}
 use Rattle.command_line.specs.declared.table.Values.TheVariants.{Within, Among, Switch}
 
--- what the value of an option may be, and the number that it stands for: a number from the least to
--- the greatest, or one of some words, which stands for its place among them; a switch has no value,
--- and stands for 1
+-- the values that an option may have, and the numbers that they stand for: a number from the least
+-- to the greatest, or one of some words, which stands for its place among them; a switch has no
+-- value, and its number is 1 if it is given
 pub data Choice : Type 0 where
   within : ℕ → ℕ → Choice
   among : List Text → Choice
@@ -36,8 +36,8 @@ greatest_of switch = 1
 abbrev pub is_among : Text → List Text → Bool
 is_among text words = list_any (λ word. bytes_eq word text) words
 
--- an option `--NAME VALUE`, or `--NAME` for a switch, with the number that is read where it is left
--- out; one with no default may not be left out
+-- an option `--NAME VALUE`, or `--NAME` for a switch, with the number that is read if it is left
+-- out; an option without a default is required
 pub record Flag : Type 0 where
   pub name : Text
   pub values : Choice
@@ -73,7 +73,7 @@ usage_named name table = find (λ u. bytes_eq u.name name) table
 abbrev pub flag_named : Text → List Flag → Option Flag
 flag_named name flags = find (λ f. bytes_eq f.name name) flags
 
--- its place, and the number of options where none is of this name
+-- its place, or the number of options if none has this name
 abbrev pub place_named : Text → List Flag → ℕ
 place_named name flags = position_or_len (λ f. bytes_eq f.name name) flags
 
@@ -90,29 +90,29 @@ abbrev pub is_no_flag : Text → Bool
 is_no_flag [] = true
 is_no_flag (x ∷ xs) = not (x == 45)
 
--- a `u64` holds the numbers, or there is a word, and none that may be taken for a flag
+-- a `u64` can represent the numbers, or there is a word, and none that may be taken for a flag
 abbrev pub is_choice : Choice → Bool
 is_choice (within least greatest) = nat_le greatest u64_limit
 is_choice (among words) = not (is_empty words) && list_all is_no_flag words
 is_choice switch = true
 
--- so it is of the option's values, and the default is within their limits
+-- the option may have its values (`is_choice`), and the default is within their limits
 abbrev pub has_limits : Flag → Bool
 has_limits f = is_choice f.values
     && option_map_or (λ n. nat_le (least_of f.values) n && nat_le n (greatest_of f.values)) f.default
     true
 
--- so it is of each option
+-- each option has a name of its own, and limits
 abbrev pub are_flags : List Flag → Bool
 are_flags [] = true
 are_flags (f ∷ fs) = is_flag_name f.name fs && has_limits f && are_flags fs
 
--- and of the options of each subcommand, of which none is named `help`
+-- no subcommand has the name `help`, and each has such options
 abbrev pub are_usages : List Usage → Bool
 are_usages [] = true
 are_usages (u ∷ us) = not (bytes_eq u.name (codes "help")) && are_flags u.flags && are_usages us
 
--- no subcommand is there
+-- there is no subcommand
 abbrev pub has_none : List Usage → Bool
 has_none [] = true
 has_none (u ∷ us) = false

@@ -46,8 +46,8 @@ AreOptionsOf flags (g ∷ gs) =
 abbrev pub has_required : List Flag → List Given → Bool
 has_required flags given = list_all (λ f. is_some f.default || has_option f.name given) flags
 
--- the words are a name, the name of a subcommand, options of it in any order, and calls where it
--- takes them
+-- the words are a name, the name of a subcommand, options of it in any order, and calls if it takes
+-- them
 pub record IsUse (table : List Usage) (words : List Text) (usage : Usage) (given : List Given) (calls : List Text) : Type 0 where
   pub program : Text
   pub words_are : words ≡ program ∷ usage.name ∷ (option_words given ++ calls)

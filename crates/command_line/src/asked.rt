@@ -6,7 +6,7 @@ use crate::table::Subcommand;
 pub(crate) struct Request<'a> {
     /// The subcommand.
     pub(crate) subcommand: &'a Subcommand<'a>,
-    /// The number of each of its options, in their order.
+    /// The number of each option, in the order of the subcommand's options.
     pub(crate) numbers: Vec<u64>,
     /// The numbers of its calls.
     pub(crate) calls: Vec<u32>,

@@ -11,7 +11,7 @@ use clap::builder::ValueParser;
 use clap::{Arg, ArgAction, Command};
 use std::alloc::{AllocError, Global};
 
-/// The command of a program with these subcommands.
+/// Returns the command of a program with these subcommands.
 pub(crate) fn command_of<'a>(
     alloc: Global,
     name: &'a str,
@@ -77,7 +77,7 @@ fn option_argument<'a>(alloc: Global, option: &'a ValueOption<'a>) -> Arg<'a>
         .value_parser(parser_for(option.values))
 }
 
-// What stands for the value in help.
+// Returns the name of the value in help texts.
 fn value_name(values: Values<'_>) -> &'static str {
     match values {
         Values::Within(..) => "N",
@@ -86,7 +86,7 @@ fn value_name(values: Values<'_>) -> &'static str {
     }
 }
 
-// How many values it takes.
+// Returns how many values the option takes.
 fn values_of(values: Values<'_>) -> usize
     ensures { result ≡ values_of (choice_of values.entry) }
 {
@@ -96,7 +96,7 @@ fn values_of(values: Values<'_>) -> usize
     }
 }
 
-// The values that are read where none is written.
+// Returns the texts that are read as values if none is given.
 fn missing_of(values: Values<'_>) -> &'static [&'static str]
     ensures { texts result.now ≡ missing_of (choice_of values.entry) }
 {
@@ -106,8 +106,9 @@ fn missing_of(values: Values<'_>) -> &'static [&'static str]
     }
 }
 
-// What `clap` is to check of a value. That it is one of some words is checked after it: the parser of
-// `clap` for names holds a reference to them, and so a command with one has no statement of its own.
+// Returns what `clap` checks of a value. Whether the value is one of some words is checked later.
+// The parser of `clap` for names holds a reference to them, so a command with that parser has no
+// statement of its own.
 fn parser_for<'a>(values: Values<'_>) -> ValueParser<'a>
     ensures { result ≡ parser_for (choice_of values.entry) }
 {

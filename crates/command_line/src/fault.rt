@@ -9,17 +9,18 @@ use clap::error::ErrorKind;
 use std::alloc::{AllocError, AllocFailed, Global};
 use std::fmt;
 
-/// Why the words ask for nothing that can be done.
+/// Why `read_line` returns no line.
 #[derive(Drop)]
 pub enum LineFault {
-    /// The words are no line of the program, or ask for help. The text is what the user is shown.
+    /// The words are not a line of the program, or they ask for help. The text is printed for the
+    /// user.
     Line(String),
-    /// Memory was wanting.
+    /// Memory ran out.
     Memory,
 }
 
 impl LineFault {
-    /// The fault for an error of `clap`, whose text it keeps.
+    /// Returns the fault for an error of `clap`, with the text of that error.
     pub(crate) fn of(alloc: Global, error: &Error) -> LineFault
         ensures { kind_of error.now ≡ ErrorKind.OutOfMemory → result ≡ LineFault.Memory }
     {
@@ -32,7 +33,7 @@ impl LineFault {
         }
     }
 
-    /// The fault for a value that is none of the words of its option.
+    /// Returns the fault for a value that is not one of the words of its option.
     pub(crate) fn of_unknown_word<'o>(
         alloc: Global,
         option: &'o ValueOption<'o>,
@@ -45,14 +46,14 @@ impl LineFault {
     }
 }
 
-// A value that is none of the words of its option.
+// A value that is not one of the words of its option.
 #[derive(Clone, Copy)]
 struct UnknownWord<'o, 'v> {
     option: &'o ValueOption<'o>,
     value: &'v str,
 }
 
-// As `clap` words it.
+// Writes the text for such a value, in the words of `clap`.
 impl fmt::Display for UnknownWord<'_, '_> {
     fn fmt<W: fmt::Write>(&self, f: &mut fmt::Formatter<W>) -> fmt::Result {
         let name = self.option.name;
@@ -65,7 +66,7 @@ impl fmt::Display for UnknownWord<'_, '_> {
     }
 }
 
-// The words that the value may be, in a line of their own.
+// Writes the words that the value may be, on a line of their own.
 fn write_words<W: fmt::Write>(f: &mut fmt::Formatter<W>, words: &[&str]) -> fmt::Result {
     f.write_str("\n  [possible values: ")?;
     let mut before = "";
@@ -76,7 +77,7 @@ fn write_words<W: fmt::Write>(f: &mut fmt::Formatter<W>, words: &[&str]) -> fmt:
     f.write_str("]")
 }
 
-// A word, and what stands before it.
+// Writes a word, after another text.
 fn write_behind<W: fmt::Write>(f: &mut fmt::Formatter<W>, before: &str, word: &str) -> fmt::Result {
     f.write_str(before)?;
     f.write_str(word)

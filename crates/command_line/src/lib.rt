@@ -1,8 +1,8 @@
-//! The command line of the program: its words in, what they ask for out.
+//! The command line of the program: from its words to what they ask for.
 //!
-//! Which subcommands and arguments there are stands in one table, and what each line of words asks
-//! for in `specs/`. The words are read by `clap`, whose texts for help and for faults are passed on
-//! as they are. One fault alone is found after it: a value that is none of the words of its option.
+//! One table contains all subcommands and options. `specs/` says what each line of words asks for.
+//! `clap` reads the words, and its texts for help and for faults are passed on unchanged. Only one
+//! fault is found after `clap` has read them: a value that is not one of the words of its option.
 #![tactic(auto)]
 
 mod asked;

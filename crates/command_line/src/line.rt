@@ -7,31 +7,32 @@ pub enum Line {
     Check {
         order: Vec<u32>,
     },
-    /// It asks whether the history on standard input is linearizable, where `workers` workers
-    /// search the segments side by side, at most `budget` configurations of each. The budget is
-    /// from 1 to 1,000,000, and the workers from 1 to 64.
+    /// It asks whether the history on standard input is linearizable. `workers` threads search the
+    /// segments in parallel. A search meets at most `budget` configurations of a segment. The
+    /// budget is from 1 to 1,000,000, and the number of workers from 1 to 64.
     Judge {
         budget: u32,
         workers: u32,
     },
-    /// It asks at which event the history on standard input stops being linearizable. A verdict
-    /// searches at most `budget` configurations of each segment, and a follower reaches at most
-    /// `budget` positions in a search at one key. The limits are those of `Judge`. With `order` it
-    /// also asks for an order of the calls before that event.
+    /// It asks at which event the history on standard input stops being linearizable. A judge
+    /// searches at most `budget` configurations of each segment. A monitor reaches at most `budget`
+    /// positions in a search. The limits are those of `Judge`. With `order` it also asks for an
+    /// order of the calls before that event.
     Locate {
         budget: u32,
         order: bool,
     },
-    /// It asks for few calls of the history on standard input that are not linearizable, where one
-    /// thread judges it and searches at most `budget` configurations of each segment, and of some
-    /// of its calls, within the limits of `Judge`.
+    /// It asks for a few calls of the history on standard input that are not linearizable. One
+    /// thread judges the history. It searches at most `budget` configurations of each segment, and
+    /// of some of its calls. The limits are those of `Judge`.
     Explain {
         budget: u32,
     },
-    /// It asks for a picture of the verdict that `Judge` asks for, within the same limits: its part
-    /// around an event, with room for so many calls. An event that the history has not names none,
-    /// and it may be one at most that no history has, 8,192. There is room for 4,096 calls at most,
-    /// and 0 asks for the whole picture; 4,097 names no number.
+    /// It asks for a picture of the verdict that `Judge` asks for, within the same limits. The
+    /// picture shows the part around the event `around`, with room for `calls` calls. If the
+    /// history does not have that event, no event is meant. `around` is at most 8,192, and no
+    /// history has an event of that number. `calls` is at most 4,097. The number 0 asks for the
+    /// whole picture, and 4,097 means that no number is given.
     Draw {
         budget: u32,
         workers: u32,
@@ -43,14 +44,14 @@ pub enum Line {
         budget: u32,
         workers: u32,
     },
-    /// It asks whether the stream of events on standard input is linearizable, judged as it comes:
-    /// a search meets at most `budget` configurations of a group, within the limits of `Judge`.
+    /// It asks whether the stream of events on standard input is linearizable, judged as it comes.
+    /// A search meets at most `budget` configurations of a group. The limits are those of `Judge`.
     Follow {
         budget: u32,
     },
-    /// It asks for the text of the plan that is drawn from this seed: so many processes, with so
-    /// many calls each. Of a hundred calls `get`, `insert`, `remove` and `scan` are of these kinds,
-    /// and their keys are from `lo` to `hi`.
+    /// It asks for the text of the plan that is drawn from this seed. The plan has `processes`
+    /// processes with `calls` calls each. Of a hundred calls, `get`, `insert`, `remove` and `scan`
+    /// are of these kinds. Their keys are from `lo` to `hi`.
     Generate {
         seed: u64,
         processes: u32,
@@ -62,7 +63,7 @@ pub enum Line {
         lo: u32,
         hi: u32,
     },
-    /// It asks for a replay of the plan on standard input, whose schedule is drawn.
+    /// It asks for a replay of the plan on standard input, with a schedule that is drawn.
     Schedule(ScheduleLine),
     /// It asks for the history that the run of the replay on standard input records.
     Replay,
@@ -70,30 +71,31 @@ pub enum Line {
     Drive(DriveLine),
 }
 
-/// From what a schedule is drawn, and of which tree it is, which is not `Tree::Locked`.
+/// How a schedule is drawn, and for which tree. The tree is not `Tree::Locked`.
 #[derive(Clone, Copy)]
 pub struct ScheduleLine {
     pub seed: u64,
     pub strategy: Strategy,
-    /// One more than the turns at which `Strategy::Pct` lowers a priority, 1 to 64.
+    /// One more than the number of turns at which `Strategy::Pct` lowers a priority, from 1 to 64.
     pub depth: u32,
     pub tree: Tree,
     pub rows: Rows,
-    /// The most turns that the schedule has, 1 to 1,000,000.
+    /// The most turns that the schedule has, from 1 to 1,000,000.
     pub limit: u32,
 }
 
-/// What a plan is done at. At `Tree::Locked` the rows and the limit mean nothing.
+/// The map at which a plan is done. For `Tree::Locked` the rows and the limit mean nothing.
 #[derive(Clone, Copy)]
 pub struct DriveLine {
     pub tree: Tree,
     pub rows: Rows,
-    /// After so many steps, 1 to 1,000,000, a call that has no answer is left pending.
+    /// The number of steps after which a call without an answer is left pending, from 1 to
+    /// 1,000,000.
     pub limit: u32,
 }
 
-/// The rows of a tree's table, by how many children they have room for: at most 4,096, 1,024, 256
-/// and 64, and 1 at least of the last.
+/// The numbers of rows in a tree's table, by how many children the rows have room for. They are at
+/// most 4,096, 1,024, 256 and 64, and the last is at least 1.
 #[derive(Clone, Copy)]
 pub struct Rows {
     pub rows4: u32,
@@ -102,7 +104,7 @@ pub struct Rows {
     pub rows256: u32,
 }
 
-/// What a drive does its calls at.
+/// The map at which a drive does its calls.
 #[derive(Clone, Copy)]
 pub enum Tree {
     /// It is a sorted map under one lock.
@@ -128,6 +130,6 @@ pub enum Strategy {
     Walk,
     /// Priorities choose. They are drawn again for steps that race.
     Pos,
-    /// Priorities choose. They change at few turns.
+    /// Priorities choose. They change at a few turns.
     Pct,
 }

@@ -4,11 +4,11 @@ use crate::table::{Subcommand, ValueOption, Values};
 /// The program's name in its help.
 pub(crate) const NAME: &str = "bench";
 
-/// What help says of the program.
+/// The description of the program in its help.
 pub(crate) const ABOUT: &str =
     "Tests whether recorded histories of a concurrent ordered map are linearizable";
 
-// An option with a default, which its help shows with the least number and the greatest.
+// An option with a default. Its help shows the default, the least number and the greatest.
 macro_rules! number_option {
     ($name:literal, $help:literal, $least:literal to $greatest:literal, default $default:literal) => {
         ValueOption {
@@ -20,7 +20,7 @@ macro_rules! number_option {
     };
 }
 
-// An option that may not be left out, with any number that a `u32` holds.
+// A required option. It takes a number from 0 to the greatest, which is by default that of a `u32`.
 macro_rules! required_option {
     ($name:literal, $help:literal) => {
         required_option!($name, $help, u32::MAX as u64)
@@ -35,14 +35,15 @@ macro_rules! required_option {
     };
 }
 
-// The budget of a search.
+// The option for the budget of a search.
 macro_rules! budget_option {
     () => {
         number_option!("budget", "Most states of one search", 1 to 1000000, default 100000)
     };
 }
 
-// How many rows a tree has of each kind, between the options before the semicolon and those after it.
+// The options for the number of rows of each kind. The options before the semicolon come before
+// them, and the others after them.
 macro_rules! tree_options {
     ($($before:expr),* ; $($after:expr),*) => {
         &[
@@ -56,7 +57,7 @@ macro_rules! tree_options {
     };
 }
 
-// The options of a search, and others after them.
+// The options of a search, and other options after them.
 macro_rules! search_options {
     ($($other:expr),*) => {
         &[

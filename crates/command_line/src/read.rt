@@ -22,45 +22,47 @@ use crate::program::{ABOUT, NAME, SUBCOMMANDS};
 use crate::request::read_request;
 use std::alloc::Global;
 
-/// Returns what `words` ask for, the program's name first.
+/// Returns what `words` ask for. The first word is the program's name.
 ///
-/// The fault is `LineFault::Line`, with the text of `clap`, if the words are no line of the program
-/// or ask for help. It is `LineFault::Memory` if an allocation was refused. `clap` does not check
-/// whether a value is one of the words that its option takes. The text for such a value is worded
-/// as `clap` does it. The time grows with the number of words and with their length.
+/// The fault is `LineFault::Line`, with the text of `clap`, if the words are not a line of the
+/// program or ask for help. It is `LineFault::Memory` if an allocation was refused. `clap` does not
+/// check whether a value is one of the words that its option takes. The text for a wrong word is
+/// worded as `clap` does it. The time grows with the number of words and with their length.
 pub fn read_line<'a>(alloc: Global, words: &'a [&'a str]) -> Result<Line, LineFault>
     ensures line { IfOk result (IsLineOf (texts words.entry.now)) }
     ensures limits { IfOk result IsWithinLimits }
     ensures accepted { OnOk result (IsAccepted (texts words.entry.now)) }
     ensures refused { IfErr result (IsFaultAt (texts words.entry.now)) }
-    // The same by the test that `clap` states for words that a command takes.
+    // If `clap` takes the words by its own test, and each value is one of its option's words, only
+    // memory can run out.
     ensures taken { takes bench_app (texts words.entry.now) ≡ true
         → HasNamed (texts words.entry.now) → IfErr result (λ e. e ≡ LineFault.Memory) }
-    // A subcommand, its options that take a value, in any order, and numbers of calls are always a
-    // line.
+    // Words of a subcommand, its options with values in any order, and numbers of calls are always
+    // a line.
     ensures given { (usage : Usage) (given : List Given) (calls : List Text)
         → IsUse bench_table (texts words.entry.now) usage given calls
         → MatchResult result (λ line. Gives usage given calls (asked_by line))
         (λ e. e ≡ LineFault.Memory) }
-    // So `check` and numbers are.
+    // `check` and numbers are always a line.
     ensures check { (calls : List (List ℕ)) → IsCheck (texts words.entry.now) calls
         → MatchResult result (ChecksNumbers calls) (λ e. e ≡ LineFault.Memory) }
-    // And `judge` is, with or without either option, in either order.
+    // `judge` is always a line, with or without either option, in either order.
     ensures judge { (budget workers : Option (List ℕ))
         → IsJudge (texts words.entry.now) budget workers
         → MatchResult result
         (λ line. line ≡ Line.Judge (option_map_or number_of budget budget_default)
         (option_map_or number_of workers workers_default))
         (λ e. e ≡ LineFault.Memory) }
-    // And `locate` is, with or without its budget. Without `--order` it asks for no order.
+    // `locate` is always a line, with or without its budget. Without `--order` it asks for no
+    // order.
     ensures locate { (budget : Option (List ℕ)) → IsLocate (texts words.entry.now) budget
         → MatchResult result
         (λ line. line ≡ Line.Locate (option_map_or number_of budget budget_default) false)
         (λ e. e ≡ LineFault.Memory) }
-    // And `draw` is, with any of its options in any order.
+    // `draw` is always a line, with any of its options in any order.
     ensures draw { (given : List Given) → IsDraw (texts words.entry.now) given
         → MatchResult result (Draws given) (λ e. e ≡ LineFault.Memory) }
-    // And `drive` is, with any of its options in any order.
+    // `drive` is always a line, with any of its options in any order.
     ensures drive { (given : List Given) → IsDrive (texts words.entry.now) given
         → MatchResult result (Drives given) (λ e. e ≡ LineFault.Memory) }
 {
@@ -70,7 +72,7 @@ pub fn read_line<'a>(alloc: Global, words: &'a [&'a str]) -> Result<Line, LineFa
     }
 }
 
-// The line of a request.
+// Returns the line of a request.
 fn line_of(request: Request<'_>) -> Line
     requires askable { IsAskable bench_table (asked_of request) }
     requires described { AreFlagsOf bench_table request.subcommand.now.name.now (flags_of request) }
@@ -95,7 +97,7 @@ fn line_of(request: Request<'_>) -> Line
     }
 }
 
-// The line of `judge`.
+// Returns the line of `judge`.
 fn judge_line(request: &Request<'_>) -> Line
     requires { IsRequestOf judge_usage request.now }
     ensures same { asked_by result ≡ asked_of request.now }
@@ -107,7 +109,7 @@ fn judge_line(request: &Request<'_>) -> Line
     }
 }
 
-// The line of `locate`.
+// Returns the line of `locate`.
 fn locate_line(request: &Request<'_>) -> Line
     requires { IsRequestOf locate_usage request.now }
     ensures same { asked_by result ≡ asked_of request.now }
@@ -119,7 +121,7 @@ fn locate_line(request: &Request<'_>) -> Line
     }
 }
 
-// Whether a switch with this number is given.
+// Returns whether the switch with this number is given.
 fn is_given(number: u32) -> bool
     requires { number ≤ 1 }
     ensures { switch_number result ≡ number }
@@ -131,7 +133,7 @@ fn is_given(number: u32) -> bool
     }
 }
 
-// The line of `explain`.
+// Returns the line of `explain`.
 fn explain_line(request: &Request<'_>) -> Line
     requires { IsRequestOf explain_usage request.now }
     ensures same { asked_by result ≡ asked_of request.now }
@@ -142,7 +144,7 @@ fn explain_line(request: &Request<'_>) -> Line
     }
 }
 
-// The line of `draw`.
+// Returns the line of `draw`.
 fn draw_line(request: &Request<'_>) -> Line
     requires { IsRequestOf draw_usage request.now }
     ensures same { asked_by result ≡ asked_of request.now }
@@ -156,7 +158,7 @@ fn draw_line(request: &Request<'_>) -> Line
     }
 }
 
-// The line of `page`.
+// Returns the line of `page`.
 fn page_line(request: &Request<'_>) -> Line
     requires { IsRequestOf page_usage request.now }
     ensures same { asked_by result ≡ asked_of request.now }
@@ -168,7 +170,7 @@ fn page_line(request: &Request<'_>) -> Line
     }
 }
 
-// The line of `follow`.
+// Returns the line of `follow`.
 fn follow_line(request: &Request<'_>) -> Line
     requires { IsRequestOf follow_usage request.now }
     ensures same { asked_by result ≡ asked_of request.now }
@@ -179,7 +181,7 @@ fn follow_line(request: &Request<'_>) -> Line
     }
 }
 
-// The line of `generate`.
+// Returns the line of `generate`.
 fn generate_line(request: &Request<'_>) -> Line
     requires { IsRequestOf generate_usage request.now }
     ensures same { asked_by result ≡ asked_of request.now }
@@ -198,7 +200,7 @@ fn generate_line(request: &Request<'_>) -> Line
     }
 }
 
-// The line of `schedule`.
+// Returns the line of `schedule`.
 fn schedule_line(request: &Request<'_>) -> Line
     requires { IsRequestOf schedule_usage request.now }
     ensures same { asked_by result ≡ asked_of request.now }
@@ -220,7 +222,7 @@ fn schedule_line(request: &Request<'_>) -> Line
     })
 }
 
-// The strategy at this place among those that the words may name.
+// Returns the strategy at this place in the list of words for strategies.
 fn strategy_at(place: u32) -> Strategy
     requires { place < 3 }
     ensures { strategy_place result ≡ place }
@@ -233,7 +235,7 @@ fn strategy_at(place: u32) -> Strategy
     }
 }
 
-// The tree at this place among those that a schedule runs.
+// Returns the tree at this place in the list of those that a schedule runs.
 fn scheduled_tree_at(place: u32) -> Tree
     requires { place < 6 }
     ensures { scheduled_place_of result ≡ place }
@@ -249,7 +251,7 @@ fn scheduled_tree_at(place: u32) -> Tree
     }
 }
 
-// The line of `drive`.
+// Returns the line of `drive`.
 fn drive_line(request: &Request<'_>) -> Line
     requires { IsRequestOf drive_usage request.now }
     ensures same { asked_by result ≡ asked_of request.now }
@@ -267,7 +269,7 @@ fn drive_line(request: &Request<'_>) -> Line
     })
 }
 
-// The tree at this place among those that the words may name.
+// Returns the tree at this place in the list of words for trees.
 fn tree_at(place: u32) -> Tree
     requires { place < 7 }
     ensures { place_of result ≡ place }

@@ -22,7 +22,7 @@ use clap::ArgMatches;
 use std::alloc::{AllocError, Global};
 
 impl Request<'_> {
-    /// The number of the option of this name.
+    /// Returns the number of the option of this name.
     pub(crate) fn number(&self, name: &str) -> u32
         requires there { place_named name.now (flags_of self.now) < length self.now.numbers.items }
         requires fits { number_named name.now self.now < 2 ^ 32 }
@@ -31,7 +31,7 @@ impl Request<'_> {
         self.wide_number(name) as u32
     }
 
-    /// The number of the option of this name, which may be past what a `u32` holds.
+    /// Returns the number of the option of this name. It may be too large for a `u32`.
     pub(crate) fn wide_number(&self, name: &str) -> u64
         requires { place_named name.now (flags_of self.now) < length self.now.numbers.items }
         ensures { result ≡ number_named name.entry.now self.now }
@@ -40,7 +40,7 @@ impl Request<'_> {
     }
 }
 
-/// What `words` ask for by a table of subcommands, the program's name first.
+/// Returns what `words` ask for by a table of subcommands. The first word is the program's name.
 pub(crate) fn read_request<'a>(
     alloc: Global,
     name: &'a str,
@@ -65,7 +65,8 @@ pub(crate) fn read_request<'a>(
         (subcommand_of (table_app name.entry.now (map usage_of table.entry.now))
         (texts words.entry.now)) ≡ true
         → IfErr result (λ e. e ≡ LineFault.Memory) }
-    // The same by the test that `clap` states for words that a command takes.
+    // If `clap` takes the words by its own test, and each value is one of its option's words, only
+    // memory can run out.
     ensures taken { takes (table_app name.entry.now (map usage_of table.entry.now))
         (texts words.entry.now) ≡ true
         → has_named (map usage_of table.entry.now)
@@ -84,7 +85,7 @@ pub(crate) fn read_request<'a>(
     }
 }
 
-// What the subcommand that was met asks for.
+// Returns what the subcommand in these matches asks for.
 fn request_of<'a>(
     alloc: Global,
     table: &'a [Subcommand<'a>],
@@ -112,7 +113,7 @@ fn request_of<'a>(
     })
 }
 
-// The first option whose value is none of its words.
+// Returns the first option whose value is not one of its words.
 fn unknown_option<'a>(
     matches: &ArgMatches<'_>,
     options: &'a [ValueOption<'a>],
@@ -128,7 +129,7 @@ fn unknown_option<'a>(
     None
 }
 
-// Whether the value is one of the words, where it has to be.
+// Returns whether the value is one of the words, if the option takes words.
 fn is_named(values: Values<'_>, value: Option<&str>) -> bool
     ensures { result ≡ is_named (choice_of values.entry) (option_map (λ text. text.now) value.entry) }
 {
@@ -138,35 +139,36 @@ fn is_named(values: Values<'_>, value: Option<&str>) -> bool
     }
 }
 
-// Whether the text is one of the words.
+// Returns whether the text is one of the words.
 fn is_among(text: &str, words: &[&str]) -> bool
     ensures { result ≡ list_any (λ word. bytes_eq word.now text.now) words.now }
 {
     words.iter().any(|word| *word == text)
 }
 
-// The place of a text among words, the first where it is several times there.
+// Returns the first place at which the text is among the words.
 fn place_of(text: &str, words: &[&str]) -> Option<usize>
     ensures { result ≡ position (λ word. bytes_eq word.now text.now) words.now }
 {
     words.iter().position(|word| *word == text)
 }
 
-// The place of the option of this name, the first where it is several times there, and behind them where it is not.
+// Returns the first place of an option of this name. If there is none, returns how many options
+// there are.
 fn place_of_option(options: &[ValueOption<'_>], name: &str) -> usize
     ensures { result ≡ place_named name.now (map flag_of options.now) }
 {
     first_named(options, name).unwrap_or(options.len())
 }
 
-// The place of the first option of this name.
+// Returns the place of the first option of this name.
 fn first_named(options: &[ValueOption<'_>], name: &str) -> Option<usize>
     ensures { result ≡ position (λ option. bytes_eq option.name.now name.now) options.now }
 {
     options.iter().position(|option| option.name == name)
 }
 
-// The subcommand of this name.
+// Returns the subcommand of this name.
 fn subcommand_named<'a>(table: &'a [Subcommand<'a>], name: &str) -> &'a Subcommand<'a>
     requires { is_some (usage_named name.now (map usage_of table.now)) ≡ true }
     ensures { usage_named name.now (map usage_of table.entry.now) ≡ Some (usage_of result.now) }
@@ -179,7 +181,7 @@ fn subcommand_named<'a>(table: &'a [Subcommand<'a>], name: &str) -> &'a Subcomma
     unreachable!()
 }
 
-// The number of each option, in their order.
+// Returns the number of each option, in the order of the options.
 fn numbers_of_options(
     alloc: Global,
     matches: &ArgMatches<'_>,
@@ -197,7 +199,8 @@ fn numbers_of_options(
     Ok(numbers)
 }
 
-// The number that the value of an option stands for, or its default where it was left out.
+// Returns the number that the value of an option stands for, or the default if the option is left
+// out.
 fn number_of_option(matches: &ArgMatches<'_>, option: &ValueOption<'_>) -> u64
     requires { (n : ℕ) × IsNumberOf (flag_of option.now)
         (first_value (found_of matches.now) option.now.name.now) n }
@@ -210,7 +213,7 @@ fn number_of_option(matches: &ArgMatches<'_>, option: &ValueOption<'_>) -> u64
     }
 }
 
-// The number that a value stands for.
+// Returns the number that a value stands for.
 fn number_of_value(values: Values<'_>, text: &str) -> u64
     requires { (n : ℕ) × StandsFor (choice_of values) text.now n }
     ensures { StandsFor (choice_of values.entry) text.now result }
@@ -222,7 +225,7 @@ fn number_of_value(values: Values<'_>, text: &str) -> u64
     }
 }
 
-// The numbers of the calls, where the subcommand takes them.
+// Returns the numbers of the calls, if the subcommand takes them.
 fn calls_of(
     alloc: Global,
     matches: &ArgMatches<'_>,
@@ -239,7 +242,7 @@ fn calls_of(
     Ok(Vec::new(alloc))
 }
 
-// The numbers that the words spell.
+// Returns the numbers that the words spell.
 fn numbers_of(alloc: Global, words: &[&str]) -> Result<Vec<u32>, AllocError>
     requires { All IsNumber (texts words.now) }
     ensures { IfOk result (λ v. v.items ≡ map number_of (texts words.now)) }

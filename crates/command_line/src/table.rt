@@ -1,13 +1,13 @@
 // Tables of subcommands and their options.
 
-/// What the value of an option may be, and the number that it stands for.
+/// The values that an option may have, and the numbers that they stand for.
 #[derive(Clone, Copy)]
 pub(crate) enum Values<'a> {
-    /// The option takes a number from the one to the other.
+    /// The option takes a number, from the first to the second.
     Within(u64, u64),
-    /// The option takes one of these words, which stands for its place among them, from 0.
+    /// The option takes one of these words. A word stands for its place in the list, from 0.
     Among(&'a [&'a str]),
-    /// The option takes no value. It stands for 1.
+    /// The option takes no value. Its number is 1 if it is given, and otherwise its default.
     Switch,
 }
 
@@ -16,11 +16,11 @@ pub(crate) enum Values<'a> {
 pub(crate) struct ValueOption<'a> {
     /// The name, without its hyphens.
     pub(crate) name: &'a str,
-    /// What help says of the option.
+    /// The description of the option in the help.
     pub(crate) help: &'a str,
-    /// What its value may be.
+    /// The values that it may have.
     pub(crate) values: Values<'a>,
-    /// The number where the option is left out. One with none may not be left out.
+    /// The number if the option is left out. An option without a default is required.
     pub(crate) default: Option<u64>,
 }
 
@@ -29,7 +29,7 @@ pub(crate) struct ValueOption<'a> {
 pub(crate) struct Subcommand<'a> {
     /// The word that names it.
     pub(crate) name: &'a str,
-    /// What help says of it.
+    /// The description of the subcommand in the help.
     pub(crate) about: &'a str,
     /// Its options.
     pub(crate) options: &'a [ValueOption<'a>],

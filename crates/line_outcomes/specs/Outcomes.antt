@@ -1,4 +1,4 @@
--- How a run comes out, for the words of the command line and the text on the source.
+-- The outcome of a run, for the words of the command line and the text on the source.
 use Rattle.std.specs.Prelude.{◌≡◌, ⊤, ◌⊎◌, ℕ, List, string_bytes}
 use Rattle.clap.specs.Words.{Text}
 use Rattle.command_line.specs.declared.line.Line.{Line}

@@ -12,8 +12,8 @@ use std::env;
 use std::env::Env;
 use std::io::ErrorKind;
 
-/// The words that the program was called with, its name first. If one is no text, it is the outcome
-/// of words with a fault.
+/// Returns the words that the program was called with. The first word is the program's name. If a
+/// word is not a text, returns the outcome of words with a fault.
 pub fn words_of<R: Env + Alloc>(rt: &R, alloc: Global) -> Result<Vec<String>, RunOutcome> {
     let words = match env::args(&(rt, alloc)) {
         Ok(words) => words.collect(alloc),
@@ -33,15 +33,15 @@ pub fn words_of<R: Env + Alloc>(rt: &R, alloc: Global) -> Result<Vec<String>, Ru
     }
 }
 
-/// The texts of the words.
+/// Returns the texts of the words.
 pub fn texts_of(alloc: Global, words: &[String]) -> Result<Vec<&str>, AllocError>
     ensures { IfOk result (λ v. texts v.items ≡ map string_bytes words.now) }
 {
     words.iter().map(|word| word.as_str()).collect(alloc)
 }
 
-/// The line that the words ask for, the program's name first; or the outcome if the words have a
-/// fault or memory runs out.
+/// Returns the line that the words ask for. The first word is the program's name. If the words have
+/// a fault or memory runs out, returns that outcome.
 pub fn asked_line(alloc: Global, words: &[&str]) -> Result<Line, RunOutcome>
     ensures line { IfOk result (λ line. IsLineOf (texts words.entry.now) line
         × IsAccepted (texts words.entry.now)) }
@@ -55,7 +55,8 @@ pub fn asked_line(alloc: Global, words: &[&str]) -> Result<Line, RunOutcome>
     }
 }
 
-/// The outcome if the words ask for what a part of the program does not do. It prints this text.
+/// Returns the outcome if the words ask for something that this part of the program does not do. It
+/// prints this text.
 pub fn elsewhere_outcome(alloc: Global, told: &str) -> RunOutcome
     ensures { IsElsewhereOutcome told.now result }
 {

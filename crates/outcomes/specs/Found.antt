@@ -1,9 +1,8 @@
--- The hint on a fault of a text: what is at its place, as far as there is room, and what was
--- expected.
+-- The hint on a fault of a text: what was found, as far as there is room, and what was expected.
 use Rattle.std.specs.Prelude.{ℕ, ◌&&◌, nat_le, if◌then◌else◌, List, ◌++◌, length, map, take, codes}
 use Rattle.outcomes.specs.Lines.{line}
 
--- a byte that is no printable ASCII as `?`
+-- a byte that is not printable ASCII as `?`
 abbrev pub shown_byte : ℕ → ℕ
 shown_byte byte = if nat_le 32 byte && nat_le byte 126 then byte else 63
 
@@ -11,6 +10,6 @@ shown_byte byte = if nat_le 32 byte && nat_le byte 126 then byte else 63
 abbrev pub shown : List ℕ → List ℕ
 shown text = if nat_le (length text) 80 then map shown_byte text else map shown_byte (take 80 text) ++ codes ".."
 
--- the hint that says what is there, and what was expected
+-- the hint that says what was found, and what was expected
 abbrev pub found_hint : List ℕ → List ℕ → List ℕ
 found_hint text wanted = line (codes "found " ++ shown text ++ codes "; wanted " ++ wanted)

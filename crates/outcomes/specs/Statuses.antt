@@ -21,7 +21,7 @@ refused_status = 3
 abbrev pub memory_status : ℕ
 memory_status = 4
 
--- the command line asks for nothing that can be done, or for help
+-- the command line asks for help, or for something that cannot be done
 abbrev pub words_status : ℕ
 words_status = 5
 

@@ -1,4 +1,4 @@
--- The hint next to the line of a fault of a text: what was expected.
+-- The hint after the line of a fault: what was expected.
 use Rattle.std.specs.Prelude.{ℕ, List, [], ◌++◌, codes}
 use Rattle.events.specs.declared.fault.HistoryFault.{HistoryFault}
 use Rattle.events.specs.declared.fault.HistoryFault.TheVariants as histories

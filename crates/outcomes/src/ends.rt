@@ -11,7 +11,7 @@ use std::alloc::Global;
 use streams::{ReadFault, Sink, Source, read_up_to, write_whole};
 
 /// Reads to the end of the source, or until a text is too long: one byte more than `limit`. If that
-/// fails, it returns how the run comes out.
+/// fails, returns the outcome of the run.
 pub fn text_from<S: Source>(
     alloc: Global,
     source: &mut S,
@@ -35,8 +35,8 @@ pub fn text_from<S: Source>(
     }
 }
 
-/// Reads to the end of the source, or until a text is too long. Makes an outcome of what was read,
-/// and writes it. Returns the exit status.
+/// Reads to the end of the source, or until a text is too long. Makes an outcome of the bytes, and
+/// writes it. Returns the exit status.
 pub fn run_text<S: Source, O: Sink, F: Sink, H: Sink, M: Fn(&[u8]) -> RunOutcome>(
     alloc: Global,
     source: &mut S,
@@ -66,8 +66,8 @@ pub fn run_text<S: Source, O: Sink, F: Sink, H: Sink, M: Fn(&[u8]) -> RunOutcome
 }
 
 /// Writes an outcome to the output or to the faults, and returns the exit status. The hint of a
-/// refusal follows its line, and a note follows its answer; both go to the hints. A failed write to
-/// the faults or to the hints changes nothing else.
+/// refusal follows its line, and a note follows its answer. Both are written to the hints. A failed
+/// write to the faults or to the hints changes nothing else.
 pub fn write_outcome<O: Sink, F: Sink, H: Sink>(
     output: &mut O,
     faults: &mut F,
@@ -102,7 +102,7 @@ pub fn write_outcome<O: Sink, F: Sink, H: Sink>(
     }
 }
 
-// Writes bytes to a sink, even if it does not take them, and returns the status.
+// Tries to write bytes to a sink. Returns the status, also if the sink does not take them.
 fn tell<K: Sink>(sink: &mut K, bytes: &[u8], status: u8) -> u8
     requires { K.failures sink.old < u64.MAX }
     ensures told { Tries (change K.written K.failures sink.old sink.new) bytes.now }

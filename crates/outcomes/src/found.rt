@@ -1,13 +1,13 @@
-// The hint on a fault of a text: what is at its place, and what was expected.
+// The hint on a fault of a text: what was found, and what was expected.
 ghost use Rattle.std.specs.Prelude.{◌≡◌, ◌∷◌, [], ◌++◌, map, IfOk, OnOk, string_bytes};
 ghost use Rattle.outcomes.specs.Found.{shown_byte, shown, found_hint};
 
 use std::alloc::{AllocError, Global};
 
-/// The most bytes that are shown of a text.
+/// The most bytes of a text that are shown.
 const MAX_SHOWN: usize = 80;
 
-/// Returns the hint that says what is at the place of a fault, and what was expected there.
+/// Returns the hint that says what was found at a fault, and what was expected there.
 pub fn found_hint(alloc: Global, text: &[u8], wanted: &str) -> Result<String, AllocError>
     ensures { IfOk result (λ hint. string_bytes hint ≡ found_hint text.now wanted.now) }
 {
@@ -19,7 +19,7 @@ pub fn found_hint(alloc: Global, text: &[u8], wanted: &str) -> Result<String, Al
     Ok(hint)
 }
 
-/// Adds a text, cut with two dots if it is long.
+/// Adds a text. If it is long, it is cut, and two dots follow.
 fn push_shown(out: &mut String, text: &[u8]) -> Result<(), AllocError>
     ensures { OnOk result (string_bytes out.new ≡ string_bytes out.old ++ shown text.now) }
 {
@@ -41,7 +41,7 @@ fn push_bytes(out: &mut String, text: &[u8]) -> Result<(), AllocError>
     Ok(())
 }
 
-/// Adds a byte of a text; a byte that is not printable ASCII is written as `?`.
+/// Adds a byte of a text. A byte that is not printable ASCII is written as `?`.
 fn push_byte(out: &mut String, byte: u8) -> Result<(), AllocError>
     ensures { OnOk result (string_bytes out.new ≡ string_bytes out.old ++ shown_byte byte ∷ []) }
 {

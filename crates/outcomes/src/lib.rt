@@ -1,5 +1,5 @@
-//! How a run of the program comes out before anything is written: an answer, or a fault as a line,
-//! and the exit status. Also where a run reads its text from, and where it writes its outcome.
+//! The outcome of a run before anything is written: an answer, or a fault as a line, and the exit
+//! status. Also where a run reads its text, and where it writes its outcome.
 #![tactic(auto)]
 
 mod ends;

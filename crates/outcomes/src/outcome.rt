@@ -1,4 +1,4 @@
-// How a run comes out, before anything is written.
+// The outcome of a run, before anything is written.
 ghost use Rattle.std.specs.Prelude.{◌≡◌, MatchResult};
 ghost use Rattle.outcomes.specs.FaultOutcomes.{IsOrderFaultOutcome};
 ghost use Rattle.outcomes.specs.Statuses.{answer_status};
@@ -22,7 +22,7 @@ pub const REFUSED: u8 = 3;
 /// The exit status if memory ran out.
 pub const MEMORY: u8 = 4;
 
-/// The exit status of a command line that asks for nothing that can be done, or for help.
+/// The exit status if the command line asks for help, or for something that cannot be done.
 pub const WORDS: u8 = 5;
 
 /// The exit status if standard input or output failed.
@@ -52,7 +52,7 @@ impl Answer {
     }
 }
 
-/// How a run comes out. Each text ends with a line feed.
+/// The outcome of a run. Each text ends with a line feed.
 pub enum RunOutcome {
     /// The input is answered, with this line for standard output.
     Answered {
@@ -73,8 +73,8 @@ pub enum RunOutcome {
     },
     /// Memory ran out.
     Memory,
-    /// The command line asks for nothing that can be done, or for help. The user gets this text on
-    /// standard error.
+    /// The command line asks for help, or for something that cannot be done. The user gets this
+    /// text on standard error.
     Words(String),
     /// The input could not be read.
     Failed,

@@ -1,4 +1,4 @@
-// The hint next to the line of a fault of a text: what was expected.
+// The hint after the line of a fault: what was expected.
 ghost use Rattle.std.specs.Prelude.{◌≡◌, IfOk, string_bytes};
 ghost use Rattle.outcomes.specs.Wanted.{wanted_hint, length_wanted, json_wanted, event_wanted, turn_wanted, pair_wanted, history_wanted};
 
@@ -22,7 +22,7 @@ pub fn length_wanted() -> &'static str
     "at most 16777216 bytes"
 }
 
-/// Returns what a text is.
+/// Returns what a text may be.
 pub fn json_wanted() -> &'static str
     ensures { result.now ≡ json_wanted }
 {
@@ -39,7 +39,7 @@ pub fn event_wanted() -> &'static str
     numbers are from 0 to 18446744073709551615"
 }
 
-/// Returns when an event comes in its turn.
+/// Returns when a process may have an event.
 pub fn turn_wanted() -> &'static str
     ensures { result.now ≡ turn_wanted }
 {

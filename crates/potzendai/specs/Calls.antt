@@ -1,5 +1,5 @@
--- What a call of the library leaves in the room that the caller gave, as the length of the text, and
--- as the status that it returns.
+-- What a call of the library leaves: the text in the caller's room, the length of the text, and the
+-- status.
 use Rattle.std.specs.Prelude.{◌≡◌, ◌⊎◌, ℕ, ◌≤◌, List, [], ◌∷◌, ◌++◌, length, take, drop, min, codes, string_bytes}
 use Rattle.search.specs.Limits.{budget_limit}
 use Rattle.outcomes.specs.declared.outcome.RunOutcome.{RunOutcome}
@@ -20,7 +20,7 @@ status_of Memory = memory_status
 status_of (Words bytes) = words_status
 status_of Failed = failed_status
 
--- the line of an outcome, as the program writes it, to whichever end
+-- the line of an outcome, as the program writes it
 abbrev pub line_of : RunOutcome → List ℕ
 line_of (Answered answer bytes) = string_bytes bytes
 line_of (Noted answer bytes note) = string_bytes bytes
@@ -56,14 +56,14 @@ pub record IsToldOutcome (IsOutcome : RunOutcome → Type 0) (budget status : �
   pub status_is : status ≡ status_of outcome
   pub text_is : text ≡ text_of outcome
 
--- they say that no search may have the budget
+-- a status and a text say that no search may have the budget
 pub record IsToldBudget (budget status : ℕ) (text : List ℕ) : Type 0 where
   pub is_none : IsBudget budget → ⊥
   pub status_is : status ≡ words_status
   pub text_is : text ≡ budget_line
 
--- a call that can have these outcomes gives one, or says that no search may have the budget: this is
--- the status, this the length of the text, and the room was this before and is that after it
+-- a call has one of these outcomes, or says that no search may have the budget; this is the length
+-- of its text, and its status; the room was `before` the call, and is `after` it
 pub record IsCall (IsOutcome : RunOutcome → Type 0) (budget : ℕ) (before after : List ℕ) (size status : ℕ) : Type 0 where
   pub text : List ℕ
   pub told : IsToldOutcome IsOutcome budget status text ⊎ IsToldBudget budget status text

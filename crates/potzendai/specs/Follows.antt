@@ -1,4 +1,4 @@
--- What a call on a handle leaves there, and what it returns.
+-- What a call on a handle leaves in it, and what it returns.
 use Rattle.std.specs.Prelude.{◌≡◌, ◌⊎◌, ℕ, List, [], length, Option, None, Some, codes}
 use Rattle.outcomes.specs.declared.outcome.RunOutcome.{RunOutcome}
 use Rattle.outcomes.specs.Lines.{line}
@@ -43,8 +43,8 @@ IsOpening budget follows status = Begins budget follows status ⊎ BeginsNone bu
 abbrev pub closed_line : List ℕ
 closed_line = line (codes "follower: none")
 
--- what is written of a follower: an outcome that `follow` can have for each text with the lines that
--- were given
+-- what is written of a follower: an outcome that `follow` can have for each text with the lines
+-- that were given
 pub record IsToldSoFar (budget : ℕ) (lines : List (List ℕ)) (before after : List ℕ) (size status : ℕ) : Type 0 where
   pub outcome : RunOutcome
   pub comes : (told : Option (List ℕ)) → AreLinesOf told lines → IsStreamOutcome budget told outcome
@@ -52,7 +52,7 @@ pub record IsToldSoFar (budget : ℕ) (lines : List (List ℕ)) (before after : 
   pub size_is : size ≡ length (text_of outcome)
   pub room : after ≡ written (text_of outcome) before
 
--- it is written that there is none
+-- it is written that there is no follower
 pub record IsToldClosed (before after : List ℕ) (size status : ℕ) : Type 0 where
   pub status_is : status ≡ words_status
   pub size_is : size ≡ length closed_line

@@ -16,7 +16,7 @@ heap = record { memory = record { seal = tt } }
 abbrev pub boxed : Ptr → LineFollower → Fml
 boxed place follower = box_owns (ghosts.dealloc_token heap) the_row place follower
 
--- if there is one, this is it, and it is owned; otherwise there is none
+-- if the handle is open, this is its follower, which it owns; otherwise there is none
 abbrev pub held : Bool → Ptr → Option LineFollower → Fml
 held true place follows = fex LineFollower (λ follower. fsep (fex (follows ≡ Some follower) (λ _. ftrue)) (boxed place follower))
 held false place follows = fex (follows ≡ None) (λ _. ftrue)

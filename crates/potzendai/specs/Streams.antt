@@ -1,4 +1,4 @@
--- What a yes or a no says of the text of a stream.
+-- What a yes or a no means for the text of a stream.
 use Rattle.std.specs.Prelude.{◌≡◌, ℕ, List, ◌++◌}
 use Rattle.events.specs.declared.event.Event.{Event}
 use Rattle.events.specs.Events.{IsWellFormed}
@@ -16,7 +16,7 @@ pub record SpellLinearizable (lines : List (List ℕ)) : Type 0 where
   pub well_formed : IsWellFormed stream.events
   pub linearizable : IsLinearizable stream.start (operations stream.events)
 
--- the lines begin with those of a stream whose events have no order, whatever comes after them
+-- the lines begin with those of a stream whose events have no order, whatever follows
 pub record BeginUnlinearizable (lines : List (List ℕ)) : Type 0 where
   pub stream : HistoryView
   pub version : TextVersion

@@ -1,4 +1,5 @@
--- The line of an event that is given by its values: a number for its kind, and those of its keys and values.
+-- The line of an event that is given by its values: a number for its kind, and those of its keys
+-- and values.
 use Rattle.events.specs.declared.event.Reply.TheVariants as replies
 use Rattle.std.specs.Prelude.{ℕ, ◌==◌, if◌then◌else◌, List, map, Option, Some, None, codes}
 use Rattle.events.specs.declared.event.Call.{Call}
@@ -8,7 +9,7 @@ use Rattle.events.specs.declared.event.Event.TheVariants.{Invoke, Answer}
 use Rattle.stream_engines.specs.EventLines.{event_line}
 use Rattle.potzendai.specs.declared.kinds.PotzendaiPair.{PotzendaiPair}
 
--- the call of a kind: what it does not have of these numbers counts for nothing
+-- the call of a kind; numbers that such a call does not have are ignored
 abbrev pub call_of : ℕ → ℕ → ℕ → ℕ → Option Call
 call_of kind key value other =
     if kind == 0 then Some (Get key)
@@ -22,7 +23,7 @@ call_of kind key value other =
 abbrev pub pairs_of : List PotzendaiPair → List (ℕ × ℕ)
 pairs_of pairs = map (λ pair. (pair.key, pair.value)) pairs
 
--- the reply of a kind: what it does not have of a value and pairs counts for nothing
+-- the reply of a kind; a value and pairs that such a reply does not have are ignored
 abbrev pub reply_of : ℕ → ℕ → List PotzendaiPair → Option Reply
 reply_of kind value pairs =
     if kind == 0 then Some replies.None
@@ -34,12 +35,12 @@ reply_of kind value pairs =
     else if kind == 6 then Some replies.Other
     else None
 
--- the line of an invocation; if there is no such call, one that spells no event
+-- the line of an invocation; without a call, a line that spells no event
 abbrev pub call_line : ℕ → Option Call → List ℕ
 call_line process None = codes "{\"invoke\":null}"
 call_line process (Some call) = event_line (Invoke process call)
 
--- the line of an answer; if there is no such reply, one that spells no event
+-- the line of an answer; without a reply, a line that spells no event
 abbrev pub reply_line : ℕ → Option Reply → List ℕ
 reply_line process None = codes "{\"answer\":[null]}"
 reply_line process (Some reply) = event_line (Answer process reply)

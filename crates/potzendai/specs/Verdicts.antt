@@ -1,4 +1,4 @@
--- What a yes or a no says of a text.
+-- What a yes or a no means for a text.
 use Rattle.std.specs.Prelude.{ℕ, List}
 use Rattle.events.specs.HistoryView.{HistoryView}
 use Rattle.orders.specs.Orders.{IsLinearizableHistory}

@@ -1,4 +1,4 @@
-// The calls on a stream whose lines are given as they come.
+// The calls on a stream whose lines are given one after another.
 ghost use Rattle.std.specs.Prelude.{◌≡◌, ◌≢◌, ℕ, List, ◌++◌, None};
 ghost use Rattle.potzendai.specs.Follows.{Follows, standing_of, IsOpening, IsToldSoFar, IsToldClosed};
 ghost use Rattle.potzendai.specs.Streams.{SpellLinearizable, BeginUnlinearizable};
@@ -12,9 +12,10 @@ use std::alloc::Global;
 use std::mem::replace;
 use stream_engines::LineFollower;
 
-/// Begins to follow a stream, before its first line. Each answer will be judged by searches of at
-/// most `budget` configurations. If the handle is open, it is closed first. Returns 0. If memory ran
-/// out, or no search may have the budget, it returns that status, and then the handle is closed.
+/// Opens the handle for a stream, before its first line, and returns 0. Each answer will be judged
+/// by searches of at most `budget` configurations. If the handle is open, it is closed first. If
+/// memory runs out, or no search may have the budget, the handle is closed afterwards. The status
+/// says which it was.
 #[unsafe(no_mangle)]
 pub extern "C" fn potzendai_follow_open(
     alloc: Global,
@@ -37,10 +38,10 @@ pub extern "C" fn potzendai_follow_open(
     0
 }
 
-/// Takes the next lines of the stream: those of the text. A line feed ends each line, and the last may
-/// lack it. Returns the status of the stream so far: 0 while it is followed. If `bench follow` ends
-/// with one of these lines, it returns the status of that, now and later. If the handle is closed, it
-/// stays closed.
+/// Takes the lines of the text as the next lines of the stream. A line feed ends each line, and the
+/// last line may lack it. Returns the status of the stream so far: 0 while it is followed. If
+/// `bench follow` ends at one of these lines, returns its exit status, now and later. A closed
+/// handle stays closed.
 #[unsafe(no_mangle)]
 pub extern "C" fn potzendai_follow_event(
     alloc: Global,
@@ -53,7 +54,7 @@ pub extern "C" fn potzendai_follow_event(
     ensures stays { standing_of handle.old.follows ≢ 0 → handle.new.follows ≡ handle.old.follows }
     ensures status { result ≡ standing_of handle.new.follows }
 
-    // What a no says of a stream if all its lines so far were given.
+    // What a no means for a stream if all its lines so far were given.
     ensures no { (budget : ℕ) (all : List ℕ) → Follows budget (lines_of all) handle.new.follows
         → result ≡ 1 → BeginUnlinearizable (lines_of all) }
 {
@@ -68,8 +69,8 @@ pub extern "C" fn potzendai_follow_event(
     status
 }
 
-/// Writes what `bench follow` writes if the lines so far are all. The handle stays open, so that more
-/// lines may come.
+/// Writes what `bench follow` writes for a stream of the lines so far. The handle stays open, and
+/// more lines may come.
 #[unsafe(no_mangle)]
 pub extern "C" fn potzendai_follow_verdict(
     alloc: Global,
@@ -82,7 +83,7 @@ pub extern "C" fn potzendai_follow_verdict(
         → IsToldSoFar budget lines room.old room.new size.new result }
     ensures closed { handle.old.follows ≡ None → IsToldClosed room.old room.new size.new result }
 
-    // What a yes or a no says of a stream if all its lines so far were given.
+    // What a yes or a no means for a stream if all its lines so far were given.
     ensures yes { (budget : ℕ) (all : List ℕ) → Follows budget (lines_of all) handle.old.follows
         → result ≡ 0 → SpellLinearizable (lines_of all) }
     ensures no { (budget : ℕ) (all : List ℕ) → Follows budget (lines_of all) handle.old.follows
@@ -104,7 +105,7 @@ pub extern "C" fn potzendai_follow_close(alloc: Global, handle: &mut PotzendaiFo
     drop(take(alloc, handle));
 }
 
-/// Writes the outcome of a follower if the lines so far are all.
+/// Writes the outcome for a stream of the lines so far.
 fn tell_follower(alloc: Global, follower: &LineFollower, room: &mut [u8], size: &mut usize) -> u32
     ensures { (budget : ℕ) (lines : List (List ℕ)) → IsHanded budget lines follower.now
         → IsToldSoFar budget lines room.old room.new size.new result }

@@ -17,10 +17,10 @@ use std::alloc::Global;
 use std::mem::replace;
 use stream_engines::LineFollower;
 
-/// Takes the invocation of a call by a process: what `potzendai_follow_event` makes of its line
-/// (`call_line`). The numbers after the kind are the key and the value of an insert, both ends of a
-/// scan, or the key, the old value and the new value of a replace. If there is no such kind, the line
-/// spells no event. Returns the status of the stream so far, as that call does.
+/// Takes the invocation of a call by a process, as `potzendai_follow_event` takes its line
+/// (`call_line`). The numbers after the kind are the key and the value of an insert, or both ends
+/// of a scan. Those of a replace are the key, the old value and the new value. If there is no such
+/// kind, the line spells no event. Returns the status of the stream so far.
 #[unsafe(no_mangle)]
 pub extern "C" fn potzendai_follow_invoke(
     alloc: Global,
@@ -38,7 +38,7 @@ pub extern "C" fn potzendai_follow_invoke(
     ensures stays { standing_of handle.old.follows ≢ 0 → handle.new.follows ≡ handle.old.follows }
     ensures status { result ≡ standing_of handle.new.follows }
 
-    // What a no says of a stream if all its lines so far were given.
+    // What a no means for a stream if all its lines so far were given.
     ensures no { (budget : ℕ) (all : List ℕ) → Follows budget (lines_of all) handle.new.follows
         → result ≡ 1 → BeginUnlinearizable (lines_of all) }
 {
@@ -53,9 +53,9 @@ pub extern "C" fn potzendai_follow_invoke(
     status
 }
 
-/// Takes the answer of the open call of a process: what `potzendai_follow_event` makes of its line
-/// (`reply_line`). The value and the pairs count only if an answer of this kind has them. If there is
-/// no such kind, the line spells no event. Returns the status of the stream so far, as that call does.
+/// Takes the answer of the open call of a process, as `potzendai_follow_event` takes its line
+/// (`reply_line`). The value and the pairs count only if an answer of this kind has them. If there
+/// is no such kind, the line spells no event. Returns the status of the stream so far.
 #[unsafe(no_mangle)]
 pub extern "C" fn potzendai_follow_answer_with(
     alloc: Global,
@@ -72,7 +72,7 @@ pub extern "C" fn potzendai_follow_answer_with(
     ensures stays { standing_of handle.old.follows ≢ 0 → handle.new.follows ≡ handle.old.follows }
     ensures status { result ≡ standing_of handle.new.follows }
 
-    // What a no says of a stream if all its lines so far were given.
+    // What a no means for a stream if all its lines so far were given.
     ensures no { (budget : ℕ) (all : List ℕ) → Follows budget (lines_of all) handle.new.follows
         → result ≡ 1 → BeginUnlinearizable (lines_of all) }
 {
@@ -88,7 +88,7 @@ pub extern "C" fn potzendai_follow_answer_with(
     status
 }
 
-/// Takes the invocation of a call, if there is one; otherwise a line that spells no event.
+/// Takes the invocation of a call. Without a call it takes a line that spells no event.
 fn take_call(
     alloc: Global,
     follower: LineFollower,
@@ -106,7 +106,7 @@ fn take_call(
     }
 }
 
-/// Takes the answer of a call, unless memory ran out for it.
+/// Takes the answer of a call, unless memory ran out for that answer.
 fn take_answer(
     alloc: Global,
     follower: LineFollower,
@@ -125,7 +125,7 @@ fn take_answer(
     }
 }
 
-/// Takes the answer of a call, if there is one; otherwise a line that spells no event.
+/// Takes the answer of a call. Without an answer it takes a line that spells no event.
 fn take_reply(
     alloc: Global,
     follower: LineFollower,

@@ -16,9 +16,10 @@ use location_engines::locate_outcome;
 use picture_engines::{draw_outcome, whole_view};
 use std::alloc::Global;
 
-/// Judges the history that the text spells, by a search of at most `budget` configurations in each
-/// of its segments. Writes what `bench judge` writes into the room, and a zero byte after it, as far
-/// as there is place, and its length into `size`. Returns the exit status of `bench judge`.
+/// Judges the history that the text spells. A search meets at most `budget` configurations of a
+/// segment. Writes into the room what `bench judge` writes, and a zero byte after it. If the room
+/// is too small, writes as much as leaves place for the zero byte. Writes into `size` the length of
+/// the whole, without the zero byte. Returns the exit status of `bench judge`.
 #[unsafe(no_mangle)]
 pub extern "C" fn potzendai_judge(
     alloc: Global,
@@ -30,7 +31,7 @@ pub extern "C" fn potzendai_judge(
     ensures call { IsCall (IsTextOutcome (IsJudgeAnswer budget) IsHistoryRefusal (Some text.now))
         budget room.old room.new size.new result }
 
-    // What a yes or a no says of the history.
+    // What a yes or a no means for the history.
     ensures yes { result ≡ 0 → SpellsLinearizable text.now }
     ensures no { result ≡ 1 → SpellsUnlinearizable text.now }
 {
@@ -43,7 +44,7 @@ pub extern "C" fn potzendai_judge(
 }
 
 /// Finds the event at which the history that the text spells goes wrong, as `bench locate` does.
-/// The rest is as for `potzendai_judge`.
+/// Room, size and status are as for `potzendai_judge`.
 #[unsafe(no_mangle)]
 pub extern "C" fn potzendai_locate(
     alloc: Global,
@@ -63,8 +64,9 @@ pub extern "C" fn potzendai_locate(
     }
 }
 
-/// Explains the verdict on the history that the text spells, as `bench explain` does: after the
-/// report of a no come a few calls that show it. The rest is as for `potzendai_judge`.
+/// Explains the verdict on the history that the text spells, as `bench explain` does. After the
+/// report of a no come a few calls that show it. Room, size and status are as for
+/// `potzendai_judge`.
 #[unsafe(no_mangle)]
 pub extern "C" fn potzendai_explain(
     alloc: Global,
@@ -76,7 +78,7 @@ pub extern "C" fn potzendai_explain(
     ensures call { IsCall (IsTextOutcome (IsExplainAnswer budget) IsHistoryRefusal (Some text.now))
         budget room.old room.new size.new result }
 
-    // What a yes or a no says of the history.
+    // What a yes or a no means for the history.
     ensures yes { result ≡ 0 → SpellsLinearizable text.now }
     ensures no { result ≡ 1 → SpellsUnlinearizable text.now }
 {
@@ -88,8 +90,8 @@ pub extern "C" fn potzendai_explain(
     }
 }
 
-/// Draws the verdict on the history that the text spells, as `bench draw --calls 0` does. The rest is
-/// as for `potzendai_judge`.
+/// Draws the verdict on the history that the text spells, as `bench draw --calls 0` does. Room,
+/// size and status are as for `potzendai_judge`.
 #[unsafe(no_mangle)]
 pub extern "C" fn potzendai_draw(
     alloc: Global,

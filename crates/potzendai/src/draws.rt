@@ -1,4 +1,4 @@
-// The call that draws what is shown of a verdict if nothing else is asked for.
+// The call that draws a verdict as `bench draw` does without options.
 ghost use Rattle.std.specs.Prelude.{Some};
 ghost use Rattle.history_engines.specs.Answers.{IsHistoryRefusal};
 ghost use Rattle.outcomes.specs.Outcomes.{IsTextOutcome};
@@ -10,10 +10,10 @@ use judge::OneThread;
 use picture_engines::{draw_outcome, unasked_view};
 use std::alloc::Global;
 
-/// Draws what `bench draw` shows of the verdict on the history that the text spells, if nothing else
-/// is asked for. If `bench explain` names any calls, these are drawn, by their processes and events in
-/// the text, with those that put what they read and those that they miss. Otherwise it is the whole
-/// picture, or a part of one that is wide. The rest is as for `potzendai_judge`.
+/// Draws the verdict on the history that the text spells, as `bench draw` does without options. If
+/// `bench explain` names any calls, these are drawn, by their processes and events in the text.
+/// Those that put what they read, and those that they miss, are drawn with them. Otherwise it draws
+/// the whole picture, or a part of a wide one. Room, size and status are as for `potzendai_judge`.
 #[unsafe(no_mangle)]
 pub extern "C" fn potzendai_draw_part(
     alloc: Global,

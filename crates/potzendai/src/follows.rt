@@ -9,9 +9,9 @@ use crate::told::{is_budget, tell, tell_budget};
 use std::alloc::Global;
 use stream_engines::follow_text;
 
-/// Follows the stream whose events the lines of the text spell, as `bench follow` does. Each answer
-/// is judged as it comes, by searches of at most `budget` configurations. A text of any length is
-/// taken. The rest is as for `potzendai_judge`.
+/// Follows the stream whose events the lines of the text spell, as `bench follow` does. Judges each
+/// answer when it comes, by searches of at most `budget` configurations. The text may have any
+/// length. Room, size and status are as for `potzendai_judge`.
 #[unsafe(no_mangle)]
 pub extern "C" fn potzendai_follow(
     alloc: Global,
@@ -23,7 +23,7 @@ pub extern "C" fn potzendai_follow(
     ensures call { IsCall (IsStreamOutcome budget (Some text.now)) budget room.old room.new
         size.new result }
 
-    // What a yes or a no says of the stream.
+    // What a yes or a no means for the stream.
     ensures yes { result ≡ 0 → SpellLinearizable (lines_of text.now) }
     ensures no { result ≡ 1 → BeginUnlinearizable (lines_of text.now) }
 {

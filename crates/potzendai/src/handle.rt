@@ -9,7 +9,7 @@ use std::mem::replace;
 use std::ptr::null_mut;
 use stream_engines::LineFollower;
 
-/// Owns a follower, if there is one, by a pointer to it. Contracts see the follower.
+/// A handle. If it is open, it owns a follower by a pointer to it. Contracts see the follower.
 #[repr(C)]
 pub struct PotzendaiFollower {
     at: *mut u8,
@@ -24,7 +24,7 @@ impl Model for PotzendaiFollower {
 }
 
 impl PotzendaiFollower {
-    /// With no follower.
+    /// Returns a handle without a follower.
     fn without_follower() -> PotzendaiFollower
         ensures { result.follows ≡ None }
     {
@@ -34,7 +34,7 @@ impl PotzendaiFollower {
         }
     }
 
-    /// With this one.
+    /// Returns a handle with this follower.
     fn with_follower(follower: Loose<LineFollower, Global>) -> PotzendaiFollower
         ensures { result.follows ≡ Some follower.value }
     {
@@ -45,7 +45,7 @@ impl PotzendaiFollower {
         }
     }
 
-    /// The follower, if there is one.
+    /// Returns the follower, if there is one.
     fn into_loose(self, alloc: Global) -> Option<Loose<LineFollower, Global>>
         ensures { option_map (λ l. l.value) result ≡ self.follows }
     {
@@ -61,7 +61,7 @@ impl PotzendaiFollower {
     }
 }
 
-/// Takes the follower out, if there is one.
+/// Takes the follower out of the handle, if there is one.
 pub(crate) fn take(alloc: Global, handle: &mut PotzendaiFollower) -> Option<Box<LineFollower>>
     ensures taken { option_map (λ f. f.value) result ≡ handle.old.follows }
     ensures closed { handle.new.follows ≡ None }
@@ -73,7 +73,7 @@ pub(crate) fn take(alloc: Global, handle: &mut PotzendaiFollower) -> Option<Box<
     }
 }
 
-/// Puts a follower in, and drops one that was there.
+/// Puts a follower into the handle, and drops the one that was there.
 pub(crate) fn put(alloc: Global, handle: &mut PotzendaiFollower, follower: Box<LineFollower>)
     ensures { handle.new.follows ≡ Some follower.value }
 {

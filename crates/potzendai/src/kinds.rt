@@ -1,4 +1,4 @@
-// The calls and the replies of the numbers that name their kinds.
+// Calls and replies, by the numbers of their kinds.
 ghost use Rattle.std.specs.Prelude.{◌≡◌, ◌≢◌, List, All, IfOk, IfSome};
 ghost use Rattle.stream_engines.specs.EventLines.{CallHasWords, IsWord, ReplyHasWords};
 ghost use Rattle.potzendai.specs.declared.kinds.PotzendaiPair.{PotzendaiPair};
@@ -15,7 +15,7 @@ pub struct PotzendaiPair {
     pub value: u64,
 }
 
-/// The call of a kind, if there is such a kind.
+/// Returns the call of a kind, if there is such a kind.
 pub(crate) fn call_of(kind: u32, key: u64, value: u64, other: u64) -> Option<Call>
     ensures call { result ≡ call_of kind key value other }
     ensures words { IfSome result CallHasWords }
@@ -30,7 +30,7 @@ pub(crate) fn call_of(kind: u32, key: u64, value: u64, other: u64) -> Option<Cal
     }
 }
 
-/// The reply of a kind, if there is such a kind. Pairs are copied.
+/// Returns the reply of a kind, if there is such a kind. It copies the pairs.
 pub(crate) fn reply_of(
     alloc: Global,
     kind: u32,
@@ -47,7 +47,7 @@ pub(crate) fn reply_of(
     Ok(plain_reply(kind, value))
 }
 
-/// The reply of a kind that lists no pairs, if there is such a kind.
+/// Returns the reply of a kind without pairs, if there is such a kind.
 fn plain_reply(kind: u32, value: u64) -> Option<Reply>
     requires { kind ≢ 2 }
     ensures reply { (pairs : List PotzendaiPair) → result ≡ reply_of kind value pairs }
@@ -64,7 +64,7 @@ fn plain_reply(kind: u32, value: u64) -> Option<Reply>
     }
 }
 
-/// A pair, as a tuple.
+/// Returns a pair as a tuple.
 fn as_pair(key: u64, value: u64) -> (u64, u64)
     ensures same { result ≡ (key, value) }
     ensures words { IsWord result.0 × IsWord result.1 }
@@ -72,7 +72,7 @@ fn as_pair(key: u64, value: u64) -> (u64, u64)
     (key, value)
 }
 
-/// The pairs, as tuples.
+/// Returns the pairs as tuples.
 fn pairs_of(alloc: Global, pairs: &[PotzendaiPair]) -> Result<Vec<(u64, u64)>, Memory>
     ensures items { IfOk result (λ items. items.items ≡ pairs_of pairs.now) }
     ensures words { IfOk result (λ items. All (λ pair. IsWord pair.0 × IsWord pair.1) items.items) }

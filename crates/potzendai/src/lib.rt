@@ -1,9 +1,10 @@
-//! The library: calls for programs in C. They judge a history's text, locate the event at which it
-//! goes wrong, explain or draw the verdict, show it as a page, and follow a stream's text.
+//! The library: calls for programs in C. They judge a history's text, and locate the event at which
+//! it goes wrong. They explain or draw the verdict, or show it as a page. They follow a stream's
+//! text.
 //!
 //! A call starts no thread and waits for nobody. Only a follower stays in memory between calls. It
-//! takes the lines of a stream, or its events by their values, as they come. A call writes its answer
-//! into a room of the caller.
+//! takes the lines of a stream, or its events by their values, one after another. A call writes its
+//! answer into a room that the caller gives.
 #![tactic(auto)]
 
 mod by_lines;

@@ -11,7 +11,7 @@ use page_engines::page_outcome;
 use std::alloc::Global;
 
 /// Writes a page that shows the verdict on the history that the text spells, as `bench page` does.
-/// The rest is as for `potzendai_judge`.
+/// Room, size and status are as for `potzendai_judge`.
 #[unsafe(no_mangle)]
 pub extern "C" fn potzendai_page(
     alloc: Global,

@@ -1,4 +1,4 @@
-// What a call gives its caller.
+// What a call reports to its caller.
 ghost use Rattle.std.specs.Prelude.{◌≡◌, ◌≤◌, ◌↔◌, ◌++◌, IsTrue, length};
 ghost use Rattle.outcomes.specs.Statuses.{words_status};
 ghost use Rattle.potzendai.specs.Calls.{budget_line, hint_of, line_of, IsBudget, status_of, text_of, written};
@@ -8,14 +8,14 @@ use judge::MAX_BUDGET;
 use outcomes::{FAILED, MEMORY, REFUSED, RunOutcome, WORDS};
 use stream_engines::LineFollower;
 
-/// Whether a search may have this budget.
+/// Returns whether a search may have this budget.
 pub(crate) fn is_budget(budget: u32) -> bool
     ensures { IsTrue result ↔ IsBudget budget }
 {
     1 <= budget && budget <= MAX_BUDGET
 }
 
-/// Writes the text of an outcome into the room and its length into `size`, and returns its status.
+/// Writes the text of an outcome into the room, and its length into `size`. Returns its status.
 pub(crate) fn tell(outcome: &RunOutcome, room: &mut [u8], size: &mut usize) -> u32
     ensures status { result ≡ status_of outcome.now }
     ensures size { size.new ≡ length (text_of outcome.now) }
@@ -28,7 +28,7 @@ pub(crate) fn tell(outcome: &RunOutcome, room: &mut [u8], size: &mut usize) -> u
     u32::from(status_of(outcome))
 }
 
-/// Writes that no search may have the budget.
+/// Writes that no search may have the budget. Returns the status for that.
 pub(crate) fn tell_budget(room: &mut [u8], size: &mut usize) -> u32
     ensures status { result ≡ words_status }
     ensures size { size.new ≡ length budget_line }
@@ -40,7 +40,7 @@ pub(crate) fn tell_budget(room: &mut [u8], size: &mut usize) -> u32
     u32::from(WORDS)
 }
 
-/// Writes that the handle is closed.
+/// Writes that the handle is closed. Returns the status for that.
 pub(crate) fn tell_closed(room: &mut [u8], size: &mut usize) -> u32
     ensures { IsToldClosed room.old room.new size.new result }
 {
@@ -50,7 +50,7 @@ pub(crate) fn tell_closed(room: &mut [u8], size: &mut usize) -> u32
     u32::from(WORDS)
 }
 
-/// The status of a stream so far: 0 while it is followed.
+/// Returns the status of a stream so far: 0 while it is followed.
 pub(crate) fn stream_status(follower: &LineFollower) -> u32
     ensures { result ≡ standing follower.now }
 {
@@ -60,7 +60,7 @@ pub(crate) fn stream_status(follower: &LineFollower) -> u32
     }
 }
 
-/// The line of an outcome.
+/// Returns the line of an outcome.
 fn line_of(outcome: &RunOutcome) -> &[u8]
     ensures { result.now ≡ line_of outcome.now }
 {
@@ -73,7 +73,7 @@ fn line_of(outcome: &RunOutcome) -> &[u8]
     }
 }
 
-/// The hint on a refusal.
+/// Returns the hint on a refusal. Other outcomes have none.
 fn hint_of(outcome: &RunOutcome) -> &[u8]
     ensures { result.now ≡ hint_of outcome.now }
 {
@@ -83,7 +83,7 @@ fn hint_of(outcome: &RunOutcome) -> &[u8]
     }
 }
 
-/// The status of an outcome.
+/// Returns the status of an outcome.
 fn status_of(outcome: &RunOutcome) -> u8
     ensures { result ≡ status_of outcome.now }
 {
@@ -96,7 +96,7 @@ fn status_of(outcome: &RunOutcome) -> u8
     }
 }
 
-/// Writes two texts as one, one after the other.
+/// Writes two texts as one, the second after the first.
 fn write_both(text: &[u8], more: &[u8], room: &mut [u8])
     ensures { room.new ≡ written (text.now ++ more.now) room.old }
 {
@@ -107,7 +107,8 @@ fn write_both(text: &[u8], more: &[u8], room: &mut [u8])
     }
 }
 
-/// Writes as much of the text as leaves place for one byte more, and a zero byte after it.
+/// Writes as much of the text as leaves place for one more byte, and then a zero byte. A room
+/// without a byte stays as it is.
 fn write(text: &[u8], room: &mut [u8])
     ensures { room.new ≡ written text.now room.old }
 {

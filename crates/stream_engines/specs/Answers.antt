@@ -62,7 +62,7 @@ pub record IsJudgedAnswer (lines : List (List ℕ)) (IsWhat : Judgement) : Type 
   pub answer : SpellsEvent version next (Answer process reply)
   pub judged : IsWhat stream.start stream.events process reply
 
--- the events go wrong at this answer, whatever follows: of the part that is kept with it, no past
+-- the events go wrong at this answer, whatever follows: no past of the part that is stored with it
 -- has an order
 abbrev pub GoesWrongHere : List (List ℕ) → Loss → Type 0
 GoesWrongHere lines loss = IsJudgedAnswer lines (λ start events process reply. IsLost start events process reply loss)
@@ -82,8 +82,8 @@ IsSmallLine start calls bytes =
     ((bytes ≡ []) × AreOfNoHistory start calls)
     ⊎ ((history : HistoryView) × IsSmallHistory start calls history × IsHistoryLine history bytes)
 
--- What is printed if the events go wrong: what is said of the keys of the part that does not go on.
--- If the part has one past, the line of a history of its calls follows.
+-- What is printed if the events go wrong: the losses of the keys of the part without an order. If
+-- the part has one past, the line of a history of its calls follows.
 pub record IsLostText (loss : Loss) (bytes : List ℕ) : Type 0 where
   pub losses : List KeyLoss
   pub are_losses : AreKeyLosses (Some loss.call) (pasts_of loss.part) loss.puts.items losses
@@ -91,13 +91,13 @@ pub record IsLostText (loss : Loss) (bytes : List ℕ) : Type 0 where
   pub small_is : MatchOption (own_part loss) (small ≡ []) (λ part. IsSmallLine part.start part.calls small)
   pub bytes_are : bytes ≡ line (compact_text (lost_data loss.event loss.number losses)) ++ small
 
--- what is printed if it is not known whether they do: what is said of the keys of the part
+-- what is printed if it is not known whether they do: the losses of the keys of the part
 pub record IsSpentText (loss : Loss) (bytes : List ℕ) : Type 0 where
   pub losses : List KeyLoss
   pub are_losses : AreKeyLosses (Some loss.call) (pasts_of loss.part) loss.puts.items losses
   pub bytes_are : bytes ≡ line (compact_text (spent_data loss.event loss.number losses))
 
--- `follow` answers the lines at the budget so, with this hint, which only a yes may have
+-- `follow` has this answer to the lines at the budget, with this hint; only a yes may have a hint
 abbrev pub IsLinesAnswer : ℕ → List (List ℕ) → outcomes.Answer → List ℕ → List ℕ → Type 0
 IsLinesAnswer budget lines verdicts.Yes bytes hint = IsWholeAnswer lines bytes hint
 IsLinesAnswer budget lines verdicts.No bytes hint =
@@ -119,7 +119,7 @@ pub record IsLinesRefusal (lines : List (List ℕ)) (bytes hint : List ℕ) : Ty
   pub stops : StopsFor read version stream.events more name hint
   pub bytes_are : bytes ≡ stream_fault_line (length read + 1) name
 
--- `follow` answers a text as it answers its lines, and refuses it so
+-- `follow` answers and refuses a text as it answers and refuses its lines
 abbrev pub IsFollowAnswer : ℕ → List ℕ → outcomes.Answer → List ℕ → List ℕ → Type 0
 IsFollowAnswer budget text answer bytes hint = IsLinesAnswer budget (lines_of text) answer bytes hint
 

@@ -1,4 +1,4 @@
--- The line of an event of a stream, as it is written of values.
+-- The line of an event of a stream, as it is written from the event's values.
 use Rattle.events.specs.declared.event.Reply.TheVariants as replies
 use Rattle.std.specs.Prelude.{ℕ, ◌^◌, ◌<◌, ◌≤◌, List, All, IsTrue, ⊤}
 use Rattle.serde_json.specs.Written.{compact_text}
@@ -37,17 +37,17 @@ ReplyHasWords replies.Done = ⊤
 ReplyHasWords replies.Found = ⊤
 ReplyHasWords replies.Other = ⊤
 
--- so do those of an event, and its process is below the limit of a line
+-- the numbers of an event have at most 64 bits, and its process is below the limit of a line
 abbrev pub HasWords : Event → Type 0
 HasWords (Invoke process call) = (process < number_limit) × CallHasWords call
 HasWords (Answer process reply) = (process < number_limit) × ReplyHasWords reply
 
--- an event has few pairs: its line is surely short enough
+-- an event has so few pairs that its line is short enough
 abbrev pub HasFewPairs : Event → Type 0
 HasFewPairs (Invoke process call) = ⊤
 HasFewPairs (Answer process reply) = pair_count reply ≤ 23000
 
--- an event may stand in a stream of a version, and its line is surely short enough
+-- a stream of this version may contain the event, and its line is short enough
 pub record MayStand (version : TextVersion) (e : Event) : Type 0 where
   pub shaped : IsTrue (is_shaped e)
   pub standing : IsTrue (may_stand version e)

@@ -1,4 +1,4 @@
--- The state of a follower to which lines were handed over.
+-- The state of a follower to which lines were passed.
 use Rattle.std.specs.Prelude.{◌≡◌, ℕ, ◌<◌, ◌≤◌, List, length, Option, ⊤}
 use Rattle.events.specs.declared.event.Event.{Event}
 use Rattle.stream_engines.specs.EventLines.{MayStand}
@@ -9,8 +9,8 @@ use Rattle.stream_engines.specs.StreamTexts.{BeginsWith}
 use Rattle.stream_engines.specs.declared.handed.LineFollower.{LineFollower}
 use Rattle.stream_engines.specs.declared.handed.LineFollower.TheVariants.{Going, Ended}
 
--- these lines were handed over, at this budget: they are followed, or the outcome is one of any text
--- that begins with them
+-- these lines were passed at this budget: they are followed, or the outcome is one of any text that
+-- begins with them
 abbrev pub IsHanded : ℕ → List (List ℕ) → LineFollower → Type 0
 IsHanded budget lines (Going followed count given) =
     (given ≡ budget) × (count ≡ length lines) × (count ≤ most_lines) × IsFollowed lines followed
@@ -21,7 +21,8 @@ abbrev pub HasEnded : LineFollower → Type 0
 HasEnded (Going followed count given) = ⊥
 HasEnded (Ended outcome) = ⊤
 
--- if the stream goes on, the line of this event is not one too many, and spells it in the stream's version
+-- if the stream goes on, the line of this event is not one too many, and spells it in the stream's
+-- version
 abbrev pub MayTake : LineFollower → Event → Type 0
 MayTake (Going followed count given) e = (count < most_lines) × MayStand followed.version e
 MayTake (Ended outcome) e = ⊤

@@ -23,7 +23,7 @@ IsLineRefusal number next fault (Refused bytes hint) = (fault ≢ lines.Memory)
 IsLineRefusal number next fault Memory = ⊤
 IsLineRefusal number next fault outcome = ⊥
 
--- the outcome of the line after these, of which a first one may be a history
+-- the outcome of the line after these; if it is the first line, it may be a history
 abbrev pub IsRefusalAfter : List (List ℕ) → ℕ → List ℕ → LineFault → RunOutcome → Type 0
 IsRefusalAfter read number next fault (Refused bytes hint) = (fault ≢ lines.Memory)
     × (string_bytes bytes ≡ stream_fault_line number (line_fault_name fault)) × IsHintAfter read next fault (string_bytes hint)
@@ -44,8 +44,8 @@ IsManyRefusal number (Refused bytes hint) = (string_bytes bytes ≡ stream_fault
 IsManyRefusal number Memory = ⊤
 IsManyRefusal number outcome = ⊥
 
--- the outcome of so many calls that have an order, with so much overlap in all: a yes, with its hint
--- if it has one
+-- the outcome of so many calls that have an order, with so much overlap in all: a yes, with its
+-- hint if it has one
 abbrev pub IsYesOutcome : ℕ → ℕ → RunOutcome → Type 0
 IsYesOutcome calls overlap outcome = IsHintedBy Yes (yes_line calls overlap) (yes_hint calls overlap) outcome
 

@@ -51,8 +51,8 @@ line_fault_hint next fault = found_hint next (line_wanted fault)
 abbrev pub IsHistoryLine : List ℕ → Type 0
 IsHistoryLine next = (history : HistoryView) × Spells next history × IsHistory history
 
--- the hint on a first line with a fault: if it has no shape of a line, and is a history, which
--- subcommands read histories
+-- the hint on a first line with a fault: if it does not have the shape of a line, and is a history,
+-- the hint says which subcommands read histories
 abbrev pub IsFirstHint : List ℕ → LineFault → List ℕ → Type 0
 IsFirstHint next lines.Shape hint =
     (IsHistoryLine next × (hint ≡ found_hint next history_elsewhere))
@@ -97,7 +97,7 @@ pub record IsFaulty (read : List (List ℕ)) (version : TextVersion) (more : Lis
   pub name_is : name ≡ line_fault_name fault
   pub hint_is : IsHintAfter read next fault hint
 
--- the next line spells an event that is not in its turn
+-- the next line spells an event that is out of turn
 pub record IsOutOfTurn (version : TextVersion) (events : List Event) (more : List (List ℕ)) (name hint : List ℕ) : Type 0 where
   pub next : List ℕ
   pub rest : List (List ℕ)
@@ -109,7 +109,7 @@ pub record IsOutOfTurn (version : TextVersion) (events : List Event) (more : Lis
   pub name_is : name ≡ turn_fault_name fault
   pub hint_is : hint ≡ turn_fault_hint next fault
 
--- as many lines were read as may be
+-- no more lines may be read
 pub record AreMany (read : List (List ℕ)) (name hint : List ℕ) : Type 0 where
   pub count : length read ≡ most_lines
   pub name_is : name ≡ too_many_name

@@ -27,8 +27,8 @@ values_data from = list_data (map (λ origin. value_data origin.value) from)
 abbrev pub puts_data : List Origin → Data
 puts_data from = list_data (map (λ origin. value_data origin.put) from)
 
--- what is said of a key: the calls that are left there, each by the event of its invocation; the
--- key; and the values that it may have had before these calls, with the calls that put them
+-- the loss of a key: the calls that are left there, each by the event of its invocation; the key;
+-- and the values that it may have had before these calls, with the calls that put them
 abbrev pub key_data : KeyLoss → Data
 key_data loss =
     object (member (codes "invoked") (numbers_data loss.invoked.items) (member (codes "key") (number_data loss.key)
@@ -43,7 +43,7 @@ lost_data event number losses =
     object (member (codes "call") (number_data number) (member (codes "event") (number_data event)
     (member (codes "keys") (keys_data losses) (member (codes "verdict") (string (codes "no")) no_members))))
 
--- it is not known whether they do, for the search is beyond the budget
+-- it is not known whether they do: the search is beyond the budget
 abbrev pub spent_data : ℕ → ℕ → List KeyLoss → Data
 spent_data event number losses =
     object (member (codes "call") (number_data number) (member (codes "event") (number_data event)

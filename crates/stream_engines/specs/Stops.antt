@@ -20,8 +20,8 @@ abbrev pub IsSpentAt : HistoryView → ℕ → Event → Loss → Type 0
 IsSpentAt stream budget (Invoke process call) loss = ⊥
 IsSpentAt stream budget (Answer process reply) loss = IsSpent stream.start stream.events process reply budget loss
 
--- why this event does not go on after a stream: it is out of turn or an event too many, unless memory ran out; or what its answer makes of
--- the stream
+-- why this event is not followed: it is out of turn or an event too many, unless memory ran out; or
+-- the stream goes wrong at its answer, or may do so
 abbrev pub IsStop : HistoryView → ℕ → Event → Stop → Type 0
 IsStop stream budget e (Refused fault) = fault ≢ turns.Memory → turn_fault stream.events e ≡ Some fault
 IsStop stream budget e (Lost loss) = IsLostAt stream e loss

@@ -13,7 +13,7 @@ use serde_json::{Map, Value, put};
 use std::alloc::{AllocError, Global};
 use stream_text::StreamEvent;
 
-/// The line that spells an event.
+/// Returns the line that spells an event.
 pub(crate) fn event_line(alloc: Global, event: &StreamEvent) -> Result<String, AllocError>
     ensures { IfOk result (λ line. string_bytes line ≡ event_line (as_event event.now)) }
 {
@@ -23,7 +23,7 @@ pub(crate) fn event_line(alloc: Global, event: &StreamEvent) -> Result<String, A
     }
 }
 
-/// The line that spells the invocation of a call, by a process of any number.
+/// Returns the line that spells the invocation of a call. The process may have any number.
 pub(crate) fn call_line(alloc: Global, process: u32, call: &Call) -> Result<String, AllocError>
     ensures { IfOk result (λ line. string_bytes line ≡ event_line (Invoke process call.now)) }
 {
@@ -31,7 +31,7 @@ pub(crate) fn call_line(alloc: Global, process: u32, call: &Call) -> Result<Stri
     value.to_string(alloc)
 }
 
-/// The line that spells the answer of a call, of a process of any number.
+/// Returns the line that spells the answer of a call. The process may have any number.
 pub(crate) fn reply_line(alloc: Global, process: u32, reply: &Reply) -> Result<String, AllocError>
     ensures { IfOk result (λ line. string_bytes line ≡ event_line (Answer process reply.now)) }
 {
@@ -39,7 +39,7 @@ pub(crate) fn reply_line(alloc: Global, process: u32, reply: &Reply) -> Result<S
     value.to_string(alloc)
 }
 
-/// The value of what a process did, under a name, with the number of the process.
+/// Returns an object with what a process did, by this name, and with the number of the process.
 fn turn_value(alloc: Global, name: &str, done: Value, process: u32) -> Result<Value, AllocError>
     ensures { IfOk result (λ value. view value
         ≡ object (with_member (codes "process") (number_data process)

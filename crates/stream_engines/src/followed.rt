@@ -1,4 +1,4 @@
-// A stream, as far as it was followed, and what each line makes of it.
+// A stream, as far as it was followed, and what each line changes.
 ghost use Rattle.std.specs.Prelude.{◌≡◌, ℕ, ◌+◌, ◌<◌, List, [], ◌∷◌, ◌++◌, length, Option, IfOk, IfErr};
 ghost use Rattle.events.specs.declared.event.Event.TheVariants as events;
 ghost use Rattle.events.specs.HistoryView.{HistoryView, with_event};
@@ -21,8 +21,8 @@ use outcomes::RunOutcome;
 use std::alloc::Global;
 use stream_text::{FirstLine, StreamEvent, read_event_line, read_first_line};
 
-/// A stream, as far as it was followed: its monitor, its version, how many calls are open, and how
-/// many other calls were open at the invocations, in all.
+/// A stream, as far as it was followed: its monitor, its version and the number of open calls.
+/// `overlap` is the number of other calls that were open at each invocation, added up.
 #[derive(Drop)]
 pub struct Followed {
     pub monitor: Monitor,
@@ -32,7 +32,7 @@ pub struct Followed {
 }
 
 impl Followed {
-    /// No line was read yet.
+    /// Returns a stream of which no line was read.
     pub fn new(alloc: Global) -> Result<Followed, Memory>
         ensures { IfOk result (IsFollowed []) }
     {
@@ -45,7 +45,7 @@ impl Followed {
         })
     }
 
-    /// The first line has starting pairs.
+    /// Returns a stream after a first line with these starting pairs.
     fn from_start(
         alloc: Global,
         version: TextVersion,
@@ -68,7 +68,7 @@ impl Followed {
         })
     }
 
-    /// Takes the line after so many.
+    /// Takes the next line. The number of lines before it is `before`.
     pub fn take_line(
         self,
         alloc: Global,
@@ -108,7 +108,7 @@ impl Followed {
         }
     }
 
-    /// Takes the event that the line of this number spells.
+    /// Takes the event that this line spells. The line has this number.
     fn take_spelled(
         self,
         alloc: Global,
@@ -132,8 +132,8 @@ impl Followed {
         }
     }
 
-    /// Takes an event that is given by its values, as its line (`event_line`) of this number. The line
-    /// is written only if the stream ends at it.
+    /// Takes an event that is given by its values, as its line (`event_line`). The line has this
+    /// number, and is written only if the stream ends at it.
     pub fn take_values(
         self,
         alloc: Global,
@@ -226,7 +226,7 @@ impl Followed {
         }
     }
 
-    /// The outcome if all lines were taken.
+    /// Returns the outcome if no more lines come.
     pub fn finish(&self, alloc: Global) -> RunOutcome
         ensures { (known : Option (List ℕ)) (read : List (List ℕ)) (budget : ℕ)
             → IsFollowed read self.now → AreLinesOf known read

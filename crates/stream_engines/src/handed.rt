@@ -1,4 +1,4 @@
-// A stream whose lines, or events, are handed over as they come: what each makes of it, and the outcome.
+// A stream that is passed line by line, or event by event: the state after each, and the outcome.
 ghost use Rattle.std.specs.Prelude.{◌≡◌, ◌<◌, ℕ, List, [], ◌∷◌, ◌++◌, Option, Some, IfOk, IfSome, IsTrue, string_bytes};
 ghost use Rattle.events.specs.declared.event.Event.TheVariants.{Invoke, Answer};
 ghost use Rattle.stream_text.specs.Cuts.{lines_of};
@@ -19,28 +19,28 @@ use outcomes::RunOutcome;
 use std::alloc::{AllocError, Global};
 use stream_text::{StreamEvent, first_line_feed};
 
-/// The most pairs of an answer whose line is surely short enough.
+/// An answer with at most this many pairs has a line that is short enough.
 const MOST_PAIRS: usize = 23_000;
 
-/// Processes are numbered from 0, each below this.
+/// Processes are numbered from 0. Each number is below this one.
 const PROCESSES: u32 = 65_536;
 
-/// Follows a stream whose lines are handed over.
+/// Follows a stream that is passed line by line.
 #[derive(Drop)]
 pub enum LineFollower {
-    /// So many lines were handed over, and are followed. A search reaches at most `budget`
+    /// The stream is followed, and has `lines` lines so far. A search reaches at most `budget`
     /// configurations.
     Going {
         followed: Followed,
         lines: u64,
         budget: u32,
     },
-    /// This is the outcome. It stays so, whatever lines follow.
+    /// The stream has ended with this outcome, which stays. Further lines are ignored.
     Ended(RunOutcome),
 }
 
 impl LineFollower {
-    /// No line was handed over yet.
+    /// Returns a follower that has taken no line.
     pub fn new(alloc: Global, budget: u32) -> Result<LineFollower, Memory>
         ensures { IfOk result (IsHanded budget []) }
     {
@@ -98,8 +98,8 @@ impl LineFollower {
         }
     }
 
-    /// Takes an event that is given by its values, as its line (`event_line`). That line is written only
-    /// if the stream ends at it, or if it may be too long.
+    /// Takes an event that is given by its values, as its line (`event_line`). That line is written
+    /// only if the stream ends at it, or if it may be too long.
     fn take_event(self, alloc: Global, event: &StreamEvent) -> LineFollower
         ensures handed { (budget : ℕ) (lines : List (List ℕ)) → HasWords (as_event event.now)
             → IsHanded budget lines self
@@ -113,7 +113,8 @@ impl LineFollower {
         }
     }
 
-    /// Whether the line of an event surely spells it in the version of the stream, and may be read.
+    /// Returns true only if the event's line spells it in the version of the stream, and may be
+    /// read. If the stream has ended, returns true for each event.
     fn may_take(&self, event: &StreamEvent) -> bool
         ensures { IsTrue result → MayTake self.now (as_event event.now) }
     {
@@ -127,7 +128,7 @@ impl LineFollower {
         }
     }
 
-    /// Takes an event whose line surely spells it, as that line.
+    /// Takes an event as its line, which has to spell it.
     fn take_values(self, alloc: Global, event: &StreamEvent) -> LineFollower
         requires { MayTake self (as_event event.now) }
         ensures handed { (budget : ℕ) (lines : List (List ℕ)) → HasWords (as_event event.now)
@@ -152,7 +153,7 @@ impl LineFollower {
         }
     }
 
-    /// Takes the next line, which was written; if memory ran out for it, that ends the stream.
+    /// Takes the next line, as it was written. If memory ran out for it, the stream ends.
     fn take_written(self, alloc: Global, line: Result<String, AllocError>) -> LineFollower
         ensures handed { (budget : ℕ) (lines : List (List ℕ)) (next : List ℕ)
             → IfOk line (λ text. string_bytes text ≡ next) → IsHanded budget lines self
@@ -165,7 +166,7 @@ impl LineFollower {
         }
     }
 
-    /// Memory ran out for the next line.
+    /// Takes a line for which memory ran out. The stream ends there.
     pub fn out_of_memory(self) -> LineFollower
         ensures handed { (budget : ℕ) (lines : List (List ℕ)) (next : List ℕ)
             → IsHanded budget lines self → IsHanded budget (lines ++ next ∷ []) result }
@@ -206,7 +207,7 @@ impl LineFollower {
     }
 }
 
-/// The number of a process, if it is one that a line may name.
+/// Returns the number of a process, if a line may name it.
 fn process_number(number: u32) -> Option<u16>
     ensures { IfSome result (λ process. (process ≡ number) × (process < number_limit)) }
 {
@@ -217,7 +218,8 @@ fn process_number(number: u32) -> Option<u16>
     }
 }
 
-/// Whether an event may stand in a stream of a version, and its line is surely short enough.
+/// Returns true only if a stream of this version may contain the event, on a line that is short
+/// enough.
 fn may_stand(version: TextVersion, event: &StreamEvent) -> bool
     ensures { IsTrue result → MayStand version (as_event event.now) }
 {
@@ -231,7 +233,7 @@ fn may_stand(version: TextVersion, event: &StreamEvent) -> bool
     }
 }
 
-/// The outcome of the text of a whole stream (`follow_outcome`). Nothing is written.
+/// Returns the outcome for the text of a whole stream (`follow_outcome`). Writes nothing.
 pub fn follow_text(alloc: Global, text: &[u8], budget: u32) -> RunOutcome
     ensures { IsStreamOutcome budget (Some text.now) result }
 {

@@ -1,5 +1,5 @@
-//! The engine on a stream of events, over any source and sinks. It reads lines one by one, judges each
-//! answer as it comes, and ends at the first line that goes wrong.
+//! The engine on a stream of events, over any source and sinks. It reads lines one by one, judges
+//! each answer as it comes, and ends at the first line that goes wrong.
 #![tactic(auto)]
 
 mod event_lines;

@@ -2,6 +2,6 @@
 
 /// A display that is called after each line. No contract says what it shows.
 pub trait ProgressDisplay {
-    /// So many calls were invoked.
+    /// Shows that so many calls were invoked.
     fn show(&mut self, calls: usize);
 }

@@ -19,9 +19,9 @@ use streams::{Sink, Source};
 pub(crate) const MOST_LINES: u64 = u64::MAX - 1;
 
 /// Reads the lines of a stream one by one, each at most `MAX_LINE` bytes, and judges each answer as
-/// it comes. A search reaches at most `budget` configurations. It ends at the end of the source, or
-/// at the first line that goes wrong. It takes memory for the longest line, and for what the monitor
-/// keeps. After each line it shows how many calls there were. Returns the exit status.
+/// it comes. A search reaches at most `budget` configurations. Reading ends at the end of the
+/// source, or at the first line that goes wrong. The longest line and the monitor take memory.
+/// After each line `progress` shows how many calls there were. Returns the exit status.
 pub fn run_follow<S: Source, O: Sink, F: Sink, H: Sink, P: ProgressDisplay>(
     alloc: Global,
     source: &mut S,
@@ -45,7 +45,7 @@ pub fn run_follow<S: Source, O: Sink, F: Sink, H: Sink, P: ProgressDisplay>(
     write_outcome(output, faults, hints, &outcome)
 }
 
-/// The outcome of a stream (`run_follow`). Nothing is written.
+/// Returns the outcome of a stream (`run_follow`). Writes nothing.
 pub fn follow_outcome<S: Source, P: ProgressDisplay>(
     alloc: Global,
     source: &mut S,
@@ -64,7 +64,7 @@ pub fn follow_outcome<S: Source, P: ProgressDisplay>(
     follow_lines(alloc, &mut buffer, source, followed, budget, progress)
 }
 
-/// Takes line after line.
+/// Takes one line after another.
 fn follow_lines<S: Source, P: ProgressDisplay>(
     alloc: Global,
     buffer: &mut LineBuffer,
@@ -91,7 +91,7 @@ fn follow_lines<S: Source, P: ProgressDisplay>(
     refused_many(alloc, u64::MAX)
 }
 
-/// Takes the line after so many.
+/// Takes the next line. The number of lines before it is `before`.
 fn follow_next<S: Source>(
     alloc: Global,
     buffer: &mut LineBuffer,

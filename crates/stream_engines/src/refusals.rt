@@ -14,7 +14,7 @@ use outcomes::{
 use std::alloc::{AllocError, Global};
 use stream_text::LineFault;
 
-/// The refusal of the line of this number, or out of memory.
+/// Returns the refusal of the line of this number, or out of memory.
 pub fn refused_line(alloc: Global, number: u64, line: &[u8], fault: LineFault) -> RunOutcome
     ensures { IsLineRefusal number line.now fault result }
 {
@@ -27,8 +27,8 @@ pub fn refused_line(alloc: Global, number: u64, line: &[u8], fault: LineFault) -
     )
 }
 
-/// The refusal of the first line, or out of memory. If it is a history, the hint says which
-/// subcommands read histories.
+/// Returns the refusal of the first line, or out of memory. If the line is a history, the hint says
+/// which subcommands read histories.
 pub fn refused_first(alloc: Global, line: &[u8], fault: LineFault) -> RunOutcome
     ensures { IsRefusalAfter [] 1 line.now fault result }
 {
@@ -38,7 +38,7 @@ pub fn refused_first(alloc: Global, line: &[u8], fault: LineFault) -> RunOutcome
     }
 }
 
-/// The refusal of a first line that spells neither starting pairs nor an event.
+/// Returns the refusal of a first line that spells neither starting pairs nor an event.
 fn refused_shape(alloc: Global, line: &[u8]) -> RunOutcome
     ensures { IsRefusalAfter [] 1 line.now lines.Shape result }
 {
@@ -52,7 +52,7 @@ fn refused_shape(alloc: Global, line: &[u8]) -> RunOutcome
     }
 }
 
-/// Whether a line is the text of a history.
+/// Returns whether a line is the text of a history.
 fn is_history(alloc: Global, line: &[u8]) -> Result<bool, Memory>
     ensures { IfOk result (λ found. IsTrue found ↔ IsHistoryLine line.now) }
 {
@@ -67,7 +67,7 @@ fn is_history(alloc: Global, line: &[u8]) -> Result<bool, Memory>
     }
 }
 
-/// The refusal of the event of the line of this number, or out of memory.
+/// Returns the refusal of the event on the line of this number, or out of memory.
 pub fn refused_event(alloc: Global, number: u64, line: &[u8], fault: &FollowFault) -> RunOutcome
     ensures { IsTurnRefusal number line.now fault.now result }
 {
@@ -80,7 +80,7 @@ pub fn refused_event(alloc: Global, number: u64, line: &[u8], fault: &FollowFaul
     }
 }
 
-/// The refusal of a line after as many as are read, or out of memory.
+/// Returns the refusal of a line after the last one that may be read, or out of memory.
 pub fn refused_many(alloc: Global, number: u64) -> RunOutcome
     ensures { IsManyRefusal number result }
 {
@@ -90,7 +90,7 @@ pub fn refused_many(alloc: Global, number: u64) -> RunOutcome
     )
 }
 
-/// The report of a fault of this name, at the line of this number.
+/// Returns the report of a fault of this name, at the line of this number.
 fn fault_line(alloc: Global, number: u64, name: &str) -> Result<String, AllocError>
     ensures { IfOk result (λ text. string_bytes text ≡ stream_fault_line number name.now) }
 {
@@ -100,7 +100,7 @@ fn fault_line(alloc: Global, number: u64, name: &str) -> Result<String, AllocErr
     Ok(line)
 }
 
-/// The report of a fault, at the line of this number.
+/// Returns the report of a fault, at the line of this number.
 fn line_fault_line(alloc: Global, number: u64, fault: LineFault) -> Result<String, AllocError>
     ensures { IfOk result (λ text. string_bytes text ≡ stream_fault_line number
         (line_fault_name fault)) }
@@ -109,7 +109,7 @@ fn line_fault_line(alloc: Global, number: u64, fault: LineFault) -> Result<Strin
     fault_line(alloc, number, name.as_str())
 }
 
-/// The hint on a line with a fault.
+/// Returns the hint on a line with a fault.
 fn line_fault_hint(alloc: Global, line: &[u8], fault: LineFault) -> Result<String, AllocError>
     ensures { IfOk result (λ hint. string_bytes hint ≡ line_fault_hint line.now fault) }
 {
@@ -119,7 +119,7 @@ fn line_fault_hint(alloc: Global, line: &[u8], fault: LineFault) -> Result<Strin
     }
 }
 
-/// The number and the name of the fault of a line.
+/// Returns the number and the name of the fault of a line.
 fn line_fault_name(alloc: Global, fault: LineFault) -> Result<String, AllocError>
     ensures { IfOk result (λ name. string_bytes name ≡ line_fault_name fault) }
 {
@@ -135,7 +135,7 @@ fn line_fault_name(alloc: Global, fault: LineFault) -> Result<String, AllocError
     String::from_str(alloc, name)
 }
 
-/// The number and the name of the fault of an event after others.
+/// Returns the number and the name of the fault of an event after others.
 fn turn_fault_name(fault: &FollowFault) -> &'static str
     ensures { result.now ≡ turn_fault_name fault.now }
 {
@@ -147,14 +147,14 @@ fn turn_fault_name(fault: &FollowFault) -> &'static str
     }
 }
 
-/// What was expected instead of a first line that is a history.
+/// Returns what was expected instead of a first line that is a history.
 fn history_elsewhere() -> &'static str
     ensures { result.now ≡ history_elsewhere }
 {
     "an event in a line of its own; bench judge and bench locate read histories"
 }
 
-/// What was expected instead of a line with this fault.
+/// Returns what was expected instead of a line with this fault.
 fn line_wanted(fault: LineFault) -> &'static str
     ensures { result.now ≡ line_wanted fault }
 {
@@ -169,7 +169,7 @@ fn line_wanted(fault: LineFault) -> &'static str
     }
 }
 
-/// What was expected instead of an event with this fault.
+/// Returns what was expected instead of an event with this fault.
 fn turn_wanted_for(fault: &FollowFault) -> &'static str
     ensures { result.now ≡ turn_wanted_for fault.now }
 {
@@ -181,7 +181,7 @@ fn turn_wanted_for(fault: &FollowFault) -> &'static str
     }
 }
 
-/// Which processes there may be, and how many events.
+/// Returns which processes there may be, and how many events.
 fn too_many_wanted() -> &'static str
     ensures { result.now ≡ too_many_wanted }
 {

@@ -23,15 +23,15 @@ use serde_json::{Map, Value, put};
 use small_histories::value_or_null;
 use std::alloc::{AllocError, Global};
 
-/// The answer to a stream whose events have an order, with its hint if it has one.
+/// Returns the answer to a stream whose events have an order, with its hint if it has one.
 pub fn yes_outcome(alloc: Global, calls: usize, overlap: u64) -> RunOutcome
     ensures { IsYesOutcome calls overlap result }
 {
     hinted_yes(alloc, yes_line(alloc, calls, overlap), calls, overlap)
 }
 
-/// The answer if it is not known whether the events go wrong. Its line names the keys of the part that
-/// may not go on.
+/// Returns the answer if it is not known whether the events go wrong. Its line names the keys of
+/// the part that may have no order.
 pub fn spent_outcome(alloc: Global, loss: &Loss) -> RunOutcome
     ensures { IsSpentOutcome loss.now result }
 {
@@ -44,8 +44,8 @@ pub fn spent_outcome(alloc: Global, loss: &Loss) -> RunOutcome
     )
 }
 
-/// The answer if the events go wrong. Its first line names the keys of the part that does not go on. If
-/// the part has one past, a second line has a history of its calls.
+/// Returns the answer if the events go wrong. Its first line names the keys of the part without an
+/// order. If the part has one past, a second line contains a history of its calls.
 pub fn lost_outcome(alloc: Global, loss: &Loss) -> RunOutcome
     ensures { All IsDead (pasts_of loss.now.part) → IsLostOutcome loss.now result }
 {
@@ -69,8 +69,8 @@ fn lost_lines(alloc: Global, loss: &Loss) -> Result<String, Memory>
     Ok(lines)
 }
 
-/// The line of a history of the calls of a part that does not go on. It is empty unless the part has
-/// one past.
+/// Returns the line with a history of the calls of a part without an order. It is empty unless the
+/// part has one past.
 fn own_line(alloc: Global, loss: &Loss) -> Result<String, Memory>
     ensures { All IsDead (pasts_of loss.now.part)
         → IfOk result (λ small. MatchOption (own_part loss.now) (string_bytes small ≡ [])
@@ -82,8 +82,8 @@ fn own_line(alloc: Global, loss: &Loss) -> Result<String, Memory>
     }
 }
 
-/// The line of a stream whose events have an order: how many calls there were, and how many other
-/// calls were open at an invocation, on average.
+/// Returns the line for a stream whose events have an order. It says how many calls there were. It
+/// also says how many other calls were open at an invocation, on average.
 fn yes_line(alloc: Global, calls: usize, overlap: u64) -> Result<String, AllocError>
     ensures { IfOk result (λ text. string_bytes text ≡ yes_line calls overlap) }
 {
@@ -95,7 +95,8 @@ fn yes_line(alloc: Global, calls: usize, overlap: u64) -> Result<String, AllocEr
     Ok(line)
 }
 
-/// The line of a stream that goes wrong at an event, the answer of the call of this number.
+/// Returns the line for a stream that goes wrong at an event, the answer of the call of this
+/// number.
 fn lost_line(
     alloc: Global,
     event: usize,
@@ -122,7 +123,7 @@ fn lost_value(
     Ok(Value::Object(members))
 }
 
-/// Puts the members of that line into an object without members.
+/// Puts the members of `lost_data` into an object without members.
 fn put_lost(
     alloc: Global,
     members: &mut Map<String, Value>,
@@ -138,7 +139,8 @@ fn put_lost(
     put(members, alloc, "verdict", Value::try_from_str(alloc, "no")?)
 }
 
-/// The line of a stream that may go wrong at an event, the answer of the call of this number.
+/// Returns the line for a stream that may go wrong at an event, the answer of the call of this
+/// number.
 fn spent_line(
     alloc: Global,
     event: usize,
@@ -165,7 +167,7 @@ fn spent_value(
     Ok(Value::Object(members))
 }
 
-/// Puts the members of that line into an object without members.
+/// Puts the members of `spent_data` into an object without members.
 fn put_spent(
     alloc: Global,
     members: &mut Map<String, Value>,
@@ -192,7 +194,7 @@ fn put_spent(
     )
 }
 
-/// Puts the number and the event of an answer, and what is said of keys.
+/// Puts the number of a call, the event of its answer, and the losses of keys into an object.
 fn put_losses(
     alloc: Global,
     members: &mut Map<String, Value>,
@@ -229,7 +231,7 @@ fn key_value(alloc: Global, loss: &KeyLoss) -> Result<Value, AllocError>
     Ok(Value::Object(members))
 }
 
-/// Puts what is said of a key into an object without members.
+/// Puts the loss of a key into an object without members.
 fn put_key(
     alloc: Global,
     members: &mut Map<String, Value>,
@@ -259,7 +261,7 @@ fn numbers_value(alloc: Global, numbers: &[usize]) -> Result<Value, AllocError>
     Ok(Value::from(items))
 }
 
-/// The values that a key may have had.
+/// Returns the values that a key may have had.
 fn values_value(alloc: Global, from: &[Origin]) -> Result<Value, AllocError>
     ensures { IfOk result (λ value. view value ≡ values_data from.now) }
 {
@@ -270,7 +272,7 @@ fn values_value(alloc: Global, from: &[Origin]) -> Result<Value, AllocError>
     Ok(Value::from(items))
 }
 
-/// The calls that put these values, by the events of their invocations.
+/// Returns the calls that put these values, each by the event of its invocation.
 fn puts_value(alloc: Global, from: &[Origin]) -> Result<Value, AllocError>
     ensures { IfOk result (λ value. view value ≡ puts_data from.now) }
 {

@@ -8,8 +8,8 @@ use outcomes::line_of;
 use small_histories::{small_history, small_text};
 use std::alloc::Global;
 
-/// The line of the text of a history with these calls, from these pairs. It is empty if no history
-/// has them, or if the text is too long.
+/// Returns the line of a history with these calls, from these starting pairs. It is empty if no
+/// history has them, or if the text is too long.
 pub(crate) fn small_line(
     alloc: Global,
     start: &[(u64, u64)],
@@ -24,7 +24,7 @@ pub(crate) fn small_line(
     }
 }
 
-/// The line of the text of a history. It is empty if the text is too long.
+/// Returns the line with the text of a history. It is empty if the text is too long.
 fn history_line(alloc: Global, history: &History) -> Result<String, Memory>
     ensures { IfOk result (λ text. IsHistoryLine history.now (string_bytes text)) }
 {

@@ -1,4 +1,4 @@
-// Why an event is not followed, and what is said of that.
+// Why an event is not followed, and the outcome for that.
 ghost use Rattle.std.specs.Prelude.{◌≡◌, ℕ, ◌+◌, List, [], ◌∷◌, ◌++◌, length, Option, IfOk};
 ghost use Rattle.events.specs.declared.event.Event.{Event};
 ghost use Rattle.stream_text.specs.Lines.{as_event, SpellsEvent};
@@ -22,15 +22,15 @@ use stream_text::StreamEvent;
 /// Why an event is not followed.
 #[derive(Drop)]
 pub enum Stop {
-    /// It is out of turn, or an event too many; or memory ran out.
+    /// It is out of turn, it is an event too many, or memory ran out.
     Refused(FollowFault),
     /// It is an answer at which the events go wrong.
     Lost(Loss),
-    /// It is an answer of which it is not known whether they do.
+    /// It is an answer, and it is not known whether the events go wrong at it.
     Spent(Loss),
 }
 
-/// The outcome if the event that the line of this number spells is not followed.
+/// Returns the outcome if the event on this line is not followed. The line has this number.
 pub(crate) fn stop_outcome(alloc: Global, number: u64, line: &[u8], stop: &Stop) -> RunOutcome
     ensures { (budget : ℕ) (known : Option (List ℕ)) (read : List (List ℕ)) (f : Followed)
         (e : Event) (followed : IsFollowed read f)
@@ -45,7 +45,8 @@ pub(crate) fn stop_outcome(alloc: Global, number: u64, line: &[u8], stop: &Stop)
     }
 }
 
-/// The outcome if an event that is given by its values is not followed, as that of its line.
+/// Returns the outcome if an event is not followed that is given by its values. It is that of the
+/// event's line.
 pub(crate) fn values_outcome(
     alloc: Global,
     number: u64,
@@ -66,7 +67,7 @@ pub(crate) fn values_outcome(
     }
 }
 
-/// The same event again.
+/// Returns a copy of the event.
 pub(crate) fn copy_of(alloc: Global, event: &StreamEvent) -> Result<StreamEvent, Memory>
     ensures { IfOk result (λ own. own ≡ event.now) }
 {

@@ -1,4 +1,4 @@
--- The lines of bytes: each is ended by a line feed, which the last may lack.
+-- The lines of bytes: a line feed ends each line, and the last line may lack it.
 use Rattle.std.specs.Prelude.{◌≡◌, ◌≢◌, ◌⊎◌, ℕ, ◌<◌, ◌≤◌, ◌==◌, Bool, true, false, if◌then◌else◌, List, [], ◌∷◌, ◌++◌, length, Option, All}
 use Rattle.std.specs.Io.KnownBytes.{Consumes, IsAtEnd, Keeps}
 use Rattle.stream_text.specs.LineLimits.{line_limit}
@@ -44,8 +44,8 @@ pub record Stays (old : Option (List ℕ)) (line : List ℕ) (new : Option (List
   pub kept : Keeps old new
   pub none : line ≡ []
 
--- the bytes to come, where they are known, begin with more than a line may have, none of which ends
--- a line
+-- the bytes to come, if they are known, begin with more bytes than a line may have, and none of
+-- these ends a line
 pub record BeginsTooLong (old : Option (List ℕ)) : Type 0 where
   pub front : List ℕ
   pub rest : Option (List ℕ)

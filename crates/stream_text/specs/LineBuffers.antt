@@ -2,12 +2,12 @@
 use Rattle.std.specs.Prelude.{◌≡◌, ℕ, List, ◌++◌, length, Option}
 use Rattle.std.specs.Io.KnownBytes.{Consumes}
 
--- the last line that was returned, and the bytes that were read after it
+-- a line that was read, and the bytes that were read after it
 pub record LineBufferView : Type 0 where
   pub line : List ℕ
   pub bytes : List ℕ
 
--- a source gave this many bytes, which come after those that were there
+-- a source returned this many bytes, which come after those that were there
 pub record GrowsBy (old new : Option (List ℕ)) (before after : List ℕ) (count : ℕ) : Type 0 where
   pub bytes : List ℕ
   pub grown : after ≡ before ++ bytes

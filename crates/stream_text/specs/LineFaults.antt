@@ -19,7 +19,7 @@ use Rattle.stream_text.specs.declared.line_fault.LineFault.{LineFault}
 
 -- ---- of the bytes alone
 
--- its length, then that it is no JSON in UTF-8; or memory ran out
+-- the line is too long, or otherwise is not JSON in UTF-8; or memory ran out
 abbrev pub IsByteFault : List ℕ → LineFault → Type 0
 IsByteFault line faults.TooLong = line_limit < length line
 IsByteFault line faults.NotJson = (length line ≤ line_limit) × ((d : Data) → IsUtf8 line → read line ≡ Some d → ⊥)
@@ -28,7 +28,8 @@ IsByteFault line fault = ⊥
 
 -- ---- of the value of an event
 
--- it has no form that an event has, then its process number is past the limit; or memory ran out
+-- the value does not have the form of an event, or otherwise its process number is too large; or
+-- memory ran out
 abbrev pub IsEventFault : TextVersion → Data → LineFault → Type 0
 IsEventFault version d faults.Shape = SpellsNoEvent version d
 IsEventFault version d faults.TooMany =
@@ -38,7 +39,7 @@ IsEventFault version d fault = ⊥
 
 -- ---- of the value of starting pairs
 
--- the pairs begin with some by rising key, and the value after them is no pair with a key above
+-- the pairs begin with some by rising key, and the value after them is not a pair with a key above
 -- theirs
 pub record ShowsPairFault (items : List Data) (place : ℕ) : Type 0 where
   pub before : List (ℕ × ℕ)
@@ -55,8 +56,8 @@ IsPairFault items (faults.Start place) = ShowsPairFault items place
 IsPairFault items faults.Memory = ⊤
 IsPairFault items fault = ⊥
 
--- the members are no array and the number of a version with a start, then the first faulty pair; or
--- memory ran out
+-- the members are not an array and the number of a version with a start, or otherwise a pair is
+-- faulty; or memory ran out
 abbrev pub IsStartFault : Data → Data → LineFault → Type 0
 IsStartFault start named faults.Version = (items : List Data) (version : TextVersion) → start ≡ list_data items
     → NamesVersion named version → ⊥
@@ -65,7 +66,7 @@ IsStartFault start named (faults.Start place) =
 IsStartFault start named faults.Memory = ⊤
 IsStartFault start named fault = ⊥
 
--- ---- of a first value, which is that of starting pairs where its members say so
+-- ---- of a first value, which is that of starting pairs if its members say so
 
 abbrev pub IsFirstFault : Data → LineFault → Type 0
 IsFirstFault d fault =

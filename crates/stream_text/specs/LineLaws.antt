@@ -9,11 +9,11 @@ use Rattle.stream_text.specs.Lines.{SpellsEvent, SpellsFirst}
 use Rattle.stream_text.specs.LineFaults.{IsEventLineFault, IsFirstLineFault}
 use Rattle.stream_text.specs.Cuts.{lines_of, TakesLine}
 
--- a line spells one event only
+-- a line spells only one event
 abbrev pub SpellsOneEvent : Type 0
 SpellsOneEvent = (version : TextVersion) (line : List ℕ) (a b : Event) → SpellsEvent version line a → SpellsEvent version line b → a ≡ b
 
--- a first line spells one thing only: starting pairs, or an event
+-- a first line spells only one thing: starting pairs, or an event
 abbrev pub SpellsOneFirst : Type 0
 SpellsOneFirst = (line : List ℕ) (a b : FirstLine) → SpellsFirst line a → SpellsFirst line b → a ≡ b
 

@@ -9,8 +9,8 @@ use crate::event::StreamEvent;
 use history_text::{TextVersion, invocation_at, response_at};
 use std::alloc::Global;
 
-/// The event that a line in the compact form spells, in a stream of a version. `None` says nothing:
-/// the line may have another form, the event may not be allowed in that version, or memory may have
+/// Returns the event that a line in the compact form spells, in a stream of a version. `None` means
+/// nothing. The line may have another form, the version may not allow the event, or memory may have
 /// run out.
 pub fn compact_event(alloc: Global, version: TextVersion, line: &[u8]) -> Option<StreamEvent>
     ensures { IfSome result (λ e. SpellsEvent version line.now (as_event e)) }
@@ -21,7 +21,7 @@ pub fn compact_event(alloc: Global, version: TextVersion, line: &[u8]) -> Option
     event_in(alloc, version, line)
 }
 
-/// The event that is the whole of a line.
+/// Returns the event that the whole line spells.
 fn event_in(alloc: Global, version: TextVersion, line: &[u8]) -> Option<StreamEvent>
     ensures text { IfSome result (λ e. IsCompact (event_data (as_event e)) line.now) }
     ensures stands { IfSome result (λ e. MayStandIn version (as_event e)) }
@@ -33,7 +33,7 @@ fn event_in(alloc: Global, version: TextVersion, line: &[u8]) -> Option<StreamEv
     }
 }
 
-/// The invocation that is the whole of a line.
+/// Returns the invocation that the whole line spells.
 fn invocation(version: TextVersion, line: &[u8]) -> Option<StreamEvent>
     ensures text { IfSome result (λ e. IsCompact (event_data (as_event e)) line.now) }
     ensures stands { IfSome result (λ e. MayStandIn version (as_event e)) }
@@ -46,7 +46,7 @@ fn invocation(version: TextVersion, line: &[u8]) -> Option<StreamEvent>
     Some(StreamEvent::Invoke { process, call })
 }
 
-/// The response that is the whole of a line.
+/// Returns the response that the whole line spells.
 fn response(alloc: Global, version: TextVersion, line: &[u8]) -> Option<StreamEvent>
     ensures text { IfSome result (λ e. IsCompact (event_data (as_event e)) line.now) }
     ensures stands { IfSome result (λ e. MayStandIn version (as_event e)) }
@@ -59,7 +59,7 @@ fn response(alloc: Global, version: TextVersion, line: &[u8]) -> Option<StreamEv
     Some(StreamEvent::Answer { process, reply })
 }
 
-/// A process number of a stream, if nothing is left of its line.
+/// Returns a number as that of a process, if it is small enough and nothing is left of the line.
 fn last_process(number: u64, rest: &[u8]) -> Option<u16>
     ensures process { IfSome result (λ process. process ≡ number) }
     ensures nothing { IfSome result (λ _. rest.now ≡ []) }

@@ -9,9 +9,9 @@ use crate::line_buffer::LineBuffer;
 use crate::no_line::NoLine;
 use streams::Source;
 
-/// Reads the next line of a source into the buffer, which may hold a beginning of it, and returns
-/// whether there is one. If it fails, no bytes are lost, and a later call begins at the same bytes.
-/// It takes no memory. The time is linear in the bytes read.
+/// Reads the next line of a source into the buffer, and returns whether there is one. The buffer
+/// may already contain the beginning of the line. If reading fails, no bytes are lost, and a later
+/// call begins at the same bytes. It takes no memory. The time is linear in the bytes read.
 pub fn next_line<S: Source>(buffer: &mut LineBuffer, source: &mut S) -> Result<bool, NoLine>
     requires { S.failures source.old < u64.MAX }
     ensures line { IfOk result (λ found. Advances found

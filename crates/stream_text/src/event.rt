@@ -12,9 +12,9 @@ pub enum StreamEvent {
 /// What the first line of a stream spells.
 #[derive(Drop)]
 pub enum FirstLine {
-    /// It says the version of the stream, 2 or 3, and the pairs that the map holds at the start, by
-    /// rising key.
+    /// The version of the stream, 2 or 3, and the pairs that the map has at the start, by rising
+    /// key.
     Start { version: TextVersion, pairs: Pairs },
-    /// It is an event: the stream is of version 1, and starts with the empty map.
+    /// An event. The stream has version 1, and starts with the empty map.
     Event(StreamEvent),
 }

@@ -1,7 +1,7 @@
 //! Streams of events, a line each: the lines are cut from a source within bounded memory, and read
-//! one by one. A stream may go on without end, so nothing here stores what was read. Of the limits
-//! only two hold: each line has at most `MAX_LINE` bytes, and processes are numbered below 65,536.
-//! What an event is called, and which of its faults comes first, is as in the texts of histories.
+//! one by one. A stream may have no end, so nothing here stores what was read. Only two limits
+//! hold: each line has at most `MAX_LINE` bytes, and processes are numbered below 65,536. The names
+//! of events, and the order of their faults, are those of the texts of histories.
 #![tactic(auto)]
 
 mod compact;

@@ -10,11 +10,11 @@ use std::alloc::{AllocError, Global};
 use std::marker::Model;
 use streams::{Failed, Source};
 
-/// Twice the longest line. So never more bytes are moved to the front than were read since the last
-/// move.
+/// Twice the longest line. So a move to the front never takes more bytes than were read since the
+/// last move.
 const ROOM: usize = 2 * MAX_LINE;
 
-/// The last line that was returned, and the bytes after it. Contracts see the two lists.
+/// A line that was read, and the bytes after it. Contracts see the two lists.
 #[derive(Drop)]
 pub struct LineBuffer {
     buffer: Vec<u8>,
@@ -38,7 +38,7 @@ impl Model for LineBuffer {
 }
 
 impl LineBuffer {
-    /// No bytes yet.
+    /// Returns a buffer without bytes.
     pub fn new(alloc: Global) -> Result<LineBuffer, AllocError>
         ensures { IfOk result (λ w. w ≡ record { line = []; bytes = [] }) }
     {
@@ -52,28 +52,29 @@ impl LineBuffer {
         })
     }
 
-    /// The last line that was returned.
+    /// Returns the line.
     pub fn line(&self) -> &[u8]
         ensures { result.now ≡ self.now.line }
     {
         &self.buffer[self.line..self.line_end]
     }
 
-    /// The bytes after it.
+    /// Returns the bytes after the line.
     pub fn bytes(&self) -> &[u8]
         ensures { result.now ≡ self.now.bytes }
     {
         &self.buffer[self.from..self.to]
     }
 
-    /// Hands out no line any more.
+    /// Drops the line. The bytes after it stay.
     pub fn forget_line(&mut self)
         ensures { self.new ≡ record { line = []; bytes = self.old.bytes } }
     {
         self.line_end = self.line;
     }
 
-    /// Makes the first bytes the line, and drops them and the byte after them, if there is one.
+    /// Makes the first `count` bytes the line. Drops them from the bytes, with the next byte if
+    /// there is one.
     pub fn hand_out(&mut self, count: usize)
         requires { count ≤ length self.old.bytes }
         ensures { self.new ≡ record { line = take count self.old.bytes; bytes = drop (count + 1) self.old.bytes } }
@@ -83,7 +84,7 @@ impl LineBuffer {
         self.from = self.to.min(self.line_end + 1);
     }
 
-    /// Reads once, to the end of the bytes. Then there is no line any more.
+    /// Reads once, and appends to the bytes. Afterwards there is no line.
     pub fn fill<S: Source>(&mut self, source: &mut S) -> Result<usize, Failed>
         requires room { length self.old.bytes ≤ line_limit }
         requires few { S.failures source.old < u64.MAX }

@@ -3,30 +3,29 @@ use events::Memory;
 use std::alloc::{AllocError, AllocFailed};
 use thiserror::Error;
 
-/// Why a line of a stream spells nothing that it may: its first fault, numbered as those of a
-/// history's text.
+/// The first fault of a line of a stream. Faults have the numbers of those of a history's text.
 #[derive(Clone, Copy, Debug, PartialEq, Eq, Error)]
 pub enum LineFault {
     /// The line has more than `MAX_LINE` bytes.
     #[error("1 TooLong")]
     TooLong,
-    /// The line is no JSON in UTF-8.
+    /// The line is not JSON in UTF-8.
     #[error("2 NotJson")]
     NotJson,
-    /// The first line has only the members `start` and `version`, and these are not an array and
-    /// the number 2 or 3.
+    /// The first line has only the members `start` and `version`, but they are not an array and the
+    /// number 2 or 3.
     #[error("3 Version")]
     Version,
-    /// The line has no form that an event has.
+    /// The line does not have the form of an event.
     #[error("4 Shape")]
     Shape,
-    /// There is a process number of 65,536 or more.
+    /// A process number is 65,536 or more.
     #[error("5 TooMany")]
     TooMany,
     /// Memory ran out.
     #[error("7 Memory")]
     Memory,
-    /// The starting pair at this place is no pair of numbers, or its key is not above the one
+    /// The starting pair at this place is not a pair of numbers, or its key is not above the one
     /// before.
     #[error("8 Start at pair {pair}")]
     Start { pair: usize },

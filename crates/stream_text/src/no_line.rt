@@ -3,7 +3,7 @@ ghost use Rattle.std.specs.Prelude.{◌≡◌};
 
 use streams::Failed;
 
-/// Why no line was read. Nothing that is to come was lost.
+/// Why no line was read. No bytes are lost.
 #[derive(Clone, Copy, Debug, PartialEq, Eq)]
 pub enum NoLine {
     /// There are more than `MAX_LINE` bytes before the next line feed.

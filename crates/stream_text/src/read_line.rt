@@ -25,8 +25,9 @@ use serde_json::Value;
 use std::alloc::Global;
 
 /// Reads the event that a line spells, in a stream of a version. Otherwise returns the line's first
-/// fault, or `Memory`. It tests first the length of the line, then that it is JSON, then its shape
-/// and whether that version may have it, then its process number. A line without bytes is no JSON.
+/// fault, or `Memory`. The line's length is tested first, and then whether it is JSON. Its shape is
+/// tested next, with whether the version may have it, and last its process number. A line without
+/// bytes is not JSON.
 pub fn read_event_line(
     alloc: Global,
     version: TextVersion,
@@ -43,8 +44,8 @@ pub fn read_event_line(
     event_by_value(alloc, version, line)
 }
 
-/// Reads a line in any form, by its tree of values. It is a call of its own, so that a line in the
-/// compact form does not pay for what the tree needs.
+/// Reads a line in any form, by its tree of values. It is a function of its own, so a line in the
+/// compact form does not pay for the tree.
 #[inline(never)]
 fn event_by_value(
     alloc: Global,
@@ -60,9 +61,10 @@ fn event_by_value(
     event_of(alloc, version, &value)
 }
 
-/// Reads what the first line of a stream spells. It is starting pairs if it has only the members
-/// `start` and `version`, and else an event of a stream without them. Otherwise returns its first
-/// fault. Of starting pairs that is `Version`, and then that of the first faulty pair, `Start`.
+/// Reads what the first line of a stream spells. If it has only the members `start` and `version`,
+/// it spells starting pairs. Otherwise it spells an event of a stream without starting pairs.
+/// Returns its first fault if it spells neither. With starting pairs that is `Version`, and then
+/// `Start` with the first faulty pair.
 pub fn read_first_line(alloc: Global, line: &[u8]) -> Result<FirstLine, LineFault>
     ensures spelled { IfOk result (SpellsFirst line.now) }
     ensures refused { IfErr result (IsFirstLineFault line.now) }
@@ -73,7 +75,7 @@ pub fn read_first_line(alloc: Global, line: &[u8]) -> Result<FirstLine, LineFaul
     first_of(alloc, &value)
 }
 
-/// What the value of a first line spells.
+/// Returns what the value of a first line spells.
 fn first_of(alloc: Global, value: &Value) -> Result<FirstLine, LineFault>
     ensures ok { IfOk result (IsFirstOf (view value.now)) }
     ensures refused { IfErr result (IsFirstFault (view value.now)) }
@@ -84,7 +86,7 @@ fn first_of(alloc: Global, value: &Value) -> Result<FirstLine, LineFault>
     Ok(FirstLine::Event(event_of(alloc, TextVersion::One, value)?))
 }
 
-/// The JSON value of a line that is not too long.
+/// Returns the JSON value of a line that is not too long.
 fn value_of(alloc: Global, line: &[u8]) -> Result<Value, LineFault>
     ensures ok { IfOk result (λ value. IsLine line.now (view value)) }
     ensures refused { IfErr result (IsByteFault line.now) }
@@ -100,7 +102,7 @@ fn value_of(alloc: Global, line: &[u8]) -> Result<Value, LineFault>
     }
 }
 
-/// The event that a value spells.
+/// Returns the event that a value spells.
 fn event_of(alloc: Global, version: TextVersion, value: &Value) -> Result<StreamEvent, LineFault>
     ensures ok { IfOk result (λ e. IsEventData version (view value.now) (as_event e)) }
     ensures stands { IfOk result (λ e. MayStandIn version (as_event e)) }
@@ -115,7 +117,7 @@ fn event_of(alloc: Global, version: TextVersion, value: &Value) -> Result<Stream
     Err(LineFault::Shape)
 }
 
-/// The invocation that the values of its call and its process spell.
+/// Returns the invocation that the values of a call and a process spell.
 fn invocation_of(
     version: TextVersion,
     call: &Value,
@@ -137,7 +139,7 @@ fn invocation_of(
     Ok(StreamEvent::Invoke { process, call })
 }
 
-/// The response that the values of its reply and its process spell.
+/// Returns the response that the values of a reply and a process spell.
 fn response_of(
     alloc: Global,
     version: TextVersion,
@@ -160,7 +162,7 @@ fn response_of(
     Ok(StreamEvent::Answer { process, reply })
 }
 
-/// A process number of a stream.
+/// Returns a number as that of a process, if it is small enough.
 fn process_number(number: u64) -> Result<u16, LineFault>
     ensures ok { IfOk result (λ process. process ≡ number) }
     ensures refused { IfErr result (λ fault. (fault ≡ faults.TooMany) × (number_limit ≤ number)) }
@@ -168,7 +170,7 @@ fn process_number(number: u64) -> Result<u16, LineFault>
     u16::try_from(number).map_err(|_| LineFault::TooMany)
 }
 
-/// The starting pairs and the version that the values of a first line spell.
+/// Returns the starting pairs and the version that the values of a first line spell.
 fn start_of(alloc: Global, start: &Value, number: &Value) -> Result<FirstLine, LineFault>
     ensures ok { IfOk result (IsFirstOf (start_object (view start.now) (view number.now))) }
     ensures refused { IfErr result (IsStartFault (view start.now) (view number.now)) }
@@ -180,7 +182,8 @@ fn start_of(alloc: Global, start: &Value, number: &Value) -> Result<FirstLine, L
     Ok(FirstLine::Start { version, pairs })
 }
 
-/// The pairs that values spell, by rising key; else the first place at which they do not.
+/// Returns the pairs that values spell, by rising key. The fault has the first place where they do
+/// not.
 fn pairs_rising(alloc: Global, items: &[Value]) -> Result<Vec<(u64, u64)>, LineFault>
     ensures spelled { IfOk result (λ pairs. map view items.now ≡ map pair_data pairs.items) }
     ensures rising { IfOk result (λ pairs. KeysRise pairs.items) }

@@ -6,15 +6,15 @@ ghost use Rattle.std.specs.Io.KnownBytes.{Consumes, IsAtEnd, Keeps};
 use std::alloc::{AllocError, Global};
 use streams::{Failed, Source};
 
-/// A buffer of this many bytes.
+/// Returns a buffer of this many bytes.
 pub fn buffer_of(alloc: Global, size: usize) -> Result<Vec<u8>, AllocError>
     ensures { IfOk result (λ buffer. vec_len buffer ≡ size) }
 {
     vec![in alloc; 0u8; size]
 }
 
-/// Makes room after the bytes from one place up to another. If there is none, it moves them to the
-/// front. Returns where they are then.
+/// Makes room after the bytes between two places. If there is none, it moves the bytes to the
+/// front. Returns their places after that.
 pub fn make_room(buffer: &mut [u8], from: usize, to: usize) -> (usize, usize)
     requires order { from ≤ to }
     requires within { to ≤ length buffer.old }
@@ -30,7 +30,7 @@ pub fn make_room(buffer: &mut [u8], from: usize, to: usize) -> (usize, usize)
     (0, to - from)
 }
 
-/// Reads once, into the room from a place on, and leaves the bytes before it as they are.
+/// Reads once, into the room from a place on. The bytes before that place stay as they are.
 pub fn read_behind<S: Source>(source: &mut S, buffer: &mut [u8], to: usize) -> Result<usize, Failed>
     requires room { to < length buffer.old }
     requires few { S.failures source.old < u64.MAX }

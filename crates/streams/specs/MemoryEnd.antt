@@ -1,4 +1,4 @@
--- What a contract sees of an end over memory.
+-- What a contract sees of a source or a sink in memory.
 use Rattle.std.specs.Prelude.{ℕ, ◌-◌, ◌==◌, if◌then◌else◌, List, Option, None, Some}
 
 -- the bytes to come from a source, or the bytes written to a sink; the most bytes of a call; how

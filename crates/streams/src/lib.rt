@@ -1,9 +1,9 @@
 //! Where the bytes of a program come from and where they go.
 //!
-//! The contract of a source or a sink speaks of the bytes that are still to come, or that were
-//! written, if they are known. It also counts the calls that failed. So the contract of a program
-//! over sources and sinks can say what it writes for what it reads. It can also say that an end
-//! failed if the program reports that.
+//! The contract of a source is about the bytes that are still to come, if they are known. That of a
+//! sink is about the bytes that were written. Both count the calls that failed. So the contract of
+//! a program can say what it writes for the bytes that it reads. It can also say that a source or a
+//! sink failed if the program reports that.
 #![tactic(auto)]
 
 mod fault;

@@ -1,4 +1,5 @@
-//! Ends over memory, for tests. Their calls move a few bytes at a time, and one of them fails.
+//! Sources and sinks in memory, for tests. Their calls move a few bytes at a time, and one call
+//! fails.
 ghost use Rattle.std.specs.Prelude.{◌≡◌, ◌↔◌, ◌<◌, ◌≤◌, ◌+◌, ◌++◌, [], None, Some, Ok, IsTrue, IsErr, min, length, take, drop, vec_len};
 ghost use Rattle.std.specs.Prelude.{IfOk, OnErr};
 ghost use Rattle.streams.specs.MemoryEnd.{MemoryEnd, after_call};
@@ -6,7 +7,7 @@ ghost use Rattle.streams.specs.MemoryEnd.{MemoryEnd, after_call};
 use crate::{Failed, Sink, Source};
 use std::marker::Model;
 
-/// Gives the bytes that it was made with.
+/// A source of the bytes that it was made with.
 #[derive(Drop)]
 pub struct MemorySource {
     bytes: Vec<u8>,
@@ -30,8 +31,8 @@ impl Model for MemorySource {
 }
 
 impl MemorySource {
-    /// Returns a source that gives at most `most` bytes in a call. It fails once, after `fails_in`
-    /// calls, if that is a number.
+    /// Returns a source that returns at most `most` bytes in a call. If `fails_in` is a number, one
+    /// call fails: the one after so many calls.
     pub fn new(bytes: Vec<u8>, most: usize, fails_in: Option<u64>) -> Self
         requires { 0 < most }
         ensures { result ≡ record { bytes = bytes.items; most = most; fails_in = fails_in; failures = 0 } }
@@ -91,7 +92,7 @@ impl Source for MemorySource {
     }
 }
 
-/// Stores the bytes that are written to it, after those that it was made with.
+/// A sink that stores the bytes that are written to it, after those that it was made with.
 #[derive(Drop)]
 pub struct MemorySink {
     bytes: Vec<u8>,
@@ -114,9 +115,9 @@ impl Model for MemorySink {
 }
 
 impl MemorySink {
-    /// Returns a sink that stores what is written after these bytes, and takes at most `most` bytes
-    /// in a call. It fails once, after `fails_in` calls, if that is a number. A call also fails if
-    /// it needs more memory and gets none.
+    /// Returns a sink that stores what is written after these bytes. It takes at most `most` bytes
+    /// in a call. If `fails_in` is a number, one call fails: the one after so many calls. A call
+    /// also fails if it needs more memory and gets none.
     pub fn new(bytes: Vec<u8>, most: usize, fails_in: Option<u64>) -> Self
         requires { 0 < most }
         ensures { result ≡ record { bytes = bytes.items; most = most; fails_in = fails_in; failures = 0 } }
@@ -172,7 +173,7 @@ impl Sink for MemorySink {
     }
 }
 
-// Copies the first bytes, as many as both sides have and at most `most`, and returns how many.
+// Copies the first bytes, as many as both sides have and at most `most`. Returns how many.
 fn copy_front(from: &[u8], to: &mut [u8], most: usize) -> usize
     ensures count { result ≡ min most (min (length from.now) (length to.old)) }
     ensures copied { take result to.new ≡ take result from.now }
@@ -182,7 +183,7 @@ fn copy_front(from: &[u8], to: &mut [u8], most: usize) -> usize
     count
 }
 
-// Counts a call, and answers whether it is the one that fails.
+// Counts a call, and returns whether it is the one that fails.
 fn is_due(fails_in: &mut Option<u64>) -> bool
     ensures due { IsTrue result ↔ (fails_in.old ≡ Some 0) }
     ensures counted { fails_in.new ≡ after_call fails_in.old }

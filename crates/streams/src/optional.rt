@@ -5,7 +5,7 @@ ghost use Rattle.streams.specs.Optional.{failures_of};
 use crate::{Failed, Sink, StandardError};
 use std::io::{IsTerminal, Stderr};
 
-/// Returns standard error if it is a terminal. It is for a person who reads there, and never for a
+/// Returns standard error if it is a terminal. A person reads what is written there, and never a
 /// program.
 pub fn terminal_of(error: Stderr) -> Option<StandardError>
     ensures { ⟦<Option<StandardError> as Sink>⟧.failures result ≡ 0 }
@@ -22,7 +22,7 @@ impl<K: Sink> Sink for Option<K> {
 
     ghost failures = { λ sink. failures_of K.failures sink };
 
-    /// Without a sink the bytes are dropped, and no call fails.
+    /// Writes to the sink. Without a sink it drops the bytes and does not fail.
     fn write(&mut self, bytes: &[u8]) -> Result<usize, Failed> {
         match self {
             Some(sink) => sink.write(bytes),

@@ -12,7 +12,7 @@ pub struct ReaderSource<R> {
     failures: u64,
 }
 
-/// The standard input of the process, whose bytes no contract knows.
+/// The standard input of the process. No contract knows its bytes.
 pub type StandardInput = ReaderSource<Stdin>;
 
 impl<R: Read> ReaderSource<R> {

@@ -6,11 +6,10 @@ ghost use Rattle.streams.specs.Progress.{ConsumesAtMost};
 use crate::{ReadFault, Source};
 use std::alloc::Global;
 
-// The most bytes that a source is asked for at once.
+// The most bytes that one read may return.
 const CHUNK: usize = 65_536;
 
-/// Reads to the end, or until there are `limit` bytes. It takes time in proportion to the bytes
-/// read.
+/// Reads to the end, or until there are `limit` bytes. The time is linear in the bytes read.
 pub fn read_up_to<S: Source>(
     alloc: Global,
     source: &mut S,
@@ -41,7 +40,7 @@ pub fn read_up_to<S: Source>(
     Ok(bytes)
 }
 
-// Reads once into `chunk`, and appends what came to `bytes`.
+// Reads once into `chunk`, and appends the bytes that were read to `bytes`.
 fn read_once<S: Source>(
     source: &mut S,
     chunk: &mut [u8],

@@ -21,7 +21,7 @@ pub trait Sink {
             Appends (written self.old) (written self.new) (take count bytes.now)) }
         ensures unwritten { OnErr result (Keeps (written self.old) (written self.new)) }
 
-        // A call that fails raises the count of failures, and no other does.
+        // Only a call that fails raises the count of failures.
         ensures counted { OnOk result (failures self.new ≡ failures self.old) }
         ensures raised { OnErr result (failures self.new ≡ failures self.old + 1) };
 }

@@ -22,7 +22,7 @@ pub trait Source {
         ensures end { result ≡ Ok 0 → 0 < length buffer.new → IsAtEnd (remaining self.new) }
         ensures unread { OnErr result (Keeps (remaining self.old) (remaining self.new)) }
 
-        // A call that fails raises the count of failures, and no other does.
+        // Only a call that fails raises the count of failures.
         ensures counted { OnOk result (failures self.new ≡ failures self.old) }
         ensures raised { OnErr result (failures self.new ≡ failures self.old + 1) };
 }

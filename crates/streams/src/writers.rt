@@ -12,10 +12,10 @@ pub struct WriterSink<W> {
     failures: u64,
 }
 
-/// The standard output of the process, whose bytes no contract knows.
+/// The standard output of the process. No contract knows its bytes.
 pub type StandardOutput = WriterSink<Stdout>;
 
-/// The standard error of the process, whose bytes no contract knows.
+/// The standard error of the process. No contract knows its bytes.
 pub type StandardError = WriterSink<Stderr>;
 
 impl<W: Write> WriterSink<W> {
