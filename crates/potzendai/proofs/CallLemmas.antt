@@ -17,20 +17,20 @@ pub IsCall-outcome : (IsOutcome : RunOutcome → Type 0) (budget : ℕ) (before 
     → IsCall IsOutcome budget before after size status
 IsCall-outcome IsOutcome budget before after size status outcome within comes status_is size_is room = record {
   text = text_of outcome;
-  told = inl (record { outcome = outcome; is_budget = within; comes = comes; status_is = status_is; text_is = refl });
+  reported = inl (record { outcome = outcome; is_budget = within; comes = comes; status_is = status_is; text_is = refl });
   size_is = size_is;
   room = room;
 }
 
 -- what is written of a verdict with its hint is written of one without
-pub record IsToldAs (budget : ℕ) (text : List ℕ) (outcome : RunOutcome) : Type 0 where
+pub record IsReportedAs (budget : ℕ) (text : List ℕ) (outcome : RunOutcome) : Type 0 where
   pub plain : RunOutcome
   pub comes : IsTextOutcome (IsJudgeAnswer budget) IsHistoryRefusal (Some text) plain
   pub status_is : status_of outcome ≡ status_of plain
   pub text_is : text_of outcome ≡ text_of plain
 
 pub without_note : (budget : ℕ) (text : List ℕ) (outcome : RunOutcome)
-    → IsHintedOutcome (IsHintedJudgeAnswer budget) IsHistoryRefusal (Some text) outcome → IsToldAs budget text outcome
+    → IsHintedOutcome (IsHintedJudgeAnswer budget) IsHistoryRefusal (Some text) outcome → IsReportedAs budget text outcome
 without_note budget text (Answered answer bytes) h =
     record { plain = Answered answer bytes; comes = h.answered; status_is = refl; text_is = refl }
 without_note budget text (Noted answer bytes note) h =
@@ -95,10 +95,10 @@ pub explained_yes_is_linearizable : (budget : ℕ) (text : List ℕ) (outcome : 
     → IsTextOutcome (IsExplainAnswer budget) IsHistoryRefusal (Some text) outcome
     → status_of outcome ≡ 0 → SpellsLinearizable text
 explained_yes_is_linearizable budget text (Answered Yes bytes) comes is =
-    let told = comes.explains in (
+    let reported = comes.explains in (
       comes.history,
       comes.is_text,
-      order_of_yes budget comes.history told.verdict told.answer_is told.shown,
+      order_of_yes budget comes.history reported.verdict reported.answer_is reported.shown,
     )
 explained_yes_is_linearizable budget text (Answered No bytes) comes is = cc
 explained_yes_is_linearizable budget text (Answered Undecided bytes) comes is = cc
@@ -113,10 +113,10 @@ pub explained_no_is_unlinearizable : (budget : ℕ) (text : List ℕ) (outcome :
     → status_of outcome ≡ 1 → SpellsUnlinearizable text
 explained_no_is_unlinearizable budget text (Answered Yes bytes) comes is = cc
 explained_no_is_unlinearizable budget text (Answered No bytes) comes is =
-    let told = comes.explains in (
+    let reported = comes.explains in (
       comes.history,
       comes.is_text,
-      none_of_no budget comes.history told.verdict told.answer_is told.shown,
+      none_of_no budget comes.history reported.verdict reported.answer_is reported.shown,
     )
 explained_no_is_unlinearizable budget text (Answered Undecided bytes) comes is = cc
 explained_no_is_unlinearizable budget text (Noted answer bytes note) comes is = absurd comes

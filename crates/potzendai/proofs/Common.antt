@@ -21,10 +21,10 @@ pub use Rattle.outcomes.specs.declared.outcome.RunOutcome.{RunOutcome}
 pub use Rattle.outcomes.specs.declared.outcome.RunOutcome.TheVariants.{Answered, Failed, Memory, Noted, Refused, Words}
 pub use Rattle.stream_engines.specs.EventLines.{CallHasWords, IsWord, ReplyHasWords}
 pub use Rattle.stream_engines.specs.Handed.{IsHanded}
-pub use Rattle.stream_engines.specs.declared.handed.LineFollower.{LineFollower}
+pub use Rattle.stream_engines.specs.declared.line_follower.LineFollower.{LineFollower}
 pub use Rattle.stream_text.specs.Cuts.{lines_of}
 pub use Rattle.potzendai.specs.Calls.{IsBudget, IsCall, status_of, text_of, written}
-pub use Rattle.potzendai.specs.Follows.{Follows, IsToldSoFar, standing_of}
+pub use Rattle.potzendai.specs.Follows.{Follows, IsReportedSoFar, standing_of}
 pub use Rattle.potzendai.specs.Handle.{boxed, heap, held}
 pub use Rattle.potzendai.specs.Streams.{BeginUnlinearizable, SpellLinearizable}
 pub use Rattle.potzendai.specs.Values.{call_line, call_of, reply_line, reply_of}

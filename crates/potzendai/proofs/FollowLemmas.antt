@@ -1,15 +1,15 @@
 -- What is written of the follower of a handle.
-use Rattle.potzendai.proofs.Common.{◌≡◌, ◌≢◌, ℕ, List, [], Option, Some, None, refl, sym, ◌∙◌, LineFollower, lines_of, Follows, standing_of, IsToldSoFar}
+use Rattle.potzendai.proofs.Common.{◌≡◌, ◌≢◌, ℕ, List, [], Option, Some, None, refl, sym, ◌∙◌, LineFollower, lines_of, Follows, standing_of, IsReportedSoFar}
 use Rattle.potzendai.proofs.Common.{SpellLinearizable, BeginUnlinearizable}
 use Rattle.std.proofs.Common.{append-nil}
-use Rattle.stream_engines.specs.declared.handed.LineFollower.TheVariants.{Going, Ended}
+use Rattle.stream_engines.specs.declared.line_follower.LineFollower.TheVariants.{Going, Ended}
 use Rattle.stream_engines.specs.Handed.{HasEnded}
 use Rattle.stream_engines.specs.Reading.{AreLinesOf}
 use Rattle.stream_engines.specs.StreamTexts.{BeginsWith}
 use Rattle.potzendai.proofs.StreamLemmas.{yes_has_order, no_has_none}
 
 -- a text with these lines begins with them
-pub all_begin : (told : Option (List ℕ)) (lines : List (List ℕ)) → AreLinesOf told lines → BeginsWith told lines
+pub all_begin : (text : Option (List ℕ)) (lines : List (List ℕ)) → AreLinesOf text lines → BeginsWith text lines
 all_begin None lines are = tt
 all_begin (Some text) lines are = ([], are ∙ sym (append-nil lines))
 
@@ -27,12 +27,12 @@ standing_no budget all (Some (Ended outcome)) follows is =
     no_has_none budget all outcome (follows (Some all) (all_begin (Some all) (lines_of all) refl)) is
 
 -- the same of what is written of a follower, and of yes
-pub told_yes : (budget : ℕ) (all before after : List ℕ) (size status : ℕ) → IsToldSoFar budget (lines_of all) before after size status
+pub reported_yes : (budget : ℕ) (all before after : List ℕ) (size status : ℕ) → IsReportedSoFar budget (lines_of all) before after size status
     → status ≡ 0 → SpellLinearizable (lines_of all)
-told_yes budget all before after size status told is =
-    yes_has_order budget all told.outcome (told.comes (Some all) refl) (sym told.status_is ∙ is)
+reported_yes budget all before after size status reported is =
+    yes_has_order budget all reported.outcome (reported.comes (Some all) refl) (sym reported.status_is ∙ is)
 
-pub told_no : (budget : ℕ) (all before after : List ℕ) (size status : ℕ) → IsToldSoFar budget (lines_of all) before after size status
+pub reported_no : (budget : ℕ) (all before after : List ℕ) (size status : ℕ) → IsReportedSoFar budget (lines_of all) before after size status
     → status ≡ 1 → BeginUnlinearizable (lines_of all)
-told_no budget all before after size status told is =
-    no_has_none budget all told.outcome (told.comes (Some all) refl) (sym told.status_is ∙ is)
+reported_no budget all before after size status reported is =
+    no_has_none budget all reported.outcome (reported.comes (Some all) refl) (sym reported.status_is ∙ is)

@@ -49,7 +49,7 @@ written text [] = []
 written text (byte ∷ rest) = take (min (length text) (length rest)) text ++ 0 ∷ drop (min (length text) (length rest)) rest
 
 -- a status and a text are those of an outcome that the call can have at the budget
-pub record IsToldOutcome (IsOutcome : RunOutcome → Type 0) (budget status : ℕ) (text : List ℕ) : Type 0 where
+pub record IsReportedOutcome (IsOutcome : RunOutcome → Type 0) (budget status : ℕ) (text : List ℕ) : Type 0 where
   pub outcome : RunOutcome
   pub is_budget : IsBudget budget
   pub comes : IsOutcome outcome
@@ -57,7 +57,7 @@ pub record IsToldOutcome (IsOutcome : RunOutcome → Type 0) (budget status : �
   pub text_is : text ≡ text_of outcome
 
 -- a status and a text say that no search may have the budget
-pub record IsToldBudget (budget status : ℕ) (text : List ℕ) : Type 0 where
+pub record IsReportedBudget (budget status : ℕ) (text : List ℕ) : Type 0 where
   pub is_none : IsBudget budget → ⊥
   pub status_is : status ≡ words_status
   pub text_is : text ≡ budget_line
@@ -66,6 +66,6 @@ pub record IsToldBudget (budget status : ℕ) (text : List ℕ) : Type 0 where
 -- of its text, and its status; the room was `before` the call, and is `after` it
 pub record IsCall (IsOutcome : RunOutcome → Type 0) (budget : ℕ) (before after : List ℕ) (size status : ℕ) : Type 0 where
   pub text : List ℕ
-  pub told : IsToldOutcome IsOutcome budget status text ⊎ IsToldBudget budget status text
+  pub reported : IsReportedOutcome IsOutcome budget status text ⊎ IsReportedBudget budget status text
   pub size_is : size ≡ length text
   pub room : after ≡ written text before

@@ -3,8 +3,8 @@ use Rattle.std.specs.Prelude.{◌≡◌, ◌⊎◌, ℕ, List, [], length, Optio
 use Rattle.outcomes.specs.declared.outcome.RunOutcome.{RunOutcome}
 use Rattle.outcomes.specs.Lines.{line}
 use Rattle.outcomes.specs.Statuses.{memory_status, words_status}
-use Rattle.stream_engines.specs.declared.handed.LineFollower.{LineFollower}
-use Rattle.stream_engines.specs.declared.handed.LineFollower.TheVariants.{Going, Ended}
+use Rattle.stream_engines.specs.declared.line_follower.LineFollower.{LineFollower}
+use Rattle.stream_engines.specs.declared.line_follower.LineFollower.TheVariants.{Going, Ended}
 use Rattle.stream_engines.specs.Handed.{IsHanded}
 use Rattle.stream_engines.specs.Outcomes.{IsStreamOutcome}
 use Rattle.stream_engines.specs.Reading.{AreLinesOf}
@@ -45,15 +45,15 @@ closed_line = line (codes "follower: none")
 
 -- what is written of a follower: an outcome that `follow` can have for each text with the lines
 -- that were given
-pub record IsToldSoFar (budget : ℕ) (lines : List (List ℕ)) (before after : List ℕ) (size status : ℕ) : Type 0 where
+pub record IsReportedSoFar (budget : ℕ) (lines : List (List ℕ)) (before after : List ℕ) (size status : ℕ) : Type 0 where
   pub outcome : RunOutcome
-  pub comes : (told : Option (List ℕ)) → AreLinesOf told lines → IsStreamOutcome budget told outcome
+  pub comes : (text : Option (List ℕ)) → AreLinesOf text lines → IsStreamOutcome budget text outcome
   pub status_is : status ≡ status_of outcome
   pub size_is : size ≡ length (text_of outcome)
   pub room : after ≡ written (text_of outcome) before
 
 -- it is written that there is no follower
-pub record IsToldClosed (before after : List ℕ) (size status : ℕ) : Type 0 where
+pub record IsReportedClosed (before after : List ℕ) (size status : ℕ) : Type 0 where
   pub status_is : status ≡ words_status
   pub size_is : size ≡ length closed_line
   pub room : after ≡ written closed_line before

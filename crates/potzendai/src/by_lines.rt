@@ -1,12 +1,12 @@
 // The calls on a stream whose lines are given one after another.
 ghost use Rattle.std.specs.Prelude.{◌≡◌, ◌≢◌, ℕ, List, ◌++◌, None};
-ghost use Rattle.potzendai.specs.Follows.{Follows, standing_of, IsOpening, IsToldSoFar, IsToldClosed};
+ghost use Rattle.potzendai.specs.Follows.{Follows, standing_of, IsOpening, IsReportedSoFar, IsReportedClosed};
 ghost use Rattle.potzendai.specs.Streams.{SpellLinearizable, BeginUnlinearizable};
 ghost use Rattle.stream_engines.specs.Handed.{IsHanded};
 ghost use Rattle.stream_text.specs.Cuts.{lines_of};
 
 use crate::handle::{PotzendaiFollower, put, take};
-use crate::told::{is_budget, stream_status, tell, tell_closed};
+use crate::reports::{is_budget, report, report_closed, stream_status};
 use outcomes::{MEMORY, RunOutcome, WORDS};
 use std::alloc::Global;
 use std::mem::replace;
@@ -78,10 +78,10 @@ pub extern "C" fn potzendai_follow_verdict(
     room: &mut [u8],
     size: &mut usize,
 ) -> u32
-    ensures kept { handle.new.follows ≡ handle.old.follows }
-    ensures told { (budget : ℕ) (lines : List (List ℕ)) → Follows budget lines handle.old.follows
-        → IsToldSoFar budget lines room.old room.new size.new result }
-    ensures closed { handle.old.follows ≡ None → IsToldClosed room.old room.new size.new result }
+    ensures unchanged { handle.new.follows ≡ handle.old.follows }
+    ensures reported { (budget : ℕ) (lines : List (List ℕ)) → Follows budget lines handle.old.follows
+        → IsReportedSoFar budget lines room.old room.new size.new result }
+    ensures closed { handle.old.follows ≡ None → IsReportedClosed room.old room.new size.new result }
 
     // What a yes or a no means for a stream if all its lines so far were given.
     ensures yes { (budget : ℕ) (all : List ℕ) → Follows budget (lines_of all) handle.old.follows
@@ -90,9 +90,9 @@ pub extern "C" fn potzendai_follow_verdict(
         → result ≡ 1 → BeginUnlinearizable (lines_of all) }
 {
     let Some(boxed) = take(alloc, handle) else {
-        return tell_closed(room, size);
+        return report_closed(room, size);
     };
-    let status = tell_follower(alloc, &boxed, room, size);
+    let status = report_follower(alloc, &boxed, room, size);
     put(alloc, handle, boxed);
     status
 }
@@ -106,15 +106,15 @@ pub extern "C" fn potzendai_follow_close(alloc: Global, handle: &mut PotzendaiFo
 }
 
 /// Writes the outcome for a stream of the lines so far.
-fn tell_follower(alloc: Global, follower: &LineFollower, room: &mut [u8], size: &mut usize) -> u32
+fn report_follower(alloc: Global, follower: &LineFollower, room: &mut [u8], size: &mut usize) -> u32
     ensures { (budget : ℕ) (lines : List (List ℕ)) → IsHanded budget lines follower.now
-        → IsToldSoFar budget lines room.old room.new size.new result }
+        → IsReportedSoFar budget lines room.old room.new size.new result }
 {
     match follower {
         LineFollower::Going { followed, .. } => {
             let outcome = followed.finish(alloc);
-            tell(&outcome, room, size)
+            report(&outcome, room, size)
         }
-        LineFollower::Ended(outcome) => tell(outcome, room, size),
+        LineFollower::Ended(outcome) => report(outcome, room, size),
     }
 }

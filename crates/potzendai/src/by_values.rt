@@ -10,7 +10,7 @@ ghost use Rattle.stream_text.specs.Cuts.{lines_of};
 
 use crate::handle::{PotzendaiFollower, put, take};
 use crate::kinds::{PotzendaiPair, call_of, reply_of};
-use crate::told::stream_status;
+use crate::reports::stream_status;
 use events::{Call, Memory, Reply};
 use outcomes::{RunOutcome, WORDS};
 use std::alloc::Global;

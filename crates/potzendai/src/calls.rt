@@ -8,7 +8,7 @@ ghost use Rattle.picture_engines.specs.Drawings.{IsDrawAnswer};
 ghost use Rattle.potzendai.specs.Calls.{IsCall};
 ghost use Rattle.potzendai.specs.Verdicts.{SpellsLinearizable, SpellsUnlinearizable};
 
-use crate::told::{is_budget, tell, tell_budget};
+use crate::reports::{is_budget, report, report_budget};
 use explain_engines::explain_outcome;
 use history_engines::judge_outcome;
 use judge::OneThread;
@@ -37,9 +37,9 @@ pub extern "C" fn potzendai_judge(
 {
     if is_budget(budget) {
         let outcome = judge_outcome(alloc, text, &OneThread { alloc, budget });
-        tell(&outcome, room, size)
+        report(&outcome, room, size)
     } else {
-        tell_budget(room, size)
+        report_budget(room, size)
     }
 }
 
@@ -58,9 +58,9 @@ pub extern "C" fn potzendai_locate(
 {
     if is_budget(budget) {
         let outcome = locate_outcome(alloc, text, budget);
-        tell(&outcome, room, size)
+        report(&outcome, room, size)
     } else {
-        tell_budget(room, size)
+        report_budget(room, size)
     }
 }
 
@@ -84,9 +84,9 @@ pub extern "C" fn potzendai_explain(
 {
     if is_budget(budget) {
         let outcome = explain_outcome(alloc, text, budget);
-        tell(&outcome, room, size)
+        report(&outcome, room, size)
     } else {
-        tell_budget(room, size)
+        report_budget(room, size)
     }
 }
 
@@ -105,8 +105,8 @@ pub extern "C" fn potzendai_draw(
 {
     if is_budget(budget) {
         let outcome = draw_outcome(alloc, text, &OneThread { alloc, budget }, whole_view());
-        tell(&outcome, room, size)
+        report(&outcome, room, size)
     } else {
-        tell_budget(room, size)
+        report_budget(room, size)
     }
 }

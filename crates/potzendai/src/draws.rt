@@ -5,7 +5,7 @@ ghost use Rattle.outcomes.specs.Outcomes.{IsTextOutcome};
 ghost use Rattle.picture_engines.specs.Drawings.{IsUnaskedAnswer};
 ghost use Rattle.potzendai.specs.Calls.{IsCall};
 
-use crate::told::{is_budget, tell, tell_budget};
+use crate::reports::{is_budget, report, report_budget};
 use judge::OneThread;
 use picture_engines::{draw_outcome, unasked_view};
 use std::alloc::Global;
@@ -27,8 +27,8 @@ pub extern "C" fn potzendai_draw_part(
 {
     if is_budget(budget) {
         let outcome = draw_outcome(alloc, text, &OneThread { alloc, budget }, unasked_view());
-        tell(&outcome, room, size)
+        report(&outcome, room, size)
     } else {
-        tell_budget(room, size)
+        report_budget(room, size)
     }
 }

@@ -5,7 +5,7 @@ ghost use Rattle.potzendai.specs.Streams.{SpellLinearizable, BeginUnlinearizable
 ghost use Rattle.stream_engines.specs.Outcomes.{IsStreamOutcome};
 ghost use Rattle.stream_text.specs.Cuts.{lines_of};
 
-use crate::told::{is_budget, tell, tell_budget};
+use crate::reports::{is_budget, report, report_budget};
 use std::alloc::Global;
 use stream_engines::follow_text;
 
@@ -29,8 +29,8 @@ pub extern "C" fn potzendai_follow(
 {
     if is_budget(budget) {
         let outcome = follow_text(alloc, text, budget);
-        tell(&outcome, room, size)
+        report(&outcome, room, size)
     } else {
-        tell_budget(room, size)
+        report_budget(room, size)
     }
 }

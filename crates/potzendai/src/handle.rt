@@ -1,6 +1,6 @@
 // The handle of a stream that is followed.
 ghost use Rattle.std.specs.Prelude.{◌≡◌, Option, None, Some, option_map};
-ghost use Rattle.stream_engines.specs.declared.handed.LineFollower.{LineFollower};
+ghost use Rattle.stream_engines.specs.declared.line_follower.LineFollower.{LineFollower};
 
 use crate::loose::Loose;
 use std::alloc::Global;

@@ -16,7 +16,7 @@ mod handle;
 mod kinds;
 mod loose;
 mod pages;
-mod told;
+mod reports;
 
 pub use by_lines::{
     potzendai_follow_close, potzendai_follow_event, potzendai_follow_open, potzendai_follow_verdict,

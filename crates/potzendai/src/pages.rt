@@ -5,7 +5,7 @@ ghost use Rattle.outcomes.specs.Outcomes.{IsTextOutcome};
 ghost use Rattle.page_engines.specs.Answers.{IsPageAnswer};
 ghost use Rattle.potzendai.specs.Calls.{IsCall};
 
-use crate::told::{is_budget, tell, tell_budget};
+use crate::reports::{is_budget, report, report_budget};
 use judge::OneThread;
 use page_engines::page_outcome;
 use std::alloc::Global;
@@ -25,8 +25,8 @@ pub extern "C" fn potzendai_page(
 {
     if is_budget(budget) {
         let outcome = page_outcome(alloc, text, &OneThread { alloc, budget });
-        tell(&outcome, room, size)
+        report(&outcome, room, size)
     } else {
-        tell_budget(room, size)
+        report_budget(room, size)
     }
 }

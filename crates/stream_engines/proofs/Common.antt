@@ -55,5 +55,5 @@ pub use Rattle.stream_engines.specs.Reports.{key_data, lost_data, spent_data, ye
 pub use Rattle.stream_engines.specs.Stops.{IsLostAt, IsSpentAt, IsStop}
 pub use Rattle.stream_engines.specs.StreamTexts.{BeginsWith, SpellEvents, SpellFromStart, SpellStream}
 pub use Rattle.stream_engines.specs.declared.followed.Followed.{Followed}
-pub use Rattle.stream_engines.specs.declared.handed.LineFollower.{LineFollower}
-pub use Rattle.stream_engines.specs.declared.handed.LineFollower.TheVariants.{Ended, Going}
+pub use Rattle.stream_engines.specs.declared.line_follower.LineFollower.{LineFollower}
+pub use Rattle.stream_engines.specs.declared.line_follower.LineFollower.TheVariants.{Ended, Going}

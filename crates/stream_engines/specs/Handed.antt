@@ -6,8 +6,8 @@ use Rattle.stream_engines.specs.Followed.{IsFollowed}
 use Rattle.stream_engines.specs.Outcomes.{IsStreamOutcome}
 use Rattle.stream_engines.specs.Refusals.{most_lines}
 use Rattle.stream_engines.specs.StreamTexts.{BeginsWith}
-use Rattle.stream_engines.specs.declared.handed.LineFollower.{LineFollower}
-use Rattle.stream_engines.specs.declared.handed.LineFollower.TheVariants.{Going, Ended}
+use Rattle.stream_engines.specs.declared.line_follower.LineFollower.{LineFollower}
+use Rattle.stream_engines.specs.declared.line_follower.LineFollower.TheVariants.{Going, Ended}
 
 -- these lines were passed at this budget: they are followed, or the outcome is one of any text that
 -- begins with them

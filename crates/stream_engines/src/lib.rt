@@ -4,7 +4,7 @@
 
 mod event_lines;
 mod followed;
-mod handed;
+mod line_follower;
 mod progress;
 mod reading;
 mod refusals;
@@ -12,6 +12,6 @@ mod reports;
 mod small_lines;
 mod stops;
 
-pub use handed::{LineFollower, follow_text};
+pub use line_follower::{LineFollower, follow_text};
 pub use progress::ProgressDisplay;
 pub use reading::{follow_outcome, run_follow};

@@ -16,8 +16,8 @@ returns-clause-handed c = λ budget lines follows.
 pub returns-clause-no : goal.returns-clause-no
 returns-clause-no c = λ budget all follows one.
     let stands = ap standing_of c.put.ensures in
-    let told = c.stream_status-status.ensures ∙ ap (λ (f : LineFollower). standing_of (Some f)) c.deref.ensures in
-    standing_no budget all c.put.new.handle.follows follows (stands ∙ sym told ∙ one)
+    let reported = c.stream_status-status.ensures ∙ ap (λ (f : LineFollower). standing_of (Some f)) c.deref.ensures in
+    standing_no budget all c.put.new.handle.follows follows (stands ∙ sym reported ∙ one)
 
 pub returns-clause-stays : goal.returns-clause-stays
 returns-clause-stays c = λ stopped.

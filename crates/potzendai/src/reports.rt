@@ -2,7 +2,7 @@
 ghost use Rattle.std.specs.Prelude.{◌≡◌, ◌≤◌, ◌↔◌, ◌++◌, IsTrue, length};
 ghost use Rattle.outcomes.specs.Statuses.{words_status};
 ghost use Rattle.potzendai.specs.Calls.{budget_line, hint_of, line_of, IsBudget, status_of, text_of, written};
-ghost use Rattle.potzendai.specs.Follows.{IsToldClosed, standing};
+ghost use Rattle.potzendai.specs.Follows.{IsReportedClosed, standing};
 
 use judge::MAX_BUDGET;
 use outcomes::{FAILED, MEMORY, REFUSED, RunOutcome, WORDS};
@@ -16,7 +16,7 @@ pub(crate) fn is_budget(budget: u32) -> bool
 }
 
 /// Writes the text of an outcome into the room, and its length into `size`. Returns its status.
-pub(crate) fn tell(outcome: &RunOutcome, room: &mut [u8], size: &mut usize) -> u32
+pub(crate) fn report(outcome: &RunOutcome, room: &mut [u8], size: &mut usize) -> u32
     ensures status { result ≡ status_of outcome.now }
     ensures size { size.new ≡ length (text_of outcome.now) }
     ensures room { room.new ≡ written (text_of outcome.now) room.old }
@@ -29,7 +29,7 @@ pub(crate) fn tell(outcome: &RunOutcome, room: &mut [u8], size: &mut usize) -> u
 }
 
 /// Writes that no search may have the budget. Returns the status for that.
-pub(crate) fn tell_budget(room: &mut [u8], size: &mut usize) -> u32
+pub(crate) fn report_budget(room: &mut [u8], size: &mut usize) -> u32
     ensures status { result ≡ words_status }
     ensures size { size.new ≡ length budget_line }
     ensures room { room.new ≡ written budget_line room.old }
@@ -41,8 +41,8 @@ pub(crate) fn tell_budget(room: &mut [u8], size: &mut usize) -> u32
 }
 
 /// Writes that the handle is closed. Returns the status for that.
-pub(crate) fn tell_closed(room: &mut [u8], size: &mut usize) -> u32
-    ensures { IsToldClosed room.old room.new size.new result }
+pub(crate) fn report_closed(room: &mut [u8], size: &mut usize) -> u32
+    ensures { IsReportedClosed room.old room.new size.new result }
 {
     let text = b"follower: none\n";
     *size = text.len();

@@ -1,7 +1,7 @@
 use Rattle.stream_engines.proofs.Common.{◌+◌, ◌≤◌, refl, subst, arith, as_event, LineFollower, event_line, IsHanded, MayTake, most_lines, sym, HasEnded}
 use Rattle.stream_engines.proofs.EventLineLemmas.{spells}
 use Rattle.stream_engines.proofs.LineLemmas.{went_on, came_out, begins_before}
-use Rattle.stream_engines.proofs.handed.LineFollower.take_values.Goals as goal
+use Rattle.stream_engines.proofs.line_follower.LineFollower.take_values.Goals as goal
 
 pub returns-in-Ok-clause-handed : goal.returns-in-Ok-clause-handed
 returns-in-Ok-clause-handed c = λ budget lines words handed.

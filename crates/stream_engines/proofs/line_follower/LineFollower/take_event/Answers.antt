@@ -1,5 +1,5 @@
 use Rattle.stream_engines.proofs.Common.{as_event, event_line}
-use Rattle.stream_engines.proofs.handed.LineFollower.take_event.Goals as goal
+use Rattle.stream_engines.proofs.line_follower.LineFollower.take_event.Goals as goal
 
 pub returns-else-may_take-clause-handed : goal.returns-else-may_take-clause-handed
 returns-else-may_take-clause-handed c = λ budget lines words handed.

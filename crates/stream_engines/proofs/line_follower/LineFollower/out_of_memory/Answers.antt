@@ -1,6 +1,6 @@
 use Rattle.stream_engines.proofs.Common.{[], ◌∷◌, ◌++◌, subst, LineFollower, IsHanded, sym, HasEnded}
 use Rattle.stream_engines.proofs.LineLemmas.{begins_before, no_memory}
-use Rattle.stream_engines.proofs.handed.LineFollower.out_of_memory.Goals as goal
+use Rattle.stream_engines.proofs.line_follower.LineFollower.out_of_memory.Goals as goal
 
 pub returns-in-Going-clause-handed : goal.returns-in-Going-clause-handed
 returns-in-Going-clause-handed c = λ budget lines next handed. no_memory budget (lines ++ next ∷ [])

@@ -1,6 +1,6 @@
 use Rattle.stream_engines.proofs.Common.{◌≡◌, ℕ, List, length, [], ◌∷◌, ◌++◌, take, refl, sym, ap, ◌∙◌, subst, append_assoc, append-nil, IsHanded, HasEnded}
 use Rattle.stream_engines.proofs.HandedLemmas.{lines_of-cut, handed_next, handed_all, handed_last, none_left}
-use Rattle.stream_engines.proofs.handed.LineFollower.take_lines.Goals as goal
+use Rattle.stream_engines.proofs.line_follower.LineFollower.take_lines.Goals as goal
 
 pub loop-count-init : goal.loop-count-init
 loop-count-init c = (

@@ -1,5 +1,5 @@
 use Rattle.stream_engines.proofs.Common.{ℕ, [], ◌∷◌, ◌++◌, subst, Answer, event_line, IsHanded}
-use Rattle.stream_engines.proofs.handed.LineFollower.take_reply.Goals as goal
+use Rattle.stream_engines.proofs.line_follower.LineFollower.take_reply.Goals as goal
 
 pub returns-in-Some-clause-handed : goal.returns-in-Some-clause-handed
 returns-in-Some-clause-handed c = λ budget lines words handed.

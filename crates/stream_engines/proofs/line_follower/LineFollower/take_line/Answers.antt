@@ -1,7 +1,7 @@
 use Rattle.stream_engines.proofs.Common.{◌+◌, ◌≤◌, refl, subst, arith, LineFollower, IsHanded, most_lines, sym, HasEnded}
 use Rattle.stream_engines.proofs.HandedLemmas.{handed_many}
 use Rattle.stream_engines.proofs.LineLemmas.{went_on, came_out, begins_before}
-use Rattle.stream_engines.proofs.handed.LineFollower.take_line.Goals as goal
+use Rattle.stream_engines.proofs.line_follower.LineFollower.take_line.Goals as goal
 
 pub returns-then-lines-ge-MOST_LINES-clause-handed : goal.returns-then-lines-ge-MOST_LINES-clause-handed
 returns-then-lines-ge-MOST_LINES-clause-handed c = λ budget lines handed.

@@ -1,6 +1,6 @@
 use Rattle.stream_engines.proofs.Common.{[], Some, refl, subst, lines_of, LineFollower, IsHanded}
 use Rattle.stream_engines.proofs.HandedLemmas.{ended_with}
-use Rattle.stream_engines.proofs.handed.follow_text.Goals as goal
+use Rattle.stream_engines.proofs.line_follower.follow_text.Goals as goal
 
 pub returns-in-Going : goal.returns-in-Going
 returns-in-Going c =

@@ -1,7 +1,7 @@
 use Rattle.potzendai.proofs.Common.{◌≡◌, ◌-◌, ◌++◌, List, [], ℕ, length, take, drop, refl, ap, ◌∙◌, arith, append-nil, take_all, drop_all}
 use Rattle.potzendai.proofs.Common.{length-drop, written}
 use Rattle.potzendai.proofs.RoomLemmas.{written-more}
-use Rattle.potzendai.proofs.told.write_both.Goals as goal
+use Rattle.potzendai.proofs.reports.write_both.Goals as goal
 
 pub returns-then-count-room : goal.returns-then-count-room
 returns-then-count-room c =

@@ -1,5 +1,5 @@
 use Rattle.stream_engines.proofs.Common.{◌≡◌, List, ℕ, [], ◌∷◌, ◌++◌, ◌∙◌, subst, IfOk, string_bytes, IsHanded}
-use Rattle.stream_engines.proofs.handed.LineFollower.take_written.Goals as goal
+use Rattle.stream_engines.proofs.line_follower.LineFollower.take_written.Goals as goal
 
 pub returns-in-Ok-clause-handed : goal.returns-in-Ok-clause-handed
 returns-in-Ok-clause-handed c = λ budget lines next same handed.

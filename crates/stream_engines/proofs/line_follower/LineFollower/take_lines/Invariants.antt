@@ -1,6 +1,6 @@
 -- Some lines were taken, and those of the bytes at hand are to come. A follower that had ended is unchanged.
 use Rattle.stream_engines.proofs.Common.{◌≡◌, ℕ, List, ◌++◌, length, lines_of, HasEnded, IsHanded}
-use Rattle.stream_engines.proofs.handed.LineFollower.take_lines.Given as goal
+use Rattle.stream_engines.proofs.line_follower.LineFollower.take_lines.Given as goal
 
 abbrev pub invariant-loop-count : goal.invariant-loop-count
 invariant-loop-count l =

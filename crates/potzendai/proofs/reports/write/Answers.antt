@@ -1,6 +1,6 @@
 use Rattle.std.proofs.Common.{◌≡◌, length}
 use Rattle.potzendai.proofs.RoomLemmas.{written-is}
-use Rattle.potzendai.proofs.told.write.Goals as goal
+use Rattle.potzendai.proofs.reports.write.Goals as goal
 
 pub returns : goal.returns
 returns c = written-is c.args.text.now c.args.room.now c.copy_from_slice.new.self c.min-count.result
