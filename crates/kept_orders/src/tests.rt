@@ -420,15 +420,13 @@ fn a_scan_of_the_second_of_two_inserts_alone_has_no_order(rt: HostRuntime) -> Re
     Ok(())
 }
 
-// That there is no order takes a search of two configurations or more.
+// Only a search shows that there is no order. With budget 0 it meets no configuration.
 #[test]
-fn a_scan_without_order_is_undecided_at_a_small_budget(rt: HostRuntime) -> Result<(), Fail> {
+fn a_scan_without_order_is_undecided_without_a_search(rt: HostRuntime) -> Result<(), Fail> {
     let alloc = rt.alloc();
-    for budget in 0..2 {
-        let order = two_inserts(&rt, alloc)?;
-        let scan = scan_of(alloc, 1, 8, &[(2, 6)])?;
-        let kept = insert(&rt, alloc, order, scan, budget)?;
-        assert!(rt; matches!(kept, Kept::Spent { .. }));
-    }
+    let order = two_inserts(&rt, alloc)?;
+    let scan = scan_of(alloc, 1, 8, &[(2, 6)])?;
+    let kept = insert(&rt, alloc, order, scan, 0)?;
+    assert!(rt; matches!(kept, Kept::Spent { .. }));
     Ok(())
 }
