@@ -5,12 +5,12 @@ use Rattle.stream_engines.proofs.line_follower.LineFollower.out_of_memory.Goals 
 pub returns-in-Going-clause-handed : goal.returns-in-Going-clause-handed
 returns-in-Going-clause-handed c = λ budget lines next handed. no_memory budget (lines ++ next ∷ [])
 
-pub returns-in-Ended-clause-handed : goal.returns-in-Ended-clause-handed
-returns-in-Ended-clause-handed c = λ budget lines next handed known begins.
+pub returns-clause-handed : goal.returns-clause-handed
+returns-clause-handed c = λ budget lines next handed known begins.
     subst (λ (f : LineFollower). IsHanded budget lines f) c.in-Ended.is handed known (begins_before known lines next begins)
 
 pub returns-in-Going-clause-ended : goal.returns-in-Going-clause-ended
 returns-in-Going-clause-ended c = λ ended. absurd (subst HasEnded c.in-Going.is ended)
 
-pub returns-in-Ended-clause-ended : goal.returns-in-Ended-clause-ended
-returns-in-Ended-clause-ended c = λ ended. sym c.in-Ended.is
+pub returns-clause-ended : goal.returns-clause-ended
+returns-clause-ended c = λ ended. sym c.in-Ended.is
