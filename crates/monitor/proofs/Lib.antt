@@ -4,6 +4,7 @@ mod FaultLemmas
 mod FollowLemmas
 mod JudgeLemmas
 mod JudgedLemmas
+mod KeptLemmas
 mod MissLemmas
 mod NextLemmas
 mod OpenLemmas

@@ -26,6 +26,7 @@ use prefixes::{invocations_keep_orders, prefixes_have_orders};
 use std::alloc::Global;
 use std::collections::BTreeMap;
 use std::marker::Model;
+use std::mem::replace;
 
 /// How many of the last puts that were answered are known.
 const PUT_LIMIT: usize = 1 << 16;
@@ -33,47 +34,43 @@ const PUT_LIMIT: usize = 1 << 16;
 /// How many events are taken at most.
 const EVENT_LIMIT: usize = (1 << 44) - 2;
 
-/// Follows a stream of events. It has what is left of the calls so far, the open calls by process,
-/// the last puts that were answered, and how many calls there were.
+/// Follows a stream of events. It is as small as a pointer, since it is passed on by value.
+#[derive(Drop)]
 pub struct Monitor {
-    parts: Parts,
+    kept: Box<Kept>,
+}
+
+/// What is left of the calls so far, the open calls by process, the last puts that were answered, and
+/// how many calls there were. The parts are missing only while they take an event.
+#[derive(Drop)]
+pub(crate) struct Kept {
+    parts: Option<Parts>,
     open_calls: BTreeMap<u16, OpenCall>,
     puts: HeapCircularBuffer<Put>,
     calls: usize,
 }
 
-impl Drop for Monitor {
-    fn drop(self) {
-        let Monitor {
-            parts: _parts,
-            open_calls: _open_calls,
-            puts: _puts,
-            calls: _,
-        } = self;
-    }
-}
-
 impl Model for Monitor {
-    ghost use Rattle.std.specs.Prelude.{◌≡◌};
-    ghost use Rattle.monitor.specs.MonitorView.{MonitorView};
+    ghost use Rattle.std.specs.Prelude.{◌≡◌, IsSome};
+    ghost use Rattle.monitor.specs.MonitorView.{MonitorView, parts_of};
     ghost use Rattle.monitor.specs.Following.{FollowsSome};
     ghost use Rattle.monitor.specs.Puts.{put_limit};
 
     ghost Value = { MonitorView };
 
     ghost view = { λ m. record {
-      parts = m.parts;
-      open_calls = m.open_calls.entries;
-      puts = m.puts.items;
-      calls = m.calls;
+      parts = parts_of m.kept.value.parts;
+      open_calls = m.kept.value.open_calls.entries;
+      puts = m.kept.value.puts.items;
+      calls = m.kept.value.calls;
     } };
 
     ghost invariant = { λ m. FollowsSome (record {
-      parts = m.parts;
-      open_calls = m.open_calls.entries;
-      puts = m.puts.items;
-      calls = m.calls;
-    }) × (m.puts.capacity ≡ put_limit) };
+      parts = parts_of m.kept.value.parts;
+      open_calls = m.kept.value.open_calls.entries;
+      puts = m.kept.value.puts.items;
+      calls = m.kept.value.calls;
+    }) × (m.kept.value.puts.capacity ≡ put_limit) × IsSome m.kept.value.parts };
 }
 
 impl Monitor {
@@ -84,12 +81,15 @@ impl Monitor {
     {
         let parts = Parts::new(alloc, start)?;
         let puts = HeapCircularBuffer::with_capacity(alloc, PUT_LIMIT)?;
-        Ok(Monitor {
-            parts,
-            open_calls: BTreeMap::new(alloc),
+        let open_calls = BTreeMap::new(alloc);
+        let kept = Kept {
+            parts: Some(parts),
+            open_calls,
             puts,
             calls: 0,
-        })
+        };
+        let boxed = Box::new(alloc, kept)?;
+        Ok(Monitor { kept: boxed })
     }
 
     /// How many calls were invoked.
@@ -97,7 +97,24 @@ impl Monitor {
         ensures { (start : Contents) (events : List Event) → IsFollowing start events self.now
             → result ≡ length (operations events) }
     {
-        self.calls
+        self.kept.calls
+    }
+
+    /// How many events there were.
+    fn now(&self) -> usize
+        ensures { result ≡ self.now.parts.now }
+    {
+        match &self.kept.parts {
+            Some(parts) => parts.now(),
+            None => 0,
+        }
+    }
+
+    /// The open call of a process.
+    fn known(&self, process: u16) -> Option<OpenCall>
+        ensures { result ≡ known_call self.now.open_calls process }
+    {
+        open_call(&self.kept.open_calls, process)
     }
 
     /// Takes an invocation. The fault is the first of these: `Shape` if the call's first key is
@@ -114,10 +131,10 @@ impl Monitor {
         if call.high_key() < call.low_key() {
             return Err(FollowFault::Shape);
         }
-        if open_call(&self.open_calls, process).is_some() {
+        if self.known(process).is_some() {
             return Err(FollowFault::NotWellFormed);
         }
-        if self.parts.now() >= EVENT_LIMIT {
+        if self.now() >= EVENT_LIMIT {
             return Err(FollowFault::TooMany);
         }
         let next = self.begin(alloc, process, call)?;
@@ -133,25 +150,21 @@ impl Monitor {
             → IfOk result (IsFollowing start (events ++ Invoke process call ∷ [])) }
     {
         invocations_keep_orders();
-        let Monitor {
-            parts,
-            mut open_calls,
-            puts,
-            calls,
-        } = self;
+        let Monitor { kept: mut boxed } = self;
+        let kept = &mut *boxed;
+        let Some(parts) = replace(&mut kept.parts, None) else {
+            unreachable!();
+        };
         let known = OpenCall {
             event: parts.now(),
-            number: calls,
+            number: kept.calls,
             call,
         };
-        open_calls.insert(process, known)?;
+        kept.open_calls.insert(process, known)?;
         let parts = parts.begin(alloc, call)?;
-        Ok(Monitor {
-            parts,
-            open_calls,
-            puts,
-            calls: calls.saturating_add(1),
-        })
+        let _none = replace(&mut kept.parts, Some(parts));
+        kept.calls = kept.calls.saturating_add(1);
+        Ok(Monitor { kept: boxed })
     }
 
     /// Takes the answer of the open call of a process, and judges it. An answer of a process that
@@ -167,10 +180,10 @@ impl Monitor {
         ensures { (start : Contents) (events : List Event) → IsFollowing start events self
             → IfOk result (IsAnswered start events self process reply budget) }
     {
-        let Some(known) = open_call(&self.open_calls, process) else {
+        let Some(known) = self.known(process) else {
             return Ok(Answered::Refused(self, FollowFault::NotWellFormed));
         };
-        if self.parts.now() >= EVENT_LIMIT {
+        if self.now() >= EVENT_LIMIT {
             return Ok(Answered::Refused(self, FollowFault::TooMany));
         }
         self.judge(alloc, process, known, reply, budget)
@@ -194,28 +207,25 @@ impl Monitor {
         kept_parts_decide();
         kept_pasts_are_reached();
         orders_are_keyed_orders();
-        let Monitor {
-            parts,
-            mut open_calls,
-            mut puts,
-            calls,
-        } = self;
+        let Monitor { kept: mut boxed } = self;
+        let kept = &mut *boxed;
+        let Some(parts) = replace(&mut kept.parts, None) else {
+            unreachable!();
+        };
         let event = parts.now();
-        open_calls.remove(&process);
-        note_answer(&mut puts, &known.call, known.event, &reply);
+        kept.open_calls.remove(&process);
+        note_answer(&mut kept.puts, &known.call, known.event, &reply);
         match answer_parts(alloc, parts, known, reply, budget)? {
-            Judged::Going(parts) => Ok(Answered::Going(Monitor {
-                parts,
-                open_calls,
-                puts,
-                calls,
-            })),
+            Judged::Going(parts) => {
+                let _none = replace(&mut kept.parts, Some(parts));
+                Ok(Answered::Going(Monitor { kept: boxed }))
+            }
             Judged::Lost(part) => {
-                let loss = loss_at(alloc, event, &known, part, &puts, &open_calls)?;
+                let loss = loss_at(alloc, event, &known, part, &kept.puts, &kept.open_calls)?;
                 Ok(Answered::Lost(loss))
             }
             Judged::Spent(part) => {
-                let loss = loss_at(alloc, event, &known, part, &puts, &open_calls)?;
+                let loss = loss_at(alloc, event, &known, part, &kept.puts, &kept.open_calls)?;
                 Ok(Answered::Spent(loss))
             }
         }

@@ -1,60 +1,56 @@
 use Rattle.monitor.proofs.Common.{◌≡◌, ℕ, ◌<◌, ◌==◌, ◌++◌, ◌∷◌, [], List, None, cond, sym, ap, ◌∙◌, subst, Event, Answer, Contents, begun, IsEndedBy}
-use Rattle.monitor.proofs.Common.{response_at, AreAnswered, IsLostBy, MayReply, event_limit, IsFollowing, IsLossAt, MonitorView, known_call}
+use Rattle.monitor.proofs.Common.{response_at, AreAnswered, IsLostBy, MayReply, event_limit, IsFollowing, IsLossAt, MonitorView, PartsView, Option, known_call}
+use Rattle.std.proofs.Common.{is_some}
+use Rattle.monitor.specs.MonitorView.{parts_of}
+use Rattle.monitor.specs.declared.monitor.Kept.{Kept}
+use Rattle.monitor.proofs.KeptLemmas.{seen_with, same_with}
 use Rattle.monitor.proofs.FollowLemmas.{seen_so, around_it, state_before}
 use Rattle.monitor.proofs.JudgeLemmas.{accepted, is_shaped}
 use Rattle.monitor.proofs.JudgedLemmas.{calls_before, calls_with, pending, goes_on, recent_then, known_then, is_lost, is_spent}
 use Rattle.monitor.proofs.OpenLemmas.{at_process}
 use Rattle.monitor.proofs.monitor.Monitor.judge.Goals as goal
+use Rattle.monitor.proofs.monitor.Monitor.judge.Goals.{In-Going}
 
 pub answer_parts-requires-clause-shaped : goal.answer_parts-requires-clause-shaped
 answer_parts-requires-clause-shaped c =
-    let inside = c.self.inside in
-    let m : MonitorView = record {
-      parts = inside.parts;
-      open_calls = inside.open_calls.entries;
-      puts = inside.puts.items;
-      calls = inside.calls;
-    } in
+    let m : MonitorView = seen_with c.in-Some.parts c.deref_mut-kept.result.now in
+    let same : m ≡ c.args.self =
+    same_with c.self.inside.kept.value c.deref_mut-kept.result.now c.replace.result c.in-Some.parts c.args.self
+    c.deref_mut-kept.ensures.value c.replace.ensures.value c.in-Some.is c.self.view_is in
     let some = c.self.invariant.0 in
-    let here = (seen_so some.start some.events c.args.process c.args.known m c.args.self c.self.view_is
+    let here = (seen_so some.start some.events c.args.process c.args.known m c.args.self same
     (subst (IsFollowing some.start some.events) c.self.view_is some.follows) c.requires.known).1 in
-    is_shaped some.start some.events m c.args.process c.args.known some.follows here
+    is_shaped some.start some.events m c.args.process c.args.known (subst (IsFollowing some.start some.events) (sym same) (subst (IsFollowing some.start some.events) c.self.view_is some.follows)) here
 
 pub answer_parts-requires-clause-pending : goal.answer_parts-requires-clause-pending
 answer_parts-requires-clause-pending c =
-    let inside = c.self.inside in
-    let m : MonitorView = record {
-      parts = inside.parts;
-      open_calls = inside.open_calls.entries;
-      puts = inside.puts.items;
-      calls = inside.calls;
-    } in
+    let m : MonitorView = seen_with c.in-Some.parts c.deref_mut-kept.result.now in
+    let same : m ≡ c.args.self =
+    same_with c.self.inside.kept.value c.deref_mut-kept.result.now c.replace.result c.in-Some.parts c.args.self
+    c.deref_mut-kept.ensures.value c.replace.ensures.value c.in-Some.is c.self.view_is in
     let some = c.self.invariant.0 in
-    let here = (seen_so some.start some.events c.args.process c.args.known m c.args.self c.self.view_is
+    let here = (seen_so some.start some.events c.args.process c.args.known m c.args.self same
     (subst (IsFollowing some.start some.events) c.self.view_is some.follows) c.requires.known).1 in
-    pending some.start some.events m c.args.process c.args.known c.args.reply some.follows here
+    pending some.start some.events m c.args.process c.args.known c.args.reply (subst (IsFollowing some.start some.events) (sym same) (subst (IsFollowing some.start some.events) c.self.view_is some.follows)) here
 
 -- the monitor goes on
-next : (c : goal.In-Going) (start : Contents) (events : List Event) → IsFollowing start events c.args.self
+next : (c : In-Going) (start : Contents) (events : List Event) → IsFollowing start events c.args.self
     → IsFollowing start (events ++ Answer c.args.process c.args.reply ∷ []) (record {
       parts = c.in-Going.parts;
       open_calls = c.remove.new.self.entries;
       puts = c.note_answer.new.recent.items;
-      calls = c.self.inside.calls;
+      calls = c.deref_mut-kept.result.now.calls;
     })
 next c start events h =
     let process = c.args.process in
     let known = c.args.known in
     let reply = c.args.reply in
     let recent = c.note_answer.new.recent.items in
-    let inside = c.self.inside in
-    let m : MonitorView = record {
-      parts = inside.parts;
-      open_calls = inside.open_calls.entries;
-      puts = inside.puts.items;
-      calls = inside.calls;
-    } in
-    let (follows, here) = seen_so start events process known m c.args.self c.self.view_is h c.requires.known in
+    let m : MonitorView = seen_with c.in-Some.parts c.deref_mut-kept.result.now in
+    let same : m ≡ c.args.self =
+    same_with c.self.inside.kept.value c.deref_mut-kept.result.now c.replace.result c.in-Some.parts c.args.self
+    c.deref_mut-kept.ensures.value c.replace.ensures.value c.in-Some.is c.self.view_is in
+    let (follows, here) = seen_so start events process known m c.args.self same h c.requires.known in
     let around = around_it start events m process known reply follows here in
     let calls = calls_with start events m process known reply follows here in
     let answered = subst (AreAnswered start c.args.budget m.parts calls known.call reply) c.in-Going.is
@@ -62,21 +58,39 @@ next c start events h =
     let changed : (p : ℕ) → known_call c.remove.new.self.entries p ≡ cond (p == process) None (known_call m.open_calls p) = λ p.
     c.remove.ensures.updates.0 p ∙ ap (λ b. cond b None (known_call m.open_calls p)) (at_process process p) in
     goes_on start events m process known reply follows here c.kept_parts_decide.ensures c.in-Going.parts c.remove.new.self.entries recent answered changed
-    (recent_then start events m process known reply follows here inside.puts.capacity c.self.invariant.1 recent c.note_answer.ensures.puts)
+    (recent_then start events m process known reply follows here c.deref_mut-kept.result.now.puts.capacity
+    (ap (λ (k : Kept). k.puts.capacity) c.deref_mut-kept.ensures.value ∙ c.self.invariant.1) recent c.note_answer.ensures.puts)
+
+-- what is kept after the event
+abbrev after : (c : In-Going) → Option PartsView → MonitorView
+after c parts = record {
+  parts = parts_of parts;
+  open_calls = c.remove.new.self.entries;
+  puts = c.note_answer.new.recent.items;
+  calls = c.deref_mut-kept.result.now.calls;
+}
 
 pub returns-in-Going : goal.returns-in-Going
 returns-in-Going c = λ start events h.
-    (accepted start events c.args.self c.args.process c.args.known h c.requires.known c.requires.room, next c start events h)
+    let at = (goal.at.returns-in-Going c).In-Going in (
+      accepted start events c.args.self c.args.process c.args.known h c.requires.known c.requires.room,
+      subst (λ p. IsFollowing start (events ++ Answer c.args.process c.args.reply ∷ []) (after at p)) (sym c.replace-none.ensures.after)
+          (next at start events h),
+    )
 
 pub invariant_of-result : goal.invariant_of-result
 invariant_of-result c =
+    let at = (goal.at.invariant_of-result c).In-Going in
     let some = c.self.invariant.0 in (
       record {
         start = some.start;
         events = some.events ++ Answer c.args.process c.args.reply ∷ [];
-        follows = next c some.start some.events (subst (IsFollowing some.start some.events) c.self.view_is some.follows);
+        follows = subst (λ p. IsFollowing some.start (some.events ++ Answer c.args.process c.args.reply ∷ []) (after at p))
+            (sym c.replace-none.ensures.after)
+            (next at some.start some.events (subst (IsFollowing some.start some.events) c.self.view_is some.follows));
       },
-      c.note_answer.ensures.capacity ∙ c.self.invariant.1,
+      c.note_answer.ensures.capacity ∙ (ap (λ (k : Kept). k.puts.capacity) c.deref_mut-kept.ensures.value ∙ c.self.invariant.1),
+      ap is_some c.replace-none.ensures.after,
     )
 
 pub returns-in_ok-loss-in-Lost : goal.returns-in_ok-loss-in-Lost
@@ -88,15 +102,12 @@ returns-in_ok-loss-in-Lost c = λ start events h.
     let recent = c.note_answer.new.recent.items in
     let open_calls = c.remove.new.self.entries in
     let loss = c.in_ok-loss-in-Lost.loss in
-    let inside = c.self.inside in
-    let m : MonitorView = record {
-      parts = inside.parts;
-      open_calls = inside.open_calls.entries;
-      puts = inside.puts.items;
-      calls = inside.calls;
-    } in
-    let (follows, here) = seen_so start events process known m c.args.self c.self.view_is h c.requires.known in
-    let room : m.parts.now < event_limit = subst (λ (v : MonitorView). v.parts.now < event_limit) (sym c.self.view_is) c.requires.room in
+    let m : MonitorView = seen_with c.in-Some.parts c.deref_mut-kept.result.now in
+    let same : m ≡ c.args.self =
+    same_with c.self.inside.kept.value c.deref_mut-kept.result.now c.replace.result c.in-Some.parts c.args.self
+    c.deref_mut-kept.ensures.value c.replace.ensures.value c.in-Some.is c.self.view_is in
+    let (follows, here) = seen_so start events process known m c.args.self same h c.requires.known in
+    let room : m.parts.now < event_limit = subst (λ (v : MonitorView). v.parts.now < event_limit) (sym same) c.requires.room in
     let around = around_it start events m process known reply follows here in
     let calls = calls_with start events m process known reply follows here in
     let answered = subst (AreAnswered start c.args.budget m.parts calls known.call reply) c.in-Lost.is
@@ -105,7 +116,8 @@ returns-in_ok-loss-in-Lost c = λ start events h.
     subst (λ (n : ℕ). IsLossAt n known part recent open_calls loss) c.now-event.ensures c.in_ok-loss-in-Lost.ensures in
     let changed : (p : ℕ) → known_call c.remove.new.self.entries p ≡ cond (p == process) None (known_call m.open_calls p) = λ p.
     c.remove.ensures.updates.0 p ∙ ap (λ b. cond b None (known_call m.open_calls p)) (at_process process p) in
-    let puts = known_then start events m process known reply follows here inside.puts.capacity c.self.invariant.1 recent c.note_answer.ensures.puts
+    let puts = known_then start events m process known reply follows here c.deref_mut-kept.result.now.puts.capacity
+    (ap (λ (k : Kept). k.puts.capacity) c.deref_mut-kept.ensures.value ∙ c.self.invariant.1) recent c.note_answer.ensures.puts
     open_calls loss.puts.items changed made.puts in
     let before = calls_before start events m process known reply follows here in
     let ended : MayReply known.call reply
@@ -124,15 +136,12 @@ returns-in_ok-loss-in-Spent c = λ start events h.
     let recent = c.note_answer.new.recent.items in
     let open_calls = c.remove.new.self.entries in
     let loss = c.in_ok-loss-in-Spent.loss in
-    let inside = c.self.inside in
-    let m : MonitorView = record {
-      parts = inside.parts;
-      open_calls = inside.open_calls.entries;
-      puts = inside.puts.items;
-      calls = inside.calls;
-    } in
-    let (follows, here) = seen_so start events process known m c.args.self c.self.view_is h c.requires.known in
-    let room : m.parts.now < event_limit = subst (λ (v : MonitorView). v.parts.now < event_limit) (sym c.self.view_is) c.requires.room in
+    let m : MonitorView = seen_with c.in-Some.parts c.deref_mut-kept.result.now in
+    let same : m ≡ c.args.self =
+    same_with c.self.inside.kept.value c.deref_mut-kept.result.now c.replace.result c.in-Some.parts c.args.self
+    c.deref_mut-kept.ensures.value c.replace.ensures.value c.in-Some.is c.self.view_is in
+    let (follows, here) = seen_so start events process known m c.args.self same h c.requires.known in
+    let room : m.parts.now < event_limit = subst (λ (v : MonitorView). v.parts.now < event_limit) (sym same) c.requires.room in
     let around = around_it start events m process known reply follows here in
     let calls = calls_with start events m process known reply follows here in
     let answered = subst (AreAnswered start c.args.budget m.parts calls known.call reply) c.in-Spent.is
@@ -141,6 +150,7 @@ returns-in_ok-loss-in-Spent c = λ start events h.
     subst (λ (n : ℕ). IsLossAt n known part recent open_calls loss) c.now-event.ensures c.in_ok-loss-in-Spent.ensures in
     let changed : (p : ℕ) → known_call c.remove.new.self.entries p ≡ cond (p == process) None (known_call m.open_calls p) = λ p.
     c.remove.ensures.updates.0 p ∙ ap (λ b. cond b None (known_call m.open_calls p)) (at_process process p) in
-    let puts = known_then start events m process known reply follows here inside.puts.capacity c.self.invariant.1 recent c.note_answer.ensures.puts
+    let puts = known_then start events m process known reply follows here c.deref_mut-kept.result.now.puts.capacity
+    (ap (λ (k : Kept). k.puts.capacity) c.deref_mut-kept.ensures.value ∙ c.self.invariant.1) recent c.note_answer.ensures.puts
     open_calls loss.puts.items changed made.puts in
     is_spent start events m process known reply follows here part recent open_calls loss made c.args.budget room answered puts
