@@ -1,13 +1,15 @@
 -- What is said of keys may be so, for the pasts of a part that is kept are reached (`kept_pasts_are_reached`).
-use Rattle.losses.proofs.Common.{◌≡◌, ℕ, ◌≤◌, Bool, true, ◌==◌, ◌&&◌, not, List, ◌∷◌, map, Option, Some, None, sym, ◌∙◌, subst}
+use Rattle.losses.proofs.Common.{◌≡◌, ℕ, ◌≤◌, Bool, true, ◌==◌, ◌&&◌, not, List, ◌∷◌, filter, map, Option, Some, None, sym, ◌∙◌, subst}
 use Rattle.losses.proofs.Common.{inl, inr, refl, ⊎_elim, arith, ◌⊎◌, is_some, nat_le, All, Any, Contains, and_from, and_parts}
 use Rattle.losses.proofs.Common.{eq-eqb, le-leb, All-contains, Contains-append_right}
-use Rattle.losses.proofs.Common.{All-from_contains, Contains-first, Call, Get}
+use Rattle.losses.proofs.Common.{Contains-from_map, Contains-map, All-from_contains, Contains-first, Call, Get}
 use Rattle.losses.proofs.Common.{Insert, Remove, Scan, Replace, Operation, Response, low_key, high_key, may_change, Contents, IsRising}
 use Rattle.losses.proofs.Common.{concerns_key, keyed, Keys, KeptPast, IsPast, KeptPart, IsOwn, IsKeptFirst, first_of, covered, IsKeptBeside, pasts_of}
 use Rattle.losses.proofs.Common.{HasKey, IsKeyLoss, IsLastPut, IsNamed, IsOnlyKey, IsOriginIn, IsPutBy, ReportsOther, MayHave}
 use Rattle.losses.proofs.Common.{ValuesAreReached, KeyLoss, Origin, Put}
 use Rattle.std.proofs.Common.{eqb-true}
+use Rattle.std.proofs.lemmas.Bool.{leb-true}
+use Rattle.list_laws.proofs.Lists.{Contains-filter, Contains-from_filter}
 use Rattle.explaining.specs.Tells.{put_by}
 use Rattle.origins.specs.External.{is_put}
 use Rattle.origins.specs.Writers.{is_undone}
@@ -29,6 +31,19 @@ concerned (Insert own value) key low high = eq-eqb own key (omega (arith, low, h
 concerned (Remove own) key low high = eq-eqb own key (omega (arith, low, high))
 concerned (Scan from to) key low high = and_from (nat_le from key) (nat_le key to) (le-leb from key low) (le-leb key to high)
 concerned (Replace own expected value) key low high = eq-eqb own key (omega (arith, low, high))
+
+-- whether a call has a key
+abbrev has_key : ℕ → Operation → Bool
+has_key key o = nat_le (low_key o.call) key && nat_le key (high_key o.call)
+
+to_test : (key : ℕ) (o : Operation) → HasKey o key → has_key key o ≡ true
+to_test key o has =
+    and_from (nat_le (low_key o.call) key) (nat_le key (high_key o.call)) (le-leb (low_key o.call) key has.low) (le-leb key (high_key o.call) has.high)
+
+of_test : (key : ℕ) (o : Operation) → has_key key o ≡ true → HasKey o key
+of_test key o is =
+    let both = and_parts (nat_le (low_key o.call) key) (nat_le key (high_key o.call)) is in
+    record { low = leb-true (low_key o.call) key both.0; high = leb-true key (high_key o.call) both.1 }
 
 -- a call that puts a value may change the map, at its only key
 puts_change : (call : Call) (value : ℕ) → is_put (put_by call) value ≡ true → (may_change call ≡ true) × (high_key call ≡ low_key call)
@@ -114,6 +129,10 @@ module _ (start : Contents) (place : ℕ) (calls : List Operation) (ended : Ende
             (subst (λ (e : ℕ). IsPutOf o (record { key = p.key; value = p.value; event = e })) is.event_is put)),
       )
 
+  -- the invocations of the calls of a key that are left in a past
+  abbrev left_at : ℕ → KeptPast → List ℕ
+  left_at key past = map (λ o. o.inv) (filter (has_key key) past.left)
+
   -- what is said of a key in a past
   may_have : (puts : List Put) (loss : KeyLoss) → keys loss.key ≡ true → All (λ p. Any (λ o. IsPutOf o p) calls) puts → IsKeyLoss pasts puts loss
       → (origin : Origin) → Contains loss.from.items origin → MayHave start calls loss.key loss.invoked.items origin
@@ -121,15 +140,28 @@ module _ (start : Contents) (place : ℕ) (calls : List Operation) (ended : Ende
       let (past, past_in, past_is) = any_in (λ (p : KeptPast). IsOriginIn puts loss.key p origin) pasts ((is.from origin).0 origin_there) in
       let it : IsReached start calls keys past = All-contains (IsReached start calls keys) pasts past reached past_in in record {
         order = it.order;
+        left_after = left_at loss.key past;
         known = it.known;
         distinct = it.distinct;
         precedence = it.precedence;
         legal = it.legal;
         leaves = it.leaves loss.key here ∙ past_is.value_is;
+        some = All-from_contains (Contains loss.invoked.items) (left_at loss.key past) (λ inv inv_in.
+            let (o, o_here, inv_is) = Contains-from_map (λ (a : Operation). a.inv) (filter (has_key loss.key) past.left) inv inv_in in
+            let (o_in, has) = Contains-from_filter (has_key loss.key) past.left o o_here in
+            (is.invoked inv).1
+            (any_of (λ (p : KeptPast). Any (λ (a : Operation). (a.inv ≡ inv) × HasKey a loss.key) p.left) pasts past past_in
+            (any_of (λ (a : Operation). (a.inv ≡ inv) × HasKey a loss.key) past.left o o_in (inv_is, of_test loss.key o has))));
+        taken = λ o o_in inv_in.
+            let (b, b_here, inv_is) = Contains-from_map (λ (a : Operation). a.inv) (filter (has_key loss.key) past.left) o.inv inv_in in
+            let b_in : Contains past.left b = (Contains-from_filter (has_key loss.key) past.left b b_here).0 in
+            let b_call : Contains calls b =
+            All-contains (Contains calls) past.left b (All-contains (IsOwn keys calls) pasts past first.own past_in).of_calls.left b_in in
+            it.taken o o_in
+            (subst (Contains past.left) (same_call calls b o first.are_calls.rising b_call (it.known o o_in) inv_is) b_in);
         whole = λ o o_in completed has. ⊎_elim
-            (λ (left : Contains past.left o). inr ((is.invoked o.inv).1
-            (any_of (λ (p : KeptPast). Any (λ (a : Operation). (a.inv ≡ o.inv) × HasKey a loss.key) p.left) pasts past past_in
-            (any_of (λ (a : Operation). (a.inv ≡ o.inv) × HasKey a loss.key) past.left o left (refl, has)))))
+            (λ (left : Contains past.left o). inr (Contains-map (λ (a : Operation). a.inv) (filter (has_key loss.key) past.left) o
+            (Contains-filter (has_key loss.key) past.left o left (to_test loss.key o has))))
             (λ (taken : Contains it.order o). inl taken)
             (it.whole o o_in completed (loss.key, here, concerned o.call loss.key has.low has.high));
         writer = λ value event has_value has_put. put_taken past past_in it loss.key value event puts here known

@@ -107,8 +107,10 @@ fn loss_of(
 }
 
 /// What is said of the keys of a part may be so, if the part is kept beside others. Each value is left
-/// at its key by a legal order of calls that has all answered calls of the key but those that are
-/// left. The call that put the value is in that order.
+/// at its key by a legal order of calls. Some of the invocations that are said to be left are none of
+/// its calls. Each answered call of the key is in the order, or has one of these invocations. The call
+/// that is said to have put the value is in the order, and puts it. A later call of the order may put
+/// it again.
 pub fn values_are_reached()
     ensures { ValuesAreReached }
 {}
