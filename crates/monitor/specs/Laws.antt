@@ -19,15 +19,27 @@ use Rattle.losses.specs.Laws.{MayHave}
 use Rattle.losses.specs.declared.loss.Loss.{Loss}
 use Rattle.losses.specs.declared.lost_keys.KeyLoss.{KeyLoss}
 use Rattle.monitor.specs.Calls.{MayReply}
-use Rattle.monitor.specs.Outcomes.{IsLost}
+use Rattle.monitor.specs.Outcomes.{IsLost, IsSpent}
 
--- if some map answers the call so, all that is said of keys is of keys of the lost part, and may be so with those calls left that have the key
+-- all that is said of keys is of keys of a loss's part, and may be so with those calls left that have the key
+abbrev pub MayBeSo : Contents → List Operation → Loss → List KeyLoss → Type 0
+MayBeSo start calls loss losses =
+    All (λ said. (covered loss.part.ranges.items said.key ≡ true) × All (MayHave start calls said.key said.invoked.items) said.from.items) losses
+
+-- after a no it may be so, if some map answers the call so
 abbrev pub LossesAreReached : Type 0
 LossesAreReached =
     (start : Contents) (events : List Event) (process : ℕ) (reply : Reply) (loss : Loss) (losses : List KeyLoss) → IsRising start
     → IsLost start events process reply loss → MayReply loss.call reply
-    → AreKeyLosses (Some loss.call) (pasts_of loss.part) loss.puts.items losses → let calls = operations (events ++ Answer process reply ∷ []) in
-    All (λ said. (covered loss.part.ranges.items said.key ≡ true) × All (MayHave start calls said.key said.invoked.items) said.from.items) losses
+    → AreKeyLosses (Some loss.call) (pasts_of loss.part) loss.puts.items losses
+    → MayBeSo start (operations (events ++ Answer process reply ∷ [])) loss losses
+
+-- and after an undecided
+abbrev pub DoubtsAreReached : Type 0
+DoubtsAreReached =
+    (start : Contents) (events : List Event) (process : ℕ) (reply : Reply) (budget : ℕ) (loss : Loss) (losses : List KeyLoss) → IsRising start
+    → IsSpent start events process reply budget loss → AreKeyLosses (Some loss.call) (pasts_of loss.part) loss.puts.items losses
+    → MayBeSo start (operations (events ++ Answer process reply ∷ [])) loss losses
 
 -- a get of a key that begins after some events, and is answered at once
 abbrev pub read_after : List Event → ℕ → Reply → Operation

@@ -1,13 +1,16 @@
 // Laws of what is said where a stream goes wrong.
-ghost use Rattle.monitor.specs.Laws.{LossesAreReached, NothingIsMissed};
+ghost use Rattle.monitor.specs.Laws.{DoubtsAreReached, LossesAreReached, NothingIsMissed};
 
 use losses::values_are_reached;
 
-/// What `key_losses` says of a no may be so, if some map answers the call so. Each value is left at its
-/// key by a legal order of calls that has all answered calls of the key but those that are left. The
-/// call that put the value is in that order. All these keys belong to the part that has no order.
+/// What `key_losses` says of an undecided may be so, and of a no, if some map answers the call so. Each
+/// value is left at its key by a legal order of calls. Some of the invocations that are said to be left
+/// are none of its calls. Each answered call of the key is in the order, or has one of these
+/// invocations. The call that is said to have put the value is in the order, and puts it. All these
+/// keys belong to the part that does not go on.
 pub fn losses_are_reached()
-    ensures { LossesAreReached }
+    ensures lost { LossesAreReached }
+    ensures spent { DoubtsAreReached }
 {
     values_are_reached();
 }
