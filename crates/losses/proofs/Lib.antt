@@ -4,5 +4,6 @@ pub mod AnyLemmas
 pub mod PairLemmas
 pub mod NameLemmas
 pub mod WriterLemmas
+pub mod OriginLemmas
 pub mod LossLemmas
 pub mod ReachLemmas

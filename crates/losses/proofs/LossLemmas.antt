@@ -1,9 +1,9 @@
 -- What is said of the keys of pasts.
-use Rattle.losses.proofs.Common.{◌≡◌, ℕ, ◌+◌, ◌<◌, ◌≤◌, List, [], ◌∷◌, ◌++◌, length, get_or, take, map, Option, Some, None, refl, sym, ap, ◌∙◌, subst}
-use Rattle.losses.proofs.Common.{inl, inr, ⊎_elim, ◌⊎◌, ◌↔◌, if◌then◌else◌, All, AllPairs, Any, Contains, map_push, take_more, All-push, All-weaker}
+use Rattle.losses.proofs.Common.{◌≡◌, ℕ, ◌+◌, ◌<◌, ◌≤◌, List, [], ◌∷◌, ◌++◌, length, get_or, take, map, Option, None, refl, sym, ap, ◌∙◌, subst}
+use Rattle.losses.proofs.Common.{inl, inr, ⊎_elim, ◌⊎◌, ◌↔◌, All, AllPairs, Any, Contains, map_push, take_more, All-push, All-weaker}
 use Rattle.losses.proofs.Common.{AllPairs-from_map, Contains-from_map, Contains-map, Call, Operation, low_key, high_key, Contents, value_at, FoundAt}
-use Rattle.losses.proofs.Common.{KeptPast, found_at, kept_of, Past, AreKeyLosses, HasKey, IsKeyLoss, IsNamed, IsOwnKey, is_put_before, last_put}
-use Rattle.losses.proofs.Common.{origin_in, put_in, AreSpansOf, IsSpanAt, IsSpanIn, IsSpanOf, Names, span_of, KeyLoss, Origin, Put}
+use Rattle.losses.proofs.Common.{KeptPast, found_at, kept_of, Past, AreKeyLosses, HasKey, IsKeyLoss, IsNamed, IsOwnKey}
+use Rattle.losses.proofs.Common.{IsOriginIn, AreSpansOf, IsSpanAt, IsSpanIn, IsSpanOf, Names, span_of, KeyLoss, Origin, Put}
 use Rattle.losses.proofs.AnyLemmas.{any_in, any_of, any_one, any_weaker, one_any}
 
 -- ---- the invocations of the calls that have a key
@@ -73,18 +73,11 @@ module _ (left : List Operation) (found others : List FoundAt) (m n : Contents) 
   abbrev other : KeptPast
   other = record { pairs = n; left = left; found = others }
 
-  last_alike : (key value : ℕ) (last : Option ℕ) (puts : List Put) → last_put past key value last puts ≡ last_put other key value last puts
-  last_alike key value last [] = refl
-  last_alike key value last (p ∷ puts) = last_alike key value (if is_put_before past key value p then Some p.event else last) puts
-
-  put_alike : (puts : List Put) (key : ℕ) (value : Option ℕ) → put_in puts past key value ≡ put_in puts other key value
-  put_alike puts key None = refl
-  put_alike puts key (Some value) = last_alike key value None puts
-
-  origin_alike : (puts : List Put) (key : ℕ) → origin_in puts key past ≡ origin_in puts key other
-  origin_alike puts key =
-      ap (λ (who : Option ℕ). record { value = value_at m key; put = who }) (put_alike puts key (value_at m key))
-      ∙ ap (λ (value : Option ℕ). record { value = value; put = put_in puts other key value }) (same key)
+  origin_alike : (puts : List Put) (key : ℕ) (origin : Origin) → IsOriginIn puts key past origin ↔ IsOriginIn puts key other origin
+  origin_alike puts key origin = (
+    λ is. record { value_is = sym (same key) ∙ is.value_is; put_is = is.put_is },
+    λ is. record { value_is = same key ∙ is.value_is; put_is = is.put_is },
+  )
 
   names_alike : (key : ℕ) (o : Operation) → Names m o key ↔ Names n o key
   names_alike key o = (
@@ -115,7 +108,12 @@ module _ (left : List Operation) (found others : List FoundAt) (m n : Contents) 
   loss_alike : (puts : List Put) (loss : KeyLoss) → IsKeyLoss (past ∷ []) puts loss → IsKeyLoss (other ∷ []) puts loss
   loss_alike puts loss is = record {
     distinct = is.distinct;
-    from = λ origin. subst (λ (o : Origin). Contains loss.from.items origin ↔ Contains (o ∷ []) origin) (origin_alike puts loss.key) (is.from origin);
+    from = λ origin. (
+      λ origin_in. one_any (λ p. IsOriginIn puts loss.key p origin) other ((origin_alike puts loss.key origin).0
+          (any_one (λ p. IsOriginIn puts loss.key p origin) past ((is.from origin).0 origin_in))),
+      λ any. (is.from origin).1 (one_any (λ p. IsOriginIn puts loss.key p origin) past ((origin_alike puts loss.key origin).1
+          (any_one (λ p. IsOriginIn puts loss.key p origin) other any))),
+    );
     rising = is.rising;
     invoked = λ inv. (
       λ inv_in. one_any (HasKeyAt loss.key inv) other (any_one (HasKeyAt loss.key inv) past ((is.invoked inv).0 inv_in)),

@@ -1,11 +1,14 @@
 -- What loops over pasts, calls and pairs collect.
-use Rattle.std.specs.Prelude.{◌≡◌, ◌≢◌, ◌⊎◌, ◌↔◌, ℕ, ◌≤◌, List, [], ◌∷◌, ◌++◌, Some, Any, Contains}
+use Rattle.std.specs.Prelude.{◌≡◌, ◌≢◌, ◌⊎◌, ◌↔◌, ℕ, ◌≤◌, ◌==◌, ◌&&◌, Bool, not, if◌then◌else◌, List, [], ◌∷◌, ◌++◌, Option, None, Some, Any, Contains}
+use Rattle.std.specs.List.{list_any}
 use Rattle.events.specs.declared.event.Reply.{Reply}
 use Rattle.events.specs.declared.operation.Operation.{Operation}
 use Rattle.events.specs.Keys.{low_key, high_key}
 use Rattle.map_object.specs.MapObject.{Contents, value_at}
 use Rattle.kept_pasts.specs.Pasts.{KeptPast}
 use Rattle.losses.specs.KeyLosses.{IsOnlyKey, ReportsOther, pairs_in}
+use Rattle.losses.specs.declared.lost_keys.Origin.{Origin}
+use Rattle.losses.specs.declared.puts.Put.{Put}
 
 -- what some item gives was added to what there was
 abbrev pub AreAdded : {X Y : Type 0} → (X → Y → Type 0) → List X → List Y → List Y → Type 0
@@ -62,3 +65,21 @@ pub record IsSpanAt (key : ℕ) (span : ℕ × ℕ × ℕ) (inv : ℕ) : Type 0 
 -- something is noted, unless it was
 abbrev pub IsNotedOnce : {Y : Type 0} → Y → List Y → List Y → Type 0
 IsNotedOnce y old new = (Contains old y × (new ≡ old)) ⊎ ((Contains old y → ⊥) × (new ≡ old ++ y ∷ []))
+
+-- whether a put is of this value at this key, and its call is not left in a past
+abbrev pub is_put_before : KeptPast → ℕ → ℕ → Put → Bool
+is_put_before past key value p = p.key == key && (p.value == value && not (list_any (λ o. o.inv == p.event) past.left))
+
+-- the event of the last such put
+abbrev pub last_put : KeptPast → ℕ → ℕ → Option ℕ → List Put → Option ℕ
+last_put past key value last [] = last
+last_put past key value last (p ∷ puts) = last_put past key value (if is_put_before past key value p then Some p.event else last) puts
+
+-- who put a value that a key has in a past
+abbrev pub put_in : List Put → KeptPast → ℕ → Option ℕ → Option ℕ
+put_in puts past key None = None
+put_in puts past key (Some value) = last_put past key value None puts
+
+-- the value that a key has in a past, and who put it
+abbrev pub origin_in : List Put → ℕ → KeptPast → Origin
+origin_in puts key past = record { value = value_at past.pairs key; put = put_in puts past key (value_at past.pairs key) }

@@ -1,7 +1,6 @@
 -- What is said of the keys of a part that does not go on.
 use Rattle.events.specs.declared.event.Reply.TheVariants as replies
-use Rattle.std.specs.Prelude.{◌≡◌, ◌≢◌, ◌⊎◌, ◌↔◌, ℕ, ◌<◌, ◌≤◌, ◌==◌, ◌&&◌, Bool, not, if◌then◌else◌, List, [], ◌∷◌, map, All, AllPairs, Any, Contains, Option, None, Some}
-use Rattle.std.specs.List.{list_any}
+use Rattle.std.specs.Prelude.{◌≡◌, ◌≢◌, ◌⊎◌, ◌↔◌, ℕ, ◌<◌, ◌≤◌, List, ◌∷◌, ◌++◌, All, AllPairs, Any, Contains, Option, None, Some}
 use Rattle.events.specs.declared.event.Call.{Call}
 use Rattle.events.specs.declared.event.Call.TheVariants.{Get, Insert, Remove, Scan, Replace}
 use Rattle.events.specs.declared.event.Reply.{Reply}
@@ -43,29 +42,38 @@ pub record ReportsOther (pairs : Contents) (o : Operation) (key : ℕ) : Type 0 
 abbrev pub IsNamed : List KeptPast → ℕ → Type 0
 IsNamed pasts key = Any (λ past. Any (λ o. IsOnlyKey o key ⊎ ReportsOther past.pairs o key) past.left) pasts
 
--- whether a put is of this value at this key, and took effect before the calls that are left in a past
-abbrev pub is_put_before : KeptPast → ℕ → ℕ → Put → Bool
-is_put_before past key value p = p.key == key && (p.value == value && not (list_any (λ o. o.inv == p.event) past.left))
+-- a put is of this value at this key, and its call is none of those that are left
+pub record IsPutBefore (left : List Operation) (key value : ℕ) (p : Put) : Type 0 where
+  pub key_is : p.key ≡ key
+  pub value_is : p.value ≡ value
+  pub not_left : Any (λ o. o.inv ≡ p.event) left → ⊥
 
--- the event of the last such put
-abbrev pub last_put : KeptPast → ℕ → ℕ → Option ℕ → List Put → Option ℕ
-last_put past key value last [] = last
-last_put past key value last (p ∷ puts) = last_put past key value (if is_put_before past key value p then Some p.event else last) puts
+-- the last such put is that of the call that was invoked at this event
+pub record IsLastPut (left : List Operation) (puts : List Put) (key value event : ℕ) : Type 0 where
+  pub before : List Put
+  pub put : Put
+  pub after : List Put
+  pub parts : puts ≡ before ++ put ∷ after
+  pub is : IsPutBefore left key value put
+  pub none_after : All (λ p. IsPutBefore left key value p → ⊥) after
+  pub event_is : put.event ≡ event
 
--- who put a value that a key has in a past
-abbrev pub put_in : List Put → KeptPast → ℕ → Option ℕ → Option ℕ
-put_in puts past key None = None
-put_in puts past key (Some value) = last_put past key value None puts
+-- who put a value at a key before the calls that are left: the last such put, or none if there is none; and none if there is no value
+abbrev pub IsPutBy : List Operation → List Put → ℕ → Option ℕ → Option ℕ → Type 0
+IsPutBy left puts key None put = put ≡ None
+IsPutBy left puts key (Some value) None = All (λ p. IsPutBefore left key value p → ⊥) puts
+IsPutBy left puts key (Some value) (Some event) = IsLastPut left puts key value event
 
 -- the value that a key has in a past, and who put it
-abbrev pub origin_in : List Put → ℕ → KeptPast → Origin
-origin_in puts key past = record { value = value_at past.pairs key; put = put_in puts past key (value_at past.pairs key) }
+pub record IsOriginIn (puts : List Put) (key : ℕ) (past : KeptPast) (origin : Origin) : Type 0 where
+  pub value_is : value_at past.pairs key ≡ origin.value
+  pub put_is : IsPutBy past.left puts key origin.value origin.put
 
 -- what is said of a key: each value that it has in some past, once for each call that put it, and the invocations of the calls left that have
 -- the key
 pub record IsKeyLoss (pasts : List KeptPast) (puts : List Put) (loss : KeyLoss) : Type 0 where
   pub distinct : AllPairs (λ a b. a ≢ b) loss.from.items
-  pub from : (origin : Origin) → Contains loss.from.items origin ↔ Contains (map (origin_in puts loss.key) pasts) origin
+  pub from : (origin : Origin) → Contains loss.from.items origin ↔ Any (λ past. IsOriginIn puts loss.key past origin) pasts
   pub rising : AllPairs (λ a b. a < b) loss.invoked.items
   pub invoked : (inv : ℕ) → Contains loss.invoked.items inv ↔ Any (λ past. Any (λ o. (o.inv ≡ inv) × HasKey o loss.key) past.left) pasts
 

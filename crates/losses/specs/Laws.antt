@@ -33,17 +33,21 @@ OwnPartsHaveNoOrder =
     (start : Contents) (place : ℕ) (events : List Event) (loss : Loss) (part : OwnPart) → IsKeptBeside start place (operations events) loss.part
     → All IsDead (pasts_of loss.part) → own_part loss ≡ Some part → IsOwnPartOf events part
 
--- What is said of a key may be so if calls of these invocations are left. Some of the calls have a legal order that keeps precedence and leaves
--- the value, or none, at the key. Each answered call of the key is in the order, or is left. A call that is said to have put the value is in
--- the order, and puts it.
+-- What is said of a key may be so if calls of these invocations are left in some past. Some of the calls have a legal order that keeps precedence
+-- and leaves the value, or none, at the key. Some of the invocations are left after this order: no call of it has one. Each answered call of the key
+-- is in the order, or is left after it. A call that is said to have put the value is in the order, and puts it. A later call of the order may put it
+-- again.
 pub record MayHave (start : Contents) (calls : List Operation) (key : ℕ) (left : List ℕ) (origin : Origin) : Type 0 where
   pub order : List Operation
+  pub left_after : List ℕ
   pub known : (o : Operation) → Contains order o → Contains calls o
   pub distinct : AllPairs (λ a b. a.inv ≢ b.inv) order
   pub precedence : KeepsPrecedence order
   pub legal : IsLegal start order
   pub leaves : value_at (after_calls start order) key ≡ origin.value
-  pub whole : (o : Operation) → Contains calls o → IsTrue (is_completed o) → HasKey o key → Contains order o ⊎ Contains left o.inv
+  pub some : All (Contains left) left_after
+  pub taken : (o : Operation) → Contains order o → Contains left_after o.inv → ⊥
+  pub whole : (o : Operation) → Contains calls o → IsTrue (is_completed o) → HasKey o key → Contains order o ⊎ Contains left_after o.inv
   pub writer : (value event : ℕ) → origin.value ≡ Some value → origin.put ≡ Some event
       → (o : Operation) × Contains order o × IsPutOf o (record { key = key; value = value; event = event })
 

@@ -107,8 +107,10 @@ fn loss_of(
 }
 
 /// What is said of the keys of a part may be so, if the part and others represent the calls of the
-/// stream. Each value is left at its key by a legal order of calls. That order has all answered
-/// calls of the key except those that are left, and the call that put the value.
+/// stream. Each value is left at its key by a legal order of calls. Some of the invocations that are
+/// said to be left belong to none of its calls. Each answered call of the key is in the order, or
+/// has one of these invocations. The call that is said to have put the value is in the order, and
+/// puts it. A later call of the order may put it again.
 pub fn values_are_reached()
     ensures { ValuesAreReached }
 {}

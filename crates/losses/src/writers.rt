@@ -2,8 +2,7 @@
 ghost use Rattle.std.specs.Prelude.{◌≡◌, ◌≢◌, ◌↔◌, ◌==◌, filter, map, AllPairs, Contains, IfOk, IsTrue, None, OnOk};
 ghost use Rattle.std.specs.List.{list_any};
 ghost use Rattle.part_cuts.specs.PartCuts.{kept_of};
-ghost use Rattle.losses.specs.KeyLosses.{is_put_before, last_put, origin_in, put_in};
-ghost use Rattle.losses.specs.Collecting.{IsNotedOnce};
+ghost use Rattle.losses.specs.Collecting.{IsNotedOnce, is_put_before, last_put, origin_in, put_in};
 ghost use Rattle.losses.specs.declared.lost_keys.Origin.{Origin as From};
 
 use crate::lost_keys::Origin;

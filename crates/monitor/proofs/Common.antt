@@ -60,11 +60,11 @@ pub use Rattle.quiet_cuts.proofs.ContinueLemmas.{completed_at, completed_stays, 
 pub use Rattle.quiet_cuts.proofs.EventLemmas.{none_of, operations-answer, operations-invoke, response_found, turns_later}
 pub use Rattle.quiet_cuts.proofs.SetLemmas.{same_call}
 pub use Rattle.quiet_cuts.specs.KeptCalls.{answered_at, begun_at}
-pub use Rattle.monitor.specs.Answering.{AreAnswered, IsLostBy, IsLostPart, IsPendingIn}
+pub use Rattle.monitor.specs.Answering.{AreAnswered, IsLostPart, IsPartEndedBy, IsPendingIn}
 pub use Rattle.monitor.specs.Calls.{MayReply}
 pub use Rattle.monitor.specs.Faults.{answer_fault, event_limit, invocation_fault}
 pub use Rattle.monitor.specs.Following.{IsCallOf, IsFollowing, IsOpenCall}
-pub use Rattle.monitor.specs.Laws.{LossesAreReached, NothingIsMissed, read_after}
+pub use Rattle.monitor.specs.Laws.{DoubtsAreReached, LossesAreReached, MayBeSo, NothingIsMissed, read_after}
 pub use Rattle.monitor.specs.LossAt.{IsLossAt}
 pub use Rattle.monitor.specs.MonitorView.{MonitorView, known_call}
 pub use Rattle.monitor.specs.OpenPuts.{AreAllPuts, AreOpenPuts, ArePutsOfEntries, HaveOwnEvents, IsOpenPut}

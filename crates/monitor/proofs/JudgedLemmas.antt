@@ -7,7 +7,7 @@ use Rattle.monitor.proofs.Common.{response_at, PartsView, kept_parts, EndedPart,
 use Rattle.monitor.proofs.Common.{MayReply, event_limit, IsFollowing, IsLossAt, MonitorView, known_call, AreAllPuts, put_limit, AreRecentPuts}
 use Rattle.monitor.proofs.Common.{ArePutsOf, BecomeWithAnswer, OpenCall}
 use Rattle.std.specs.Prelude.{◌≢◌}
-use Rattle.kept_parts.specs.Reached.{HasPasts, KeptPastsAreReached}
+use Rattle.kept_parts.specs.Reached.{HasPasts, IsReached, KeptPastsAreReached}
 use Rattle.losses.specs.declared.loss.Loss.{Loss}
 use Rattle.part_cuts.specs.PartCuts.{kept_of}
 use Rattle.part_cuts.specs.declared.past.Past.{Past}
@@ -106,12 +106,36 @@ module _ (start : Contents) (events : List Event) (m : MonitorView) (process : �
         (subst (λ (n : ℕ). IsKeptBeside start (suc n) (operations then) part) h.events_are
         (subst (λ (l : List Operation). IsKeptBeside start (suc m.parts.now) l part) calls_are kept))
 
-    pub is_spent : (budget : ℕ) → m.parts.now < event_limit → IsKeptBeside start (suc m.parts.now) calls_with part × AreDoubtful budget (pasts_of part)
-        → ArePutsOf (operations then) loss.puts.items → IsSpent start events process reply budget loss
-    is_spent budget room answered puts = record {
+    abbrev the_call : Operation
+    the_call = begun known.call known.event
+
+    before_it : IsEndedBy start m.parts.now calls_before the_call (response_at reply m.parts.now) part
+        → IsEndedBy start (length events) (operations events) the_call (response_at reply (length events)) loss.part
+    before_it ended =
+        subst (λ (p : EndedPart). IsEndedBy start (length events) (operations events) the_call (response_at reply (length events)) p)
+        (sym made.part_is)
+        (subst (λ (l : List Operation). IsEndedBy start (length events) l the_call (response_at reply (length events)) part)
+        (sym (around_it start events m process known reply h here).before)
+        (subst (λ (n : ℕ). IsEndedBy start n calls_before the_call (response_at reply n) part) h.events_are ended))
+
+    reached_with : KeptPastsAreReached → IsKeptWith start events process reply loss
+        → All (IsReached start (operations then) (covered loss.part.ranges.items)) (pasts_of loss.part)
+    reached_with law beside =
+        law start (suc (length events)) (operations then) (record { keys = covered loss.part.ranges.items; pasts = pasts_of loss.part })
+        beside.others h.rising beside.are_kept beside.some
+
+    pub is_spent : (budget : ℕ) → KeptPastsAreReached → m.parts.now < event_limit
+        → MayReply known.call reply × IsKeptBeside start (suc m.parts.now) calls_with part × AreDoubtful budget (pasts_of part)
+        → ArePutsOf (operations then) loss.puts.items → IsEndedBy start m.parts.now calls_before the_call (response_at reply m.parts.now) part
+        → IsSpent start events process reply budget loss
+    unfolding of_answer
+    is_spent budget law room answered puts ended = record {
       accepted = accepted start events m process known h here room;
       of_answer = of_answer;
-      part = (kept_with answered.0, subst (λ (p : EndedPart). AreDoubtful budget (pasts_of p)) (sym made.part_is) answered.1);
+      replies = subst (λ (c : Call). MayReply c reply) (sym made.call_is) answered.0;
+      part = (kept_with answered.1, subst (λ (p : EndedPart). AreDoubtful budget (pasts_of p)) (sym made.part_is) answered.2);
+      before = before_it ended;
+      reached = reached_with law (kept_with answered.1);
       puts = puts;
     }
 
@@ -125,18 +149,6 @@ module _ (start : Contents) (events : List Event) (m : MonitorView) (process : �
 
       may : MayReply loss.call reply → MayReply known.call reply
       may h = subst (λ (c : Call). MayReply c reply) made.call_is h
-
-      abbrev the_call : Operation
-      the_call = begun known.call known.event
-
-      before_it : IsEndedBy start m.parts.now calls_before the_call (response_at reply m.parts.now) part
-          → IsEndedBy start (length events) (operations events) the_call (response_at reply (length events)) loss.part
-      before_it ended =
-          subst (λ (p : EndedPart). IsEndedBy start (length events) (operations events) the_call (response_at reply (length events)) p)
-          (sym made.part_is)
-          (subst (λ (l : List Operation). IsEndedBy start (length events) l the_call (response_at reply (length events)) part)
-          (sym (around_it start events m process known reply h here).before)
-          (subst (λ (n : ℕ). IsEndedBy start n calls_before the_call (response_at reply n) part) h.events_are ended))
 
       pub is_lost : KeptPastsAreReached → PrefixesHaveOrders → m.parts.now < event_limit → ArePutsOf (operations then) loss.puts.items
           → (MayReply known.call reply → IsEndedBy start m.parts.now calls_before the_call (response_at reply m.parts.now) part)
@@ -160,10 +172,7 @@ module _ (start : Contents) (events : List Event) (m : MonitorView) (process : �
             (subst (λ (c : Call). may_change c ≡ false) made.call_is read);
         reached = λ replies. ⊎_elim
             (λ never. absurd (never.0 (may replies)))
-            (λ dead.
-            let beside = kept_with dead.1 in
-            law start (suc (length events)) (operations then) (record { keys = covered loss.part.ranges.items; pasts = pasts_of loss.part })
-            beside.others h.rising beside.are_kept beside.some)
+            (λ dead. reached_with law (kept_with dead.1))
             lost;
         puts = puts;
         wrong = λ more.

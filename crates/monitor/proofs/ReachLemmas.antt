@@ -1,9 +1,13 @@
 -- What is said where a stream goes wrong may be so.
 use Rattle.monitor.proofs.Common.{◌≡◌, ℕ, suc, true, List, [], ◌∷◌, ◌++◌, length, None, Some, sym, subst, All, Any, eq-eqb, All-append, All-weaker}
 use Rattle.monitor.proofs.Common.{none-some, same_Some, All-from_contains, Call, Get, Insert, Remove, Scan, Replace, Answer, Operation, operations}
-use Rattle.monitor.proofs.Common.{concerns_key, IsPutOf, Put, any_of, any_weaker, LossesAreReached, ArePutsOf, IsAnsweredPut}
-use Rattle.losses.specs.KeyLosses.{key_of}
+use Rattle.monitor.proofs.Common.{concerns_key, Event, Reply, Contents, IsRising, HasKeysIn, begun, covered, pasts_of, IsPutOf, Put, any_of}
+use Rattle.monitor.proofs.Common.{any_weaker, DoubtsAreReached, LossesAreReached, MayBeSo, ArePutsOf, IsAnsweredPut}
+use Rattle.losses.specs.declared.loss.Loss.{Loss}
+use Rattle.losses.specs.declared.lost_keys.KeyLoss.{KeyLoss}
+use Rattle.losses.specs.KeyLosses.{AreKeyLosses, key_of}
 use Rattle.losses.specs.Laws.{ValuesAreReached}
+use Rattle.monitor.specs.Outcomes.{IsKeptWith, IsOfAnswer}
 
 -- the only key of a call
 only_key : (call : Call) (key : ℕ) → key_of call ≡ Some key → concerns_key call key ≡ true
@@ -26,11 +30,24 @@ puts_of_calls calls puts are =
     IsOfSome : Put → Type 0
     IsOfSome p = Any (λ (o : Operation). IsPutOf o p) calls
 
+-- all that is said of a part which the answer ends, and which is kept with it
+module _ (law : ValuesAreReached) (start : Contents) (events : List Event) (process : ℕ) (reply : Reply) (loss : Loss) (losses : List KeyLoss)
+    (rising : IsRising start) (are : AreKeyLosses (Some loss.call) (pasts_of loss.part) loss.puts.items losses) where
+  abbrev calls : List Operation
+  calls = operations (events ++ Answer process reply ∷ [])
+
+  may_be_so : (of_answer : IsOfAnswer events process loss) → IsKeptWith start events process reply loss
+      → HasKeysIn (covered loss.part.ranges.items) (begun of_answer.known.call of_answer.known.event) → ArePutsOf calls loss.puts.items
+      → MayBeSo start calls loss losses
+  may_be_so of_answer kept keys puts =
+      law start (suc (length events)) calls loss.part (Some loss.call) loss.puts.items losses rising kept
+      (λ key own. keys key (subst (λ (c : Call). concerns_key c key ≡ true) of_answer.call_is (only_key loss.call key own)))
+      (puts_of_calls calls loss.puts.items puts) are
+
 pub losses_are_reached : ValuesAreReached → LossesAreReached
 losses_are_reached law start events process reply loss losses rising lost replies are =
-    let calls : List Operation = operations (events ++ Answer process reply ∷ []) in
-    let before = lost.before replies in
-    law start (suc (length events)) calls loss.part (Some loss.call) loss.puts.items losses rising (lost.part replies).0
-    (λ key own. before.keys key
-    (subst (λ (c : Call). concerns_key c key ≡ true) lost.of_answer.call_is (only_key loss.call key own)))
-    (puts_of_calls calls loss.puts.items lost.puts) are
+    may_be_so law start events process reply loss losses rising are lost.of_answer (lost.part replies).0 (lost.before replies).keys lost.puts
+
+pub doubts_are_reached : ValuesAreReached → DoubtsAreReached
+doubts_are_reached law start events process reply budget loss losses rising spent are =
+    may_be_so law start events process reply loss losses rising are spent.of_answer spent.part.0 spent.before.keys spent.puts

@@ -31,9 +31,11 @@ IsLostPart start place calls call reply part =
 abbrev pub AreAnswered : Contents → ℕ → PartsView → List Operation → Call → Reply → Judged → Type 0
 AreAnswered start budget old calls call reply (Going next) = IsStateOf start calls next × IsCounted old next × All GoesOn (kept_parts next)
 AreAnswered start budget old calls call reply (Lost part) = IsLostPart start (suc old.now) calls call reply part
-AreAnswered start budget old calls call reply (Spent part) = IsKeptBeside start (suc old.now) calls part × AreDoubtful budget (pasts_of part)
+AreAnswered start budget old calls call reply (Spent part) =
+    MayReply call reply × IsKeptBeside start (suc old.now) calls part × AreDoubtful budget (pasts_of part)
 
--- if some map answers the call so, a part that has no past with an order is ended by the answer
-abbrev pub IsLostBy : Contents → ℕ → List Operation → Operation → Reply → Judged → Type 0
-IsLostBy start now calls o reply (Lost part) = MayReply o.call reply → IsEndedBy start now calls o (response_at reply now) part
-IsLostBy start now calls o reply judged = ⊤
+-- if some map answers the call so, a part that does not go on is ended by the answer
+abbrev pub IsPartEndedBy : Contents → ℕ → List Operation → Operation → Reply → Judged → Type 0
+IsPartEndedBy start now calls o reply (Going next) = ⊤
+IsPartEndedBy start now calls o reply (Lost part) = MayReply o.call reply → IsEndedBy start now calls o (response_at reply now) part
+IsPartEndedBy start now calls o reply (Spent part) = IsEndedBy start now calls o (response_at reply now) part

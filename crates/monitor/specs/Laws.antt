@@ -19,16 +19,27 @@ use Rattle.losses.specs.Laws.{MayHave}
 use Rattle.losses.specs.declared.loss.Loss.{Loss}
 use Rattle.losses.specs.declared.lost_keys.KeyLoss.{KeyLoss}
 use Rattle.monitor.specs.Calls.{MayReply}
-use Rattle.monitor.specs.Outcomes.{IsLost}
+use Rattle.monitor.specs.Outcomes.{IsLost, IsSpent}
 
--- Suppose that some map answers the call so. Then all keys that are named are keys of the lost part, and what is said of them may be so, with
--- those calls left that have the key.
+-- All keys that are named are keys of a loss's part, and what is said of them may be so, with those calls left that have the key.
+abbrev pub MayBeSo : Contents → List Operation → Loss → List KeyLoss → Type 0
+MayBeSo start calls loss losses =
+    All (λ said. (covered loss.part.ranges.items said.key ≡ true) × All (MayHave start calls said.key said.invoked.items) said.from.items) losses
+
+-- After a no it may be so, if some map gives the call this answer.
 abbrev pub LossesAreReached : Type 0
 LossesAreReached =
     (start : Contents) (events : List Event) (process : ℕ) (reply : Reply) (loss : Loss) (losses : List KeyLoss) → IsRising start
     → IsLost start events process reply loss → MayReply loss.call reply
-    → AreKeyLosses (Some loss.call) (pasts_of loss.part) loss.puts.items losses → let calls = operations (events ++ Answer process reply ∷ []) in
-    All (λ said. (covered loss.part.ranges.items said.key ≡ true) × All (MayHave start calls said.key said.invoked.items) said.from.items) losses
+    → AreKeyLosses (Some loss.call) (pasts_of loss.part) loss.puts.items losses
+    → MayBeSo start (operations (events ++ Answer process reply ∷ [])) loss losses
+
+-- and after an undecided
+abbrev pub DoubtsAreReached : Type 0
+DoubtsAreReached =
+    (start : Contents) (events : List Event) (process : ℕ) (reply : Reply) (budget : ℕ) (loss : Loss) (losses : List KeyLoss) → IsRising start
+    → IsSpent start events process reply budget loss → AreKeyLosses (Some loss.call) (pasts_of loss.part) loss.puts.items losses
+    → MayBeSo start (operations (events ++ Answer process reply ∷ [])) loss losses
 
 -- a get of a key that begins after some events, and is answered at once
 abbrev pub read_after : List Event → ℕ → Reply → Operation

@@ -54,11 +54,16 @@ pub record IsLost (start : Contents) (events : List Event) (process : ℕ) (repl
   pub wrong : (more : List Event) → let all = events ++ Answer process reply ∷ more in
       (IsLinearizable start (operations all) → ⊥) × GoesWrongAt (record { start = start; events = all }) loss.number loss.event
 
--- It is not known whether they do: the search of a past of this part is beyond the budget, and those before it have no order.
+-- It is not known whether they do. Some map answers the call so. Of the pasts of a part that is kept with the answer, the search of one is beyond the
+-- budget, and those before it have no order. These pasts are those kept before with the answer in each, and each is reached, as for a no.
 pub record IsSpent (start : Contents) (events : List Event) (process : ℕ) (reply : Reply) (budget : ℕ) (loss : Loss) : Type 0 where
   pub accepted : answer_fault events process ≡ None
   pub of_answer : IsOfAnswer events process loss
+  pub replies : MayReply loss.call reply
   pub part : IsKeptWith start events process reply loss × AreDoubtful budget (pasts_of loss.part)
+  pub before :
+      IsEndedBy start (length events) (operations events) (begun of_answer.known.call of_answer.known.event) (response_at reply (length events)) loss.part
+  pub reached : All (IsReached start (operations (events ++ Answer process reply ∷ [])) (covered loss.part.ranges.items)) (pasts_of loss.part)
   pub puts : ArePutsOf (operations (events ++ Answer process reply ∷ [])) loss.puts.items
 
 -- what an answer makes of the monitor

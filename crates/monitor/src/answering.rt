@@ -4,7 +4,7 @@ ghost use Rattle.events.specs.declared.operation.Operation.{Operation as Done};
 ghost use Rattle.events.specs.Keys.{low_key, high_key};
 ghost use Rattle.map_object.specs.MapObject.{Contents};
 ghost use Rattle.parts.specs.Keeping.{begun, is_reported, IsStateOf};
-ghost use Rattle.monitor.specs.Answering.{AreAnswered, IsLostBy, IsPendingIn};
+ghost use Rattle.monitor.specs.Answering.{AreAnswered, IsPartEndedBy, IsPendingIn};
 ghost use Rattle.monitor.specs.Faults.{event_limit};
 
 use crate::forms::may_reply;
@@ -42,7 +42,7 @@ pub(crate) fn answer_parts(
         (front ++ is_reported (begun known.call known.event) reply parts.now ∷ back) known.call reply) }
     ensures ended { (start : Contents) (front back : List Done)
         → IsStateOf start (front ++ begun known.call known.event ∷ back) parts
-        → IfOk result (IsLostBy start parts.now (front ++ begun known.call known.event ∷ back)
+        → IfOk result (IsPartEndedBy start parts.now (front ++ begun known.call known.event ∷ back)
         (begun known.call known.event) reply) }
 {
     if !may_reply(&known.call, &reply) {

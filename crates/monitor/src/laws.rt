@@ -1,14 +1,16 @@
 // Laws of what is said where a stream goes wrong.
-ghost use Rattle.monitor.specs.Laws.{LossesAreReached, NothingIsMissed};
+ghost use Rattle.monitor.specs.Laws.{DoubtsAreReached, LossesAreReached, NothingIsMissed};
 
 use losses::values_are_reached;
 
-/// What `key_losses` says of a no may be so, if some map answers the call so. Each value is left at
-/// its key by a legal order of calls. That order has all answered calls of the key except those
-/// that are left, and the call that put the value. All these keys belong to the part that has no
-/// order.
+/// What `key_losses` says of an undecided may be so. So may what it says of a no, if some map gives
+/// the call this answer. Each value is left at its key by a legal order of calls. Some of the
+/// invocations that are said to be left belong to none of its calls. Each answered call of the key
+/// is in the order, or has one of these invocations. The call that is said to have put the value is
+/// in the order, and puts it. All these keys belong to the part that does not go on.
 pub fn losses_are_reached()
-    ensures { LossesAreReached }
+    ensures lost { LossesAreReached }
+    ensures spent { DoubtsAreReached }
 {
     values_are_reached();
 }

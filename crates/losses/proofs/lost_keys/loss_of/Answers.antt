@@ -1,12 +1,13 @@
 use Rattle.std.specs.Prelude.{map}
 use Rattle.part_cuts.specs.PartCuts.{kept_of}
 use Rattle.losses.proofs.LossLemmas.{invoked_in}
+use Rattle.losses.proofs.OriginLemmas.{origins_are}
 use Rattle.losses.proofs.lost_keys.loss_of.Goals as goal
 
 pub returns-clause-is : goal.returns-clause-is
 returns-clause-is c = record {
   distinct = c.in_ok-from.ensures.distinct;
-  from = c.in_ok-from.ensures.same;
+  from = origins_are c.args.puts.now c.args.key (map kept_of c.args.pasts.now) c.in_ok-from.from.items c.in_ok-from.ensures.same;
   rising = c.in_ok-invoked.ensures.rising;
   invoked = λ inv.
       let here = c.in_ok-invoked.ensures.same inv in

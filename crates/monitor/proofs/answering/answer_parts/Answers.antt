@@ -35,6 +35,14 @@ returns-in-Lost-clause-ended c = λ start front back state replies.
 pub returns-in-Spent-clause-answered : goal.returns-in-Spent-clause-answered
 returns-in-Spent-clause-answered c = λ start front back state.
     let known = c.args.known in
-    subst (IsAnswered start c.args.budget c.args.parts
+    let answered = subst (IsAnswered start c.args.budget c.args.parts
     (front ++ is_reported (begun known.call known.event) c.args.reply c.args.parts.now ∷ back)) c.in-Spent.is
-    (c.in_ok-next.ensures.answered start front back state)
+    (c.in_ok-next.ensures.answered start front back state) in
+    (c.may_reply.ensures.0 c.if-not-may_reply.false, answered.0, answered.1)
+
+pub returns-in-Spent-clause-ended : goal.returns-in-Spent-clause-ended
+returns-in-Spent-clause-ended c = λ start front back state.
+    let known = c.args.known in
+    let o = begun known.call known.event in
+    subst (HasEndedBy start c.args.parts.now (front ++ o ∷ back) o (response_at c.args.reply c.args.parts.now)) c.in-Spent.is
+    (c.in_ok-next.ensures.ended start front back state)

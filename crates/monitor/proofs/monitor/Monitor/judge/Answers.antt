@@ -1,5 +1,5 @@
 use Rattle.monitor.proofs.Common.{◌≡◌, ℕ, ◌<◌, ◌==◌, ◌++◌, ◌∷◌, [], List, None, cond, sym, ap, ◌∙◌, subst, Event, Answer, Contents, begun, IsEndedBy}
-use Rattle.monitor.proofs.Common.{response_at, AreAnswered, IsLostBy, MayReply, event_limit, IsFollowing, IsLossAt, MonitorView, PartsView, Option, known_call}
+use Rattle.monitor.proofs.Common.{response_at, AreAnswered, IsPartEndedBy, MayReply, event_limit, IsFollowing, IsLossAt, MonitorView, PartsView, Option, known_call}
 use Rattle.std.proofs.Common.{is_some}
 use Rattle.monitor.specs.MonitorView.{parts_of}
 use Rattle.monitor.specs.declared.monitor.Kept.{Kept}
@@ -122,7 +122,7 @@ returns-in_ok-loss-in-Lost c = λ start events h.
     let before = calls_before start events m process known reply follows here in
     let ended : MayReply known.call reply
     → IsEndedBy start m.parts.now before (begun known.call known.event) (response_at reply m.parts.now) part =
-    subst (IsLostBy start m.parts.now before (begun known.call known.event) reply) c.in-Lost.is
+    subst (IsPartEndedBy start m.parts.now before (begun known.call known.event) reply) c.in-Lost.is
     (c.in_ok-parts.ensures.ended start around.front around.back (state_before start events m process known reply follows here)) in
     is_lost start events m process known reply follows here part recent open_calls loss made c.kept_parts_decide.ensures
     c.orders_are_keyed_orders.ensures answered c.kept_pasts_are_reached.ensures c.prefixes_have_orders.ensures room puts ended
@@ -153,4 +153,9 @@ returns-in_ok-loss-in-Spent c = λ start events h.
     let puts = known_then start events m process known reply follows here c.deref_mut-kept.result.now.puts.capacity
     (ap (λ (k : Kept). k.puts.capacity) c.deref_mut-kept.ensures.value ∙ c.self.invariant.1) recent c.note_answer.ensures.puts
     open_calls loss.puts.items changed made.puts in
-    is_spent start events m process known reply follows here part recent open_calls loss made c.args.budget room answered puts
+    let before = calls_before start events m process known reply follows here in
+    let ended : IsEndedBy start m.parts.now before (begun known.call known.event) (response_at reply m.parts.now) part =
+    subst (IsPartEndedBy start m.parts.now before (begun known.call known.event) reply) c.in-Spent.is
+    (c.in_ok-parts.ensures.ended start around.front around.back (state_before start events m process known reply follows here)) in
+    is_spent start events m process known reply follows here part recent open_calls loss made c.args.budget c.kept_pasts_are_reached.ensures room
+    answered puts ended
