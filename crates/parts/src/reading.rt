@@ -24,7 +24,7 @@ ghost use Rattle.parts.specs.Steps.{AreMet, HasEnded, HasGoneIn, IsReadIn, IsRep
 use crate::going::go_on;
 use crate::settling::settle_met;
 use crate::state::{Answered, Parts};
-use events::{Memory, Operation, Reply};
+use events::{Call, Memory, Operation, Reply};
 use orders::may_come_next;
 use packed_map::PackedMap;
 use part_cuts::Past;
@@ -148,10 +148,31 @@ fn agrees_at_rest(
     if !met.is_empty() {
         return Ok(false);
     }
+    if got_at_rest(rest, operation) {
+        return Ok(true);
+    }
     let low = operation.call.low_key();
     let high = operation.call.high_key();
     let pairs = pairs_within(alloc, rest, low, high)?;
     Ok(may_come_next(&pairs, operation))
+}
+
+/// Whether a read is a get, and its key at rest holds what it reported. It takes no memory.
+fn got_at_rest(rest: &PackedMap<u64>, operation: &Operation) -> bool
+    ensures { IsTrue result → IsLegalCall rest.now operation.now.call operation.now.response }
+{
+    let Call::Get(key) = operation.call else {
+        return false;
+    };
+    let Some(response) = &operation.response else {
+        return false;
+    };
+    let value = rest.get(key).copied();
+    match &response.reply {
+        Reply::None => value.is_none(),
+        Reply::Some(found) => value == Some(*found),
+        _ => false,
+    }
 }
 
 /// The ranges of the part that a read is left in, and what becomes of its pasts.
