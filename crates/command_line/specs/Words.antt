@@ -26,11 +26,11 @@ option_words (g ∷ gs) = (codes "--" ++ g.0) ∷ (value_words g.1 ++ option_wor
 abbrev pub has_option : Text → List Given → Bool
 has_option name given = list_any (λ g. bytes_eq g.0 name) given
 
--- the text that is read as its value
+-- the text that is read as the value of an option that is given; `switch_text` for a switch
 abbrev pub text_given : Given → Text
 text_given g = unwrap_or g.1 switch_text
 
--- the value that is given to an option
+-- the value that is given to the option of this name, and none if it is left out
 abbrev pub value_given : List Given → Text → Option Text
 value_given given name = option_map text_given (find (λ g. bytes_eq g.0 name) given)
 
