@@ -1,6 +1,6 @@
 -- `check`, `judge`, `locate`, `draw` and `drive` are uses of the program's table, and ask for their lines.
 use Rattle.std.proofs.Common.{◌≡◌, ◌∙◌, ◌++◌, append-nil, map, get_or, ℕ, refl, sym, ap, ap₂, inl, inr, arith, List, [], ◌∷◌, Option, Some}
-use Rattle.std.proofs.Common.{None, Bool, codes, false, true, true≢false}
+use Rattle.std.proofs.Common.{None, Bool, codes, false, subst, true, true≢false}
 use Rattle.std.specs.Option.{option_map_or}
 use Rattle.std.specs.Prelude.{IfSome}
 use Rattle.std.specs.Str.{bytes_eq}
@@ -13,13 +13,13 @@ use Rattle.command_line.specs.Limits.{budget_default, budget_limit, rows16_defau
 use Rattle.command_line.specs.Limits.{rows4_default, rows4_limit}
 use Rattle.command_line.specs.Limits.{rows48_default, rows48_limit, steps_limit, workers_default, workers_limit}
 use Rattle.command_line.specs.Lines.{ChecksNumbers, Draws, Drives, NamesTree, IsCheck, IsDraw, IsDrive, IsJudge, IsLocate}
-use Rattle.command_line.specs.Lines.{asked_by, switch_number}
+use Rattle.command_line.specs.Lines.{asked_by, switch_number, switch_words}
 use Rattle.command_line.specs.Lines.{option_words as words_of}
 use Rattle.command_line.specs.Numbers.{IsNumberWithin, number_of}
 use Rattle.command_line.specs.Program.{bench_table, check_usage, draw_usage, drive_usage, judge_usage, locate_usage, number_flag}
 use Rattle.command_line.specs.Program.{switch_flag, tree_flag}
 use Rattle.command_line.specs.Requests.{IsReadFrom}
-use Rattle.command_line.specs.Tables.{Flag}
+use Rattle.command_line.specs.Tables.{Flag, switch_text}
 use Rattle.command_line.specs.Trees.{name_of, place_of, trees}
 use Rattle.command_line.specs.Words.{AreOptionsOf, Given, Gives, IsUse, option_words, value_given}
 use Rattle.command_line.specs.declared.line.Line.{Line}
@@ -139,7 +139,7 @@ draws given other gives = absurd (other_name _ _ gives.name refl)
 
 -- an option that may be given
 abbrev given_as : Text → Option Text → List Given
-given_as name value = option_map_or (λ text. (name, text) ∷ []) value []
+given_as name value = option_map_or (λ text. (name, Some text) ∷ []) value []
 
 -- the two options
 abbrev budget_flag : Flag
@@ -282,50 +282,139 @@ judges words budget workers line is gives =
 
 -- ---- locate
 
-budget_word : (budget : Option Text) → words_of (codes "--budget") budget ≡ option_words (given_as (codes "budget") budget) ++ []
-budget_word None = refl
-budget_word (Some b) = refl
+-- a switch that may be given
+abbrev switch_as : Text → Bool → List Given
+switch_as name true = (name, None) ∷ []
+switch_as name false = []
 
-budget_option : (budget : Option Text) → IfSome budget (IsNumberWithin budget_limit)
-    → AreOptionsOf locate_usage.flags (given_as (codes "budget") budget)
-budget_option None b = tt
-budget_option (Some x) b = (b, refl, tt)
+-- the options in either order
+abbrev order_last : Option Text → Bool → List Given
+order_last budget order = given_as (codes "budget") budget ++ switch_as (codes "order") order
 
-value_of_budget : (budget : Option Text) → value_given (given_as (codes "budget") budget) (codes "budget") ≡ budget
-value_of_budget None = refl
-value_of_budget (Some b) = refl
+abbrev order_first : Option Text → Bool → List Given
+order_first budget order = switch_as (codes "order") order ++ given_as (codes "budget") budget
+
+-- their words
+order_last_words : (budget : Option Text) (order : Bool) → words_of (codes "--budget") budget ++ switch_words (codes "--order") order
+    ≡ option_words (order_last budget order) ++ []
+order_last_words None false = refl
+order_last_words None true = refl
+order_last_words (Some b) false = refl
+order_last_words (Some b) true = refl
+
+order_first_words : (budget : Option Text) (order : Bool) → switch_words (codes "--order") order ++ words_of (codes "--budget") budget
+    ≡ option_words (order_first budget order) ++ []
+order_first_words None false = refl
+order_first_words None true = refl
+order_first_words (Some b) false = refl
+order_first_words (Some b) true = refl
+
+-- and their values, which are within the limits
+order_last_options : (budget : Option Text) (order : Bool) → IfSome budget (IsNumberWithin budget_limit)
+    → AreOptionsOf locate_usage.flags (order_last budget order)
+order_last_options None false b = tt
+order_last_options None true b = (tt, refl, tt)
+order_last_options (Some x) false b = (b, refl, tt)
+order_last_options (Some x) true b = (b, refl, (tt, refl, tt))
+
+order_first_options : (budget : Option Text) (order : Bool) → IfSome budget (IsNumberWithin budget_limit)
+    → AreOptionsOf locate_usage.flags (order_first budget order)
+order_first_options None false b = tt
+order_first_options None true b = (tt, refl, tt)
+order_first_options (Some x) false b = (b, refl, tt)
+order_first_options (Some x) true b = (tt, refl, (b, refl, tt))
+
+-- the text that is read of a switch
+abbrev switch_value : Bool → Option Text
+switch_value true = Some switch_text
+switch_value false = None
+
+-- options of `locate` that give these values
+record Finds (words : List Text) (budget : Option Text) (order : Bool) : Type 0 where
+  given : List Given
+  is_use : IsUse bench_table words locate_usage given []
+  budget_is : value_given given (codes "budget") ≡ budget
+  order_is : value_given given (codes "order") ≡ switch_value order
+
+-- each order does
+order_last_values : (budget : Option Text) (order : Bool) → (value_given (order_last budget order) (codes "budget") ≡ budget)
+    × (value_given (order_last budget order) (codes "order") ≡ switch_value order)
+order_last_values None false = (refl, refl)
+order_last_values None true = (refl, refl)
+order_last_values (Some b) false = (refl, refl)
+order_last_values (Some b) true = (refl, refl)
+
+order_first_values : (budget : Option Text) (order : Bool) → (value_given (order_first budget order) (codes "budget") ≡ budget)
+    × (value_given (order_first budget order) (codes "order") ≡ switch_value order)
+order_first_values None false = (refl, refl)
+order_first_values None true = (refl, refl)
+order_first_values (Some b) false = (refl, refl)
+order_first_values (Some b) true = (refl, refl)
+
+locate_finds : (words : List Text) (budget : Option Text) (order : Bool) → IsLocate words budget order → Finds words budget order
+locate_finds words budget order is = elim is.in_an_order [
+  | inl options_are ↦ record {
+    given = order_last budget order;
+    is_use = record {
+      program = is.name;
+      words_are = is.words_are ∙ ap (λ (ws : List Text). is.name ∷ codes "locate" ∷ ws) (options_are ∙ order_last_words budget order);
+      named = refl;
+      options = order_last_options budget order is.budget_within;
+      required = refl;
+      numbers = λ k d lt. absurd (omega arith);
+      no_calls = λ _. refl;
+    };
+    budget_is = (order_last_values budget order).0;
+    order_is = (order_last_values budget order).1;
+  }
+  | inr options_are ↦ record {
+    given = order_first budget order;
+    is_use = record {
+      program = is.name;
+      words_are = is.words_are ∙ ap (λ (ws : List Text). is.name ∷ codes "locate" ∷ ws) (options_are ∙ order_first_words budget order);
+      named = refl;
+      options = order_first_options budget order is.budget_within;
+      required = refl;
+      numbers = λ k d lt. absurd (omega arith);
+      no_calls = λ _. refl;
+    };
+    budget_is = (order_first_values budget order).0;
+    order_is = (order_first_values budget order).1;
+  }
+]
 
 -- a use of `locate`, for each of these words
-pub locate_given : Option Text → List Given
-locate_given budget = given_as (codes "budget") budget
+pub locate_given : (words : List Text) (budget : Option Text) (order : Bool) → IsLocate words budget order → List Given
+locate_given words budget order is = (locate_finds words budget order is).given
 
-pub locate_use : (words : List Text) (budget : Option Text) → IsLocate words budget
-    → IsUse bench_table words locate_usage (locate_given budget) []
+pub locate_use : (words : List Text) (budget : Option Text) (order : Bool) (is : IsLocate words budget order)
+    → IsUse bench_table words locate_usage (locate_given words budget order is) []
 unfolding locate_given
-locate_use words budget is = record {
-  program = is.name;
-  words_are = is.words_are ∙ ap (λ (ws : List Text). is.name ∷ codes "locate" ∷ ws) (budget_word budget);
-  named = refl;
-  options = budget_option budget is.budget_within;
-  required = refl;
-  numbers = λ k d lt. absurd (omega arith);
-  no_calls = λ _. refl;
-}
+locate_use words budget order is = (locate_finds words budget order is).is_use
 
--- no order is asked for
-no_order : (budget : Option Text) (order : Bool)
-    → IsReadFrom (switch_flag (codes "order")) (value_given (given_as (codes "budget") budget) (codes "order")) (switch_number order)
-    → order ≡ false
-no_order budget false read = refl
-no_order None true read = cc
-no_order (Some b) true read = cc
+-- an order is asked for exactly if the switch is given
+order_read : (order asked : Bool) → IsReadFrom (switch_flag (codes "order")) (switch_value order) (switch_number asked) → asked ≡ order
+order_read false false read = refl
+order_read false true read = cc
+order_read true false read = cc
+order_read true true read = refl
 
-pub locates : (budget : Option Text) (line : Line) → Gives locate_usage (locate_given budget) [] (asked_by line)
-    → line ≡ Locate (option_map_or number_of budget budget_default) false
-unfolding locate_given
-locates budget (Locate x order) gives =
+locates_numbers : (given : List Given) (budget : Option Text) (order : Bool) (line : Line) → value_given given (codes "budget") ≡ budget
+    → value_given given (codes "order") ≡ switch_value order
+    → Gives locate_usage given [] (asked_by line)
+    → line ≡ Locate (option_map_or number_of budget budget_default) order
+locates_numbers given budget order (Locate x asked) b o gives =
+    let read = subst (λ (v : Option Text). IsReadFrom (switch_flag (codes "order")) v (switch_number asked)) o gives.numbers.1.0.read in
     ap₂ Locate
     (read_number (codes "budget") 1 budget_limit budget_default _ x gives.numbers.0.read
-    ∙ ap (λ (o : Option Text). option_map_or number_of o budget_default) (value_of_budget budget))
-    (no_order budget order gives.numbers.1.0.read)
-locates budget other gives = absurd (other_name _ _ gives.name refl)
+    ∙ ap (λ (v : Option Text). option_map_or number_of v budget_default) b)
+    (order_read order asked read)
+locates_numbers given budget order other b o gives = absurd (other_name _ _ gives.name refl)
+
+pub locates : (words : List Text) (budget : Option Text) (order : Bool) (line : Line) (is : IsLocate words budget order)
+    → Gives locate_usage (locate_given words budget order is) [] (asked_by line)
+    → line ≡ Locate (option_map_or number_of budget budget_default) order
+unfolding locate_given
+locates words budget order line is gives =
+    let finds = locate_finds words budget order is in
+    locates_numbers finds.given budget order line finds.budget_is finds.order_is gives

@@ -17,10 +17,10 @@ use Rattle.clap.specs.declared.builder.value_parser.ValueParser.TheVariants.{Uns
 use Rattle.clap.specs.declared.parser.matches.ValueSource.TheVariants.{CommandLine}
 use Rattle.clap.proofs.FaultLemmas.{past}
 use Rattle.clap.proofs.ValueTestLemmas.{Accepts-accepts}
-use Rattle.command_line.specs.Commands.{parser_for, values_of}
+use Rattle.command_line.specs.Commands.{missing_of, parser_for, values_of}
 use Rattle.command_line.specs.Limits.{u64_limit}
-use Rattle.command_line.specs.Tables.{Choice, Flag, Usage, among, are_flags, flag_named, is_choice, switch, within}
-use Rattle.command_line.specs.Words.{AreOptionsOf, Given, IsValue, IsValueOf, has_option, option_words}
+use Rattle.command_line.specs.Tables.{Choice, Flag, Usage, among, are_flags, flag_named, is_choice, switch, switch_text, within}
+use Rattle.command_line.specs.Words.{AreOptionsOf, Given, IsValue, IsValueOf, has_option, option_words, text_given, value_words}
 use Rattle.command_line.proofs.PlainLemmas.{IsPlain, value_is_plain}
 use Rattle.command_line.proofs.TableLemmas.{IsFlagWord, IsFound, built_calls, built_flag, built_usage, by_id, by_long, flag_word}
 use Rattle.command_line.proofs.TableLemmas.{found_flag}
@@ -62,7 +62,7 @@ has_row_more id (x ∷ xs) r none other =
 -- ---- one option
 
 -- a value that an option takes passes its parser
-value_passes : (choice : Choice) (text : Text) → is_choice choice ≡ true → IsValue choice text
+value_passes : (choice : Choice) (text : Text) → is_choice choice ≡ true → IsValue choice (Some text)
     → accepts false (parser_for choice) text ≡ true
 value_passes (within least greatest) text sound value =
     let fits = leb-true greatest u64_limit sound in
@@ -77,14 +77,25 @@ read_as_written (among words) = refl
 read_as_written switch = refl
 
 -- an option that takes a value takes one
-takes_one : (choice : Choice) (text : Text) → IsValue choice text → values_of choice ≡ 1
+takes_one : (choice : Choice) (text : Text) → IsValue choice (Some text) → values_of choice ≡ 1
 takes_one (within least greatest) text value = refl
 takes_one (among words) text value = refl
 takes_one switch text value = absurd value
 
+-- what holds of an option that takes none
+record IsSwitch (choice : Choice) : Type 0 where
+  none : values_of choice ≡ 0
+  missing : missing_of choice ≡ switch_text ∷ []
+  accepted : accepts false (parser_for choice) switch_text ≡ true
+
+is_switch : (choice : Choice) → IsValue choice None → IsSwitch choice
+is_switch (within least greatest) value = absurd value
+is_switch (among words) value = absurd value
+is_switch switch value = record { none = refl; missing = refl; accepted = refl }
+
 -- the row of an option that is given
 abbrev pub row_given : Given → Row
-row_given g = row_with g.0 (g.1 ∷ [])
+row_given g = row_with g.0 (text_given g ∷ [])
 
 -- a subcommand whose options are as they should be
 module _ (u : Usage) (all : are_flags u.flags ≡ true) where
@@ -99,24 +110,31 @@ module _ (u : Usage) (all : are_flags u.flags ≡ true) where
   between : Text → Held → Walk
   between name h = record (walk_from (record (settled shape.rules h) { pending = Some (name, []) })) { waiting = option name }
 
+  -- what is held after a switch
+  switched : Text → Held → Held
+  switched name h = record h {
+    rows = with_values name AsWritten CommandLine (switch_text ∷ []) (without name (settled shape.rules h).rows);
+    pending = None;
+  }
+
   -- what is pending is used without a fault
   unfoldable pub Settles : Held → Type 0
   Settles h = settle_fault shape.rules shape.args_override_self h ≡ []
 
-  -- the option that is named, with its value
-  pub record IsOption (name text : Text) : Type 0 where
+  -- the option that is named, with its value, or with none
+  pub record IsOption (name : Text) (given : Option Text) : Type 0 where
     pub flag : Flag
     pub found : flag_named name u.flags ≡ Some flag
-    pub value : IsValue flag.values text
+    pub value : IsValue flag.values given
 
-  pub is_option : (name text : Text) → IsValueOf (flag_named name u.flags) text → IsOption name text
-  is_option name text value = go (flag_named name u.flags) refl value
+  pub is_option : (name : Text) (given : Option Text) → IsValueOf (flag_named name u.flags) given → IsOption name given
+  is_option name given value = go (flag_named name u.flags) refl value
     where
-      go : (o : Option Flag) → flag_named name u.flags ≡ o → IsValueOf o text → IsOption name text
+      go : (o : Option Flag) → flag_named name u.flags ≡ o → IsValueOf o given → IsOption name given
       go None found value = absurd value
       go (Some f) found value = record { flag = f; found = found; value = value }
 
-  module _ (name text : Text) (is : IsOption name text) where
+  module _ (name : Text) (given : Option Text) (is : IsOption name given) where
     found : IsFound u.flags name is.flag
     found = found_flag u.flags name is.flag all is.found
 
@@ -129,11 +147,14 @@ module _ (u : Usage) (all : are_flags u.flags ≡ true) where
     word : IsFlagWord name
     word = subst IsFlagWord found.name_is (flag_word is.flag.name found.is_flag.filled found.is_flag.no_equals)
 
+  -- ---- an option with a value
+
+  module _ (name text : Text) (is : IsOption name (Some text)) where
     plain : IsPlain text
-    plain = value_is_plain is.flag.values text (and_parts _ _ found.is_flag.limits).0 is.value
+    plain = value_is_plain is.flag.values text (and_parts _ _ (found name (Some text) is).is_flag.limits).0 is.value
 
     passes : accepts false (parser_for is.flag.values) text ≡ true
-    passes = value_passes is.flag.values text (and_parts _ _ found.is_flag.limits).0 is.value
+    passes = value_passes is.flag.values text (and_parts _ _ (found name (Some text) is).is_flag.limits).0 is.value
 
     one : values_of is.flag.values ≡ 1
     one = takes_one is.flag.values text is.value
@@ -142,10 +163,10 @@ module _ (u : Usage) (all : are_flags u.flags ≡ true) where
     flag_walked : (h : Held) → walked shape.rules [] (walk_from h) (45 ∷ 45 ∷ name) ≡ between name h
     unfolding walked between
     flag_walked h =
-        let dashes = word.not_dashes in
-        let long = word.long_is in
-        let by = flag_long in
-        let same = found.name_is in
+        let dashes = (word name (Some text) is).not_dashes in
+        let long = (word name (Some text) is).long_is in
+        let by = flag_long name (Some text) is in
+        let same = (found name (Some text) is).name_is in
         let takes = one in
         rw (dashes, long, by, same, takes) refl
 
@@ -153,9 +174,9 @@ module _ (u : Usage) (all : are_flags u.flags ≡ true) where
     flag_turn : (h : Held) → Settles h → turn_fault shape [] (walk_from h) (45 ∷ 45 ∷ name) ≡ []
     unfolding Settles
     flag_turn h settles =
-        let dashes = word.not_dashes in
-        let long = word.long_is in
-        let by = flag_long in
+        let dashes = (word name (Some text) is).not_dashes in
+        let long = (word name (Some text) is).long_is in
+        let by = flag_long name (Some text) is in
         let takes = one in
         rw (dashes, long, by, takes) (past _ _ settles)
 
@@ -166,8 +187,8 @@ module _ (u : Usage) (all : are_flags u.flags ≡ true) where
         let dashes = plain.not_dashes in
         let long = plain.not_long in
         let short = plain.not_short in
-        let by = flag_id in
-        let same = (bytes_eq-Decides name is.flag.name).1 (sym found.name_is) in
+        let by = flag_id name (Some text) is in
+        let same = (bytes_eq-Decides name is.flag.name).1 (sym (found name (Some text) is).name_is) in
         let takes = one in
         rw (dashes, long, short, by, same, takes) refl
 
@@ -182,11 +203,11 @@ module _ (u : Usage) (all : are_flags u.flags ≡ true) where
 
     module _ (h : Held) (new : has_row name (settled shape.rules h).rows ≡ false) where
       -- the option adds its row
-      taken_rows : (settled shape.rules (taken name text h)).rows ≡ (settled shape.rules h).rows ++ row_given (name, text) ∷ []
+      taken_rows : (settled shape.rules (taken name text h)).rows ≡ (settled shape.rules h).rows ++ row_given (name, Some text) ∷ []
       unfolding taken
       taken_rows =
-          let by = flag_id in
-          let same = found.name_is in
+          let by = flag_id name (Some text) is in
+          let same = (found name (Some text) is).name_is in
           let out = without_none name (settled shape.rules h).rows new in
           let reading = read_as_written is.flag.values in
           rw (by, same, out, reading) (new_row name (text ∷ []) (settled shape.rules h).rows new)
@@ -195,8 +216,8 @@ module _ (u : Usage) (all : are_flags u.flags ≡ true) where
       taken_settles : Settles (taken name text h)
       unfolding taken Settles
       taken_settles =
-          let by = flag_id in
-          let same = found.name_is in
+          let by = flag_id name (Some text) is in
+          let same = (found name (Some text) is).name_is in
           let accepted = passes in
           let takes = one in
           rw (by, same, new, accepted, takes) refl
@@ -204,7 +225,7 @@ module _ (u : Usage) (all : are_flags u.flags ≡ true) where
     -- it is not that of the calls
     taken_other : (h : Held) → is_pending built_calls (taken name text h).pending ≡ false
     unfolding taken
-    taken_other h = ap (λ (n : Text). bytes_eq n (codes "CALL")) (sym found.name_is) ∙ found.is_flag.not_calls
+    taken_other h = ap (λ (n : Text). bytes_eq n (codes "CALL")) (sym (found name (Some text) is).name_is) ∙ (found name (Some text) is).is_flag.not_calls
 
     -- the walk goes on after the option and its value
     option_walked : (h : Held) (rest : List Text) → fold (walked shape.rules []) (walk_from h) ((45 ∷ 45 ∷ name) ∷ text ∷ rest)
@@ -221,12 +242,94 @@ module _ (u : Usage) (all : are_flags u.flags ≡ true) where
         past _ _ (flag_turn h settles) ∙ ap (λ w. walk_fault shape [] w (text ∷ rest)) (flag_walked h)
         ∙ past _ _ (value_turn h) ∙ ap (λ w. walk_fault shape [] w rest) (value_walked h)
 
+  -- ---- a switch
+
+  module _ (name : Text) (is : IsOption name None) (h : Held) (new : has_row name (settled shape.rules h).rows ≡ false) where
+    -- the walk takes the flag
+    switch_walked : walked shape.rules [] (walk_from h) (45 ∷ 45 ∷ name) ≡ walk_from (switched name h)
+    unfolding walked switched
+    switch_walked =
+        let dashes = (word name None is).not_dashes in
+        let long = (word name None is).long_is in
+        let by = flag_long name None is in
+        let same = (found name None is).name_is in
+        let values = is_switch is.flag.values is.value in
+        let none = values.none in
+        let missing = values.missing in
+        let reading = read_as_written is.flag.values in
+        rw (dashes, long, by, same, none, missing, reading) refl
+
+    -- which has no fault
+    switch_turn : Settles h → turn_fault shape [] (walk_from h) (45 ∷ 45 ∷ name) ≡ []
+    unfolding Settles
+    switch_turn settles =
+        let dashes = (word name None is).not_dashes in
+        let long = (word name None is).long_is in
+        let by = flag_long name None is in
+        let same = (found name None is).name_is in
+        let values = is_switch is.flag.values is.value in
+        let none = values.none in
+        let missing = values.missing in
+        let accepted = values.accepted in
+        rw (dashes, long, by, same, none, missing, new, accepted) (past _ _ (past _ _ settles))
+
+    -- it adds its row
+    switch_rows : (settled shape.rules (switched name h)).rows ≡ (settled shape.rules h).rows ++ row_given (name, None) ∷ []
+    unfolding switched
+    switch_rows =
+        let out = without_none name (settled shape.rules h).rows new in
+        rw out (new_row name (switch_text ∷ []) (settled shape.rules h).rows new)
+
+    -- and leaves nothing that is pending
+    switch_settles : Settles (switched name h)
+    unfolding switched Settles
+    switch_settles = refl
+
+    switch_other : is_pending built_calls (switched name h).pending ≡ false
+    unfolding switched
+    switch_other = refl
+
+  -- ---- an option, with a value or without
+
+  -- what is held after it
+  after_given : Text → Option Text → Held → Held
+  after_given name None h = switched name h
+  after_given name (Some text) h = taken name text h
+
+  -- the walk over one option
+  record Passes (name : Text) (given : Option Text) (h : Held) : Type 0 where
+    rows : (settled shape.rules (after_given name given h)).rows ≡ (settled shape.rules h).rows ++ row_given (name, given) ∷ []
+    settles : Settles (after_given name given h)
+    other : is_pending built_calls (after_given name given h).pending ≡ false
+    walked_is : (rest : List Text) → fold (walked shape.rules []) (walk_from h) ((45 ∷ 45 ∷ name) ∷ (value_words given ++ rest))
+        ≡ fold (walked shape.rules []) (walk_from (after_given name given h)) rest
+    turns : (rest : List Text) → walk_fault shape [] (walk_from h) ((45 ∷ 45 ∷ name) ∷ (value_words given ++ rest))
+        ≡ walk_fault shape [] (walk_from (after_given name given h)) rest
+
+  passes_by : (name : Text) (given : Option Text) (h : Held) → IsOption name given → has_row name (settled shape.rules h).rows ≡ false
+      → Settles h → Passes name given h
+  unfolding after_given walk_fault
+  passes_by name None h is new settles = record {
+    rows = switch_rows name is h new;
+    settles = switch_settles name is h new;
+    other = switch_other name is h new;
+    walked_is = λ rest. ap (λ w. fold (walked shape.rules []) w rest) (switch_walked name is h new);
+    turns = λ rest. past _ _ (switch_turn name is h new settles) ∙ ap (λ w. walk_fault shape [] w rest) (switch_walked name is h new);
+  }
+  passes_by name (Some text) h is new settles = record {
+    rows = taken_rows name text is h new;
+    settles = taken_settles name text is h new;
+    other = taken_other name text is h;
+    walked_is = λ rest. option_walked name text is h rest;
+    turns = λ rest. option_turns name text is h rest settles;
+  }
+
   -- ---- all options
 
   -- what is held after options
   pub taken_all : List Given → Held → Held
   taken_all [] h = h
-  taken_all (g ∷ gs) h = taken_all gs (taken g.0 g.1 h)
+  taken_all (g ∷ gs) h = taken_all gs (after_given g.0 g.1 h)
 
   -- no row is there of any of these
   abbrev AreNew : List Row → List Given → Type 0
@@ -262,17 +365,21 @@ module _ (u : Usage) (all : are_flags u.flags ≡ true) where
     turns = λ rest. refl;
   }
   goes (g ∷ gs) h options new settles other =
-      let is = is_option g.0 g.1 options.0 in
-      let rows = taken_rows g.0 g.1 is h new.0 in
-      let news = subst (λ (rs : List Row). AreNew rs gs) (sym rows) (new_after (settled shape.rules h).rows g gs options.1 new.1) in
-      let later = goes gs (taken g.0 g.1 h) options.2 news (taken_settles g.0 g.1 is h new.0) (taken_other g.0 g.1 is h) in
+      let one = passes_by g.0 g.1 h (is_option g.0 g.1 options.0) new.0 settles in
+      let news = subst (λ (rs : List Row). AreNew rs gs) (sym one.rows) (new_after (settled shape.rules h).rows g gs options.1 new.1) in
+      let later = goes gs (after_given g.0 g.1 h) options.2 news one.settles one.other in
+      let words = λ (rest : List Text). append_assoc (value_words g.1) (option_words gs) rest in
       record {
-        rows = later.rows ∙ ap (λ (rs : List Row). rs ++ map row_given gs) rows
+        rows = later.rows ∙ ap (λ (rs : List Row). rs ++ map row_given gs) one.rows
             ∙ append_assoc (settled shape.rules h).rows (row_given g ∷ []) (map row_given gs);
         settles = later.settles;
         other = later.other;
-        walked_is = λ rest. option_walked g.0 g.1 is h (option_words gs ++ rest) ∙ later.walked_is rest;
-        turns = λ rest. option_turns g.0 g.1 is h (option_words gs ++ rest) settles ∙ later.turns rest;
+        walked_is = λ rest.
+            ap (λ (ws : List Text). fold (walked shape.rules []) (walk_from h) ((45 ∷ 45 ∷ g.0) ∷ ws)) (words rest)
+            ∙ one.walked_is (option_words gs ++ rest) ∙ later.walked_is rest;
+        turns = λ rest.
+            ap (λ (ws : List Text). walk_fault shape [] (walk_from h) ((45 ∷ 45 ∷ g.0) ∷ ws)) (words rest)
+            ∙ one.turns (option_words gs ++ rest) ∙ later.turns rest;
       }
 
   -- no row is there at first

@@ -1,5 +1,5 @@
 -- Words that are no flags.
-use Rattle.std.proofs.Common.{◌≡◌, ◌==◌, ◌||◌, ℕ, Bool, true, false, refl, ap, subst, sym, ◌∙◌, arith, List, [], ◌∷◌, None}
+use Rattle.std.proofs.Common.{◌≡◌, ◌==◌, ◌||◌, ℕ, Bool, true, false, refl, ap, subst, sym, ◌∙◌, arith, List, [], ◌∷◌, None, Some}
 use Rattle.std.specs.List.{list_all}
 use Rattle.std.specs.Str.{bytes_eq}
 use Rattle.std.proofs.lemmas.Bool.{and_parts, eqb-true, not-true}
@@ -55,7 +55,7 @@ word_is_no_flag text (w ∷ ws) any all =
     go false here is first later = later is
 
 -- and a value of an option
-pub value_is_plain : (choice : Choice) (text : Text) → is_choice choice ≡ true → IsValue choice text → IsPlain text
+pub value_is_plain : (choice : Choice) (text : Text) → is_choice choice ≡ true → IsValue choice (Some text) → IsPlain text
 value_is_plain (within least greatest) text sound value = spelled_is_plain text value.0
 value_is_plain (among words) text sound value =
     no_flag_is_plain text (word_is_no_flag text words value (and_parts _ (list_all is_no_flag words) sound).1)

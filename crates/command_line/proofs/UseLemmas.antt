@@ -3,7 +3,7 @@ use Rattle.std.proofs.Common.{◌≡◌, ◌∙◌, ◌++◌, ◌&&◌, ◌||◌
 use Rattle.std.proofs.Common.{append_assoc}
 use Rattle.std.proofs.Common.{append-nil, length-append, le-ltb, map, length, List, [], ◌∷◌, Option, Some, None, is_some, codes}
 use Rattle.std.specs.List.{All, find, fold, list_any}
-use Rattle.std.specs.Option.{option_and_then, option_map, option_map_or}
+use Rattle.std.specs.Option.{option_and_then, option_map, option_map_or, unwrap_or}
 use Rattle.std.specs.Prelude.{slice_get}
 use Rattle.std.specs.Str.{bytes_eq}
 use Rattle.std.proofs.lemmas.Bool.{and_parts, or_parts}
@@ -24,9 +24,9 @@ use Rattle.clap.proofs.ValueTestLemmas.{Accepts-accepts}
 use Rattle.command_line.specs.Commands.{table_app}
 use Rattle.command_line.specs.Numbers.{IsNumber, number_of}
 use Rattle.command_line.specs.Requests.{AreCallsOf, AreNumbersOf, Asked, Asks, IsNumberOf, are_named, has_named, is_named, values_of}
-use Rattle.command_line.specs.Tables.{Choice, Flag, Usage, among, are_flags, are_usages, flag_named, switch, usage_named, within}
+use Rattle.command_line.specs.Tables.{Choice, Flag, Usage, among, are_flags, are_usages, flag_named, switch, switch_text, usage_named, within}
 use Rattle.command_line.specs.Words.{AreOptionsOf, Given, Gives, IsUse, IsValue, IsValueOf, has_option, has_required, option_words}
-use Rattle.command_line.specs.Words.{value_given}
+use Rattle.command_line.specs.Words.{text_given, value_given}
 use Rattle.command_line.proofs.OptionLemmas.{Goes, Settles, new_row, options_go, row_given, row_with, taken_all}
 use Rattle.command_line.proofs.PlainLemmas.{IsPlain, spelled_is_plain}
 use Rattle.command_line.proofs.RequestLemmas.{is_missing, number_parser}
@@ -124,7 +124,7 @@ value_is (g ∷ gs) calls name other = go (bytes_eq g.0 name) (value_is gs calls
     go : (b : Bool) → first_of name (use_rows gs calls) ≡ value_given gs name
         → option_and_then (λ (r : Row). slice_get r.values 0)
         (cond b (Some (row_given g)) (find (λ (r : Row). bytes_eq r.id name) (use_rows gs calls)))
-        ≡ option_map (λ (x : Given). x.1) (cond b (Some g) (find (λ (x : Given). bytes_eq x.0 name) gs))
+        ≡ option_map text_given (cond b (Some g) (find (λ (x : Given). bytes_eq x.0 name) gs))
     go true later = refl
     go false later = later
 
@@ -168,10 +168,11 @@ none_named (among words) = refl
 none_named switch = refl
 
 -- and a value that the option takes is a word where it has to be
-value_named : (choice : Choice) (text : Text) → IsValue choice text → is_named choice (Some text) ≡ true
-value_named (within least greatest) text value = refl
-value_named (among words) text value = value
-value_named switch text value = refl
+value_named : (choice : Choice) (given : Option Text) → IsValue choice given → is_named choice (Some (unwrap_or given switch_text)) ≡ true
+value_named (within least greatest) given value = refl
+value_named (among words) None value = absurd value
+value_named (among words) (Some text) value = value
+value_named switch given value = refl
 
 -- so is the one that is given
 given_named : (flags : List Flag) (f : Flag) (given : List Given) → flag_named f.name flags ≡ Some f → AreOptionsOf flags given
@@ -180,7 +181,7 @@ given_named flags f [] own options = none_named f.values
 given_named flags f (g ∷ gs) own options = go (bytes_eq g.0 f.name) refl (given_named flags f gs own options.2)
   where
     go : (b : Bool) → bytes_eq g.0 f.name ≡ b → is_named f.values (value_given gs f.name) ≡ true
-        → is_named f.values (option_map (λ (x : Given). x.1) (cond b (Some g) (find (λ (x : Given). bytes_eq x.0 f.name) gs))) ≡ true
+        → is_named f.values (option_map text_given (cond b (Some g) (find (λ (x : Given). bytes_eq x.0 f.name) gs))) ≡ true
     go true here later =
         let value = subst (λ (n : Text). IsValueOf (flag_named n flags) g.1) ((bytes_eq-Decides g.0 f.name).0 here) options.0 in
         value_named f.values g.1 (subst (λ (o : Option Flag). IsValueOf o g.1) own value)

@@ -6,7 +6,7 @@ use Rattle.clap.specs.Lexer.{usize_max}
 use Rattle.clap.specs.declared.builder.action.ArgAction.TheVariants.{Set}
 use Rattle.clap.specs.declared.builder.value_parser.ValueParser.{ValueParser}
 use Rattle.clap.specs.declared.builder.value_parser.ValueParser.TheVariants.{String, Unsigned}
-use Rattle.command_line.specs.Tables.{Choice, Flag, Usage, among, has_none, switch, within}
+use Rattle.command_line.specs.Tables.{Choice, Flag, Usage, among, has_none, switch, switch_text, within}
 
 -- `[CALL]..`: any number of values, each a number that a `u32` holds
 abbrev pub calls_rule : Rule
@@ -31,7 +31,7 @@ values_of switch = 0
 abbrev pub missing_of : Choice → List Text
 missing_of (within least greatest) = []
 missing_of (among words) = []
-missing_of switch = codes "given" ∷ []
+missing_of switch = switch_text ∷ []
 
 -- `--NAME VALUE`, or `--NAME`; it is required if it has no default
 abbrev pub option_rule : Flag → Rule

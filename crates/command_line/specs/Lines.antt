@@ -108,11 +108,21 @@ pub record IsJudge (words : List Text) (budget workers : Option Text) : Type 0 w
   pub budget_within : IfSome budget (IsNumberWithin budget_limit)
   pub workers_within : IfSome workers (IsNumberWithin workers_limit)
 
--- the words are a name, `locate` and its budget; the budget's value spells a number within its
--- limits
-pub record IsLocate (words : List Text) (budget : Option Text) : Type 0 where
+-- the words of a switch: its flag, and none if it is left out
+abbrev pub switch_words : Text → Bool → List Text
+switch_words flag true = flag ∷ []
+switch_words flag false = []
+
+-- the words are a name, `locate` and these options of it, in either order; the value of the budget
+-- spells a number within its limits, and `--order` has no value
+pub record IsLocate (words : List Text) (budget : Option Text) (order : Bool) : Type 0 where
   pub name : Text
-  pub words_are : words ≡ name ∷ codes "locate" ∷ option_words (codes "--budget") budget
+  pub options : List Text
+  pub words_are : words ≡ name ∷ codes "locate" ∷ options
+  pub in_an_order :
+      (options ≡ option_words (codes "--budget") budget ++ switch_words (codes "--order") order)
+      ⊎ (options
+      ≡ switch_words (codes "--order") order ++ option_words (codes "--budget") budget)
   pub budget_within : IfSome budget (IsNumberWithin budget_limit)
 
 -- the words are a name, `draw` and these options of it

@@ -32,6 +32,10 @@ greatest_of (within least greatest) = greatest
 greatest_of (among words) = length words - 1
 greatest_of switch = 1
 
+-- the text that is read as the value of a switch that is given
+abbrev pub switch_text : Text
+switch_text = codes "given"
+
 -- the text is one of the words
 abbrev pub is_among : Text → List Text → Bool
 is_among text words = list_any (λ word. bytes_eq word text) words

@@ -1,5 +1,5 @@
 // From words to the line that they ask for.
-ghost use Rattle.std.specs.Prelude.{◌≡◌, ◌<◌, ◌≤◌, ℕ, IfErr, IfOk, List, MatchResult, OnOk, Option, true, false};
+ghost use Rattle.std.specs.Prelude.{◌≡◌, ◌<◌, ◌≤◌, ℕ, Bool, IfErr, IfOk, List, MatchResult, OnOk, Option, true};
 ghost use Rattle.std.specs.Option.{option_map_or};
 ghost use Rattle.clap.specs.Words.{Text, takes};
 ghost use Rattle.clap.specs.Walk.{texts};
@@ -37,8 +37,8 @@ pub fn read_line<'a>(alloc: Global, words: &'a [&'a str]) -> Result<Line, LineFa
     // memory can run out.
     ensures taken { takes bench_app (texts words.entry.now) ≡ true
         → HasNamed (texts words.entry.now) → IfErr result (λ e. e ≡ LineFault.Memory) }
-    // Words of a subcommand, its options with values in any order, and numbers of calls are always
-    // a line.
+    // Words of a subcommand, its options with their values in any order, and numbers of calls are
+    // always a line. A switch has no value.
     ensures given { (usage : Usage) (given : List Given) (calls : List Text)
         → IsUse bench_table (texts words.entry.now) usage given calls
         → MatchResult result (λ line. Gives usage given calls (asked_by line))
@@ -53,11 +53,12 @@ pub fn read_line<'a>(alloc: Global, words: &'a [&'a str]) -> Result<Line, LineFa
         (λ line. line ≡ Line.Judge (option_map_or number_of budget budget_default)
         (option_map_or number_of workers workers_default))
         (λ e. e ≡ LineFault.Memory) }
-    // `locate` is always a line, with or without its budget. Without `--order` it asks for no
-    // order.
-    ensures locate { (budget : Option (List ℕ)) → IsLocate (texts words.entry.now) budget
+    // `locate` is always a line, with or without its budget, and with or without `--order`, in
+    // either order. It asks for an order exactly if `--order` is there.
+    ensures locate { (budget : Option (List ℕ)) (order : Bool)
+        → IsLocate (texts words.entry.now) budget order
         → MatchResult result
-        (λ line. line ≡ Line.Locate (option_map_or number_of budget budget_default) false)
+        (λ line. line ≡ Line.Locate (option_map_or number_of budget budget_default) order)
         (λ e. e ≡ LineFault.Memory) }
     // `draw` is always a line, with any of its options in any order.
     ensures draw { (given : List Given) → IsDraw (texts words.entry.now) given

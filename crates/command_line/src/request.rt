@@ -73,7 +73,8 @@ pub(crate) fn read_request<'a>(
         (subcommand_of (table_app name.entry.now (map usage_of table.entry.now))
         (texts words.entry.now)) ≡ true
         → IfErr result (λ e. e ≡ LineFault.Memory) }
-    // A subcommand, its options in any order and numbers of calls are always accepted.
+    // A subcommand, its options in any order and numbers of calls are always accepted. A switch has
+    // no value.
     ensures given { (usage : Usage) (given : List Given) (calls : List Text)
         → IsUse (map usage_of table.entry.now) (texts words.entry.now) usage given calls
         → MatchResult result (λ r. Gives usage given calls (asked_of r))

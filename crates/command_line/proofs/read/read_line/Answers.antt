@@ -54,11 +54,12 @@ returns-in-Ok-clause-judge c budget workers is =
     (c.in-Ok.ensures.given judge_usage given [] (judge_use words budget workers is)))
 
 pub returns-in-Ok-clause-locate : goal.returns-in-Ok-clause-locate
-returns-in-Ok-clause-locate c budget is =
-    let is_use = locate_use (texts c.args.words.now) budget is in
-    locates budget c.line_of.result
-    (subst (Gives locate_usage (locate_given budget) []) (sym c.line_of.ensures.same)
-    (c.in-Ok.ensures.given locate_usage (locate_given budget) [] is_use))
+returns-in-Ok-clause-locate c budget order is =
+    let words = texts c.args.words.now in
+    let given = locate_given words budget order is in
+    locates words budget order c.line_of.result is
+    (subst (Gives locate_usage given []) (sym c.line_of.ensures.same)
+    (c.in-Ok.ensures.given locate_usage given [] (locate_use words budget order is)))
 
 pub returns-in-Ok-clause-draw : goal.returns-in-Ok-clause-draw
 returns-in-Ok-clause-draw c given is =
@@ -93,8 +94,9 @@ returns-in-Err-clause-judge c budget workers is =
     c.in-Err.ensures.given judge_usage (judge_given words budget workers is) [] (judge_use words budget workers is)
 
 pub returns-in-Err-clause-locate : goal.returns-in-Err-clause-locate
-returns-in-Err-clause-locate c budget is =
-    c.in-Err.ensures.given locate_usage (locate_given budget) [] (locate_use (texts c.args.words.now) budget is)
+returns-in-Err-clause-locate c budget order is =
+    let words = texts c.args.words.now in
+    c.in-Err.ensures.given locate_usage (locate_given words budget order is) [] (locate_use words budget order is)
 
 pub returns-in-Err-clause-draw : goal.returns-in-Err-clause-draw
 returns-in-Err-clause-draw c given is = c.in-Err.ensures.given draw_usage given [] (draw_use (texts c.args.words.now) given is)
