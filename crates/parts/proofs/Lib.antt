@@ -18,4 +18,5 @@ pub mod StateAnswerLemmas
 pub mod SettledLemmas
 pub mod MovedLemmas
 pub mod ThenLemmas
+pub mod RestedLemmas
 mod GoesOnLemmas

@@ -77,6 +77,13 @@ pub record AreThen (moment : ℕ) (part : Part) (pasts : List Past) : Type 0 whe
       → AreKept start now calls (kept_part part ∷ more)
       → AreKept start now calls (record { keys = covered part.ranges.items; pasts = map kept_of pasts } ∷ more)
 
+-- all keys of a part are at rest at a moment, and have these pairs, where no pending read of its keys began before
+abbrev pub AreAtRestThen : ℕ → Part → Contents → Type 0
+AreAtRestThen moment part pairs =
+    (start : Contents) (now : ℕ) (calls : List Operation) (more : List KeptPart) → ReadsBeganAfter (covered part.ranges.items) moment calls
+    → AreKept start now calls (kept_part part ∷ more)
+    → AreKept start now calls (resting (covered part.ranges.items) pairs ∷ more)
+
 -- a part of these ranges, of one of some pasts that has an order and those after it; those before it are dead
 pub record IsPartFrom (own : List Range) (pasts : List Past) (part : Part) : Type 0 where
   pub ranges : part.ranges.items ≡ own

@@ -1,15 +1,16 @@
 // A part moves on to a later moment.
 ghost use Rattle.std.specs.Prelude.{◌≡◌, ◌<◌, length, map, All, AllPairs, IfOk, IfSome};
-ghost use Rattle.events.specs.Precedence.{NonePrecedesItself};
+ghost use Rattle.events.specs.Precedence.{NonePrecedesItself, is_before};
 ghost use Rattle.part_cuts.specs.PartCuts.{AreShaped, kept_of};
 ghost use Rattle.part_pasts.specs.Shapes.{IsPastShaped};
 ghost use Rattle.part_pasts.specs.Views.{kept_part};
 ghost use Rattle.parts.specs.Shapes.{IsPartBefore};
-ghost use Rattle.parts.specs.Settled.{AreThen, AreThoseAlive, IsAliveOrDead, IsKeptSo, IsPartFrom, IsParted, IsSettled, IsWithPairs, MovesOn};
+ghost use Rattle.parts.specs.Settled.{AreAtRestThen, AreThen, AreThoseAlive, IsAliveOrDead, IsKeptSo, IsPartFrom, IsParted, IsSettled, IsWithPairs, MovesOn};
 
 use crate::state::Parts;
 use events::{Memory, Operation};
 use kept_orders::{Kept, KeptOrder};
+use orders::{apply, may_come_next};
 use packed_map::PackedMap;
 use part_cuts::{Cut, Limits, Past, pasts_at};
 use part_pasts::{
@@ -151,9 +152,45 @@ fn moved_on(
     let Some(moment) = moment_for(alloc, part, reads, now)? else {
         return Ok(None);
     };
+    if let Some(pairs) = rested(alloc, part, moment)? {
+        return Ok(Some(Moved { pairs, left: None }));
+    }
     match pasts_then(alloc, part, moment)? {
         Some(pasts) => parted(alloc, &part.first, pasts),
         None => Ok(None),
+    }
+}
+
+/// Returns the pairs of a part at a moment, if its only past has only one call left, which ended
+/// before the moment. All keys are at rest then. Most keys have one call at a time, and need no
+/// walk.
+fn rested(alloc: Global, part: &Part, moment: usize) -> Result<Option<Vec<(u64, u64)>>, Memory>
+    requires { All IsPastShaped (kept_part part.now).pasts }
+    ensures { IfOk result (λ rested. IfSome rested (λ pairs. AreAtRestThen moment part.now
+        pairs.items)) }
+{
+    let start = part.first.start();
+    let calls = part.first.calls();
+    if calls.len() != 1 || !part.found.is_empty() || !part.others.is_empty() {
+        return Ok(None);
+    }
+    let call = &calls[0];
+    if !ended_before(call, moment) || !may_come_next(start, call) {
+        return Ok(None);
+    }
+    let mut map = start.copy(alloc)?;
+    apply(alloc, &mut map, call)?;
+    let pairs = Vec::from_slice(alloc, map.pairs())?;
+    Ok(Some(pairs))
+}
+
+/// Returns whether a call was answered before a moment.
+fn ended_before(call: &Operation, moment: usize) -> bool
+    ensures { result ≡ is_before call.now.response moment }
+{
+    match &call.response {
+        Some(response) => response.res < moment,
+        None => false,
     }
 }
 
