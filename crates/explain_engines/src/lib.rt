@@ -4,8 +4,8 @@
 #![tactic(auto)]
 
 mod explained;
-mod fronts;
 mod laws;
+mod longest_fronts;
 mod misses;
 mod own_parts;
 mod processes;

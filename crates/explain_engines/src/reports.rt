@@ -13,7 +13,7 @@ ghost use Rattle.small_histories.specs.SmallHistories.{IsWrittenAs};
 ghost use Rattle.explain_engines.specs.Answers.{AreFewLines, AreHistoryLines, AreLinesOf, AreTwoLines, IsFrontOf};
 ghost use Rattle.explain_engines.specs.Reports.{answer_data, was_answered, kept_data, reason_word, missing_row_data, row_data, rows};
 
-use crate::fronts::front_line;
+use crate::longest_fronts::front_line;
 use crate::misses::put_missed;
 use crate::processes::process_at;
 use crate::writers::outside_lines;

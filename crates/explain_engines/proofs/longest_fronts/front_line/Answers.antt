@@ -1,7 +1,7 @@
 -- The value has no float, so its text is the compact one.
 use Rattle.explain_engines.proofs.Common.{ap, ◌∙◌, has_float, compact_text}
 use Rattle.explain_engines.proofs.FrontLemmas.{has_float-front}
-use Rattle.explain_engines.proofs.fronts.front_line.Goals as goal
+use Rattle.explain_engines.proofs.longest_fronts.front_line.Goals as goal
 
 pub returns : goal.returns
 returns c =

@@ -1,7 +1,7 @@
 use Rattle.explain_engines.proofs.Common.{◌≡◌, ℕ, ◌+◌, ◌<◌, List, [], ◌∷◌, ◌++◌, length, take, Option, sym, ap, ◌∙◌, append-nil, Vec, Global}
 use Rattle.explain_engines.proofs.Common.{cons_option, slice_index_or, slice_get, take_more, take_all, filter_map-append, Operation, calls_at}
-use Rattle.explain_engines.proofs.fronts.calls_at.Goals.{in-Some+in_ok-push, in_default}
-use Rattle.explain_engines.proofs.fronts.calls_at.Goals as goal
+use Rattle.explain_engines.proofs.longest_fronts.calls_at.Goals.{in-Some+in_ok-push, in_default}
+use Rattle.explain_engines.proofs.longest_fronts.calls_at.Goals as goal
 
 -- after the calls of the numbers so far, that of the next, where there is one
 next_call : (calls taken : List Operation) (front : List ℕ) (i : ℕ) (found : Option Operation) → i < length front

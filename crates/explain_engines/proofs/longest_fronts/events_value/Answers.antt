@@ -1,6 +1,6 @@
 use Rattle.explain_engines.proofs.Common.{map, ap, ◌∙◌, take_all, view, list_data, event_data}
 use Rattle.explain_engines.proofs.ValueLemmas.{pushed}
-use Rattle.explain_engines.proofs.fronts.events_value.Goals as goal
+use Rattle.explain_engines.proofs.longest_fronts.events_value.Goals as goal
 
 pub loop-call-preserved : goal.loop-call-preserved
 loop-call-preserved c =
