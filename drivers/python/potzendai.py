@@ -1273,9 +1273,9 @@ class Run:
         if options.shows and now - options.shown >= 1 and self.calls:
             options.shown = now
             refused = 100 * self.sayings[REFUSED] / max(sum(self.sayings.values()), 1)
-            print("%s, %.0f a second, overlap %.1f a call, %.1f%% refused, two writers met on %d of %s" % (
+            tell("%s, %.0f a second, overlap %.1f a call, %.1f%% refused, two writers met on %d of %s" % (
                 counted(self.calls, "call"), self.calls / (now - self.began), self.overlap / self.calls, refused, len(self.met),
-                counted(options.keys, "key")), file=sys.stderr)
+                counted(options.keys, "key")))
 
     def summary(self, verdict):
         """The verdict, and the counts on which it is based."""
@@ -1788,27 +1788,47 @@ def check(make, *argv):
     assert status == YES, "\n".join(said + [last])
 
 
+def tell(text):
+    """Writes lines to standard error. If that fails, nothing else changes."""
+    try:
+        print(text, file=sys.stderr, flush=True)
+    except OSError:
+        sys.stderr = open(os.devnull, "w", encoding="utf-8")
+
+
+def open_ends():
+    """Python has no object for a standard stream that is closed. Then a write to standard output fails, and what is said of a run is left out."""
+    if sys.stdout is None:
+        sys.stdout = open(os.devnull, encoding="utf-8")
+    try:
+        os.write(2, b"")
+    except OSError:
+        sys.stderr = open(os.devnull, "w", encoding="utf-8")
+
+
 def main(make, argv=None):
     """A whole program. `make` makes a new and empty map: it is called at the beginning, and again for each run after a no."""
+    open_ends()
     try:
         status, said, last = tested(make, words_of(argv))
-        print("".join(line + "\n" for line in said), end="", file=sys.stderr)
+        if said:
+            tell("\n".join(said))
         try:
             print(last if last else "", end="\n" if last else "", flush=True)
         except OSError:
-            print("standard output: not written", file=sys.stderr)
+            tell("standard output: not written")
             status = FILE if status == YES else status
     except Stop as stop:
-        print(stop.line, file=sys.stderr)
+        tell(stop.line)
         status = stop.status
     except MemoryError:
-        print("memory", file=sys.stderr)
+        tell("memory")
         status = MEMORY
     except KeyboardInterrupt:
-        print("interrupted", file=sys.stderr)
+        tell("interrupted")
         status = UNDECIDED
     except Exception:
-        traceback.print_exc()
+        tell(traceback.format_exc().rstrip())
         status = FILE
     try:
         sys.stdout.flush()

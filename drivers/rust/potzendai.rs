@@ -2081,11 +2081,11 @@ impl Run {
         if self.options.shows && self.options.shown.elapsed() > Duration::from_secs(1) && self.counted.calls > 0 {
             self.options.shown = Instant::now();
             let (calls, all) = (self.counted.calls as f64, self.counted.sayings.iter().sum::<u64>().max(1) as f64);
-            eprintln!(
+            tell(&format!(
                 "{}, {:.0} a second, overlap {:.1} a call, {:.1}% refused, two writers met on {} of {}",
                 counted(self.counted.calls, "call"), calls / seconds, self.counted.overlap as f64 / calls,
                 100.0 * self.counted.sayings[5] as f64 / all, self.met.len(), counted(self.options.keys, "key")
-            );
+            ));
         }
     }
 
@@ -2889,12 +2889,17 @@ fn all_broken<M: Map>(
     })
 }
 
+/// Writes a line to standard error. If that fails, nothing else changes.
+fn tell(line: &str) {
+    let _ = writeln!(std::io::stderr(), "{line}");
+}
+
 /// Prints a text, and returns the status. If standard output has no room, a yes gets another status.
 fn printed(status: i32, text: &str) -> i32 {
     if writeln!(std::io::stdout(), "{text}").is_ok() {
         return status;
     }
-    eprintln!("standard output: not written");
+    tell("standard output: not written");
     if status == YES { BAD_FILE } else { status }
 }
 
@@ -2906,11 +2911,11 @@ pub fn run<M: Map>(name: &str, make: impl Fn() -> M, words: impl Iterator<Item =
     }
     match tested(name, &make, &words) {
         Ok((status, said, last)) => {
-            said.iter().for_each(|line| eprintln!("{line}"));
+            said.iter().for_each(|line| tell(line));
             if last.is_empty() { status } else { printed(status, &last) }
         }
         Err(Stop(status, line)) => {
-            eprintln!("{line}");
+            tell(&line);
             status
         }
     }
