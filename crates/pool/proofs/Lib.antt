@@ -2,4 +2,5 @@ mod Common
 mod DealLemmas
 mod GatherLemmas
 mod KnownLemmas
+mod OneCallLemmas
 mod PassedLemmas

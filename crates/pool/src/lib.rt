@@ -5,6 +5,7 @@
 mod gate;
 mod hands;
 mod known;
+mod one_call;
 mod pool;
 mod worker;
 

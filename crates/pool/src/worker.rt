@@ -7,8 +7,9 @@ ghost use Rattle.pool.specs.Answers.{AnswersOneOf};
 ghost use Rattle.search.specs.Limits.{budget_limit};
 
 use crate::gate::Gate;
+use crate::one_call::find_order;
 use events::Memory;
-use search::{Found, search};
+use search::Found;
 use segments::Segment;
 use std::alloc::Global;
 use tickets::{Hand, Tickets};
@@ -75,5 +76,5 @@ fn search_behind<G: Gate>(
     requires passed { G.was_passed _gate.now segment }
     ensures { IfOk result (λ f. HoldsAt (λ s. IsExactAnswer budget s f) segments.now segment) }
 {
-    search(alloc, &segments[segment], budget)
+    find_order(alloc, &segments[segment], budget)
 }

@@ -7,4 +7,4 @@ returns g c =
     IfOk-weaker _ (IsExactAnswer c.args.budget c.index-segments-segment.result)
     (λ f. HoldsAt (λ s. IsExactAnswer c.args.budget s f) segments c.args.segment)
     (λ f exact. at_read segments (λ s. IsExactAnswer c.args.budget s f) _ _ c.requires.known c.index-segments-segment.is exact)
-    c.search.ensures.exact
+    c.find_order.ensures
