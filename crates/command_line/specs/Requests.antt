@@ -32,15 +32,15 @@ number_named name r = slice_index r.numbers.items (place_named name (flags_of r)
 abbrev pub IsDescribedBy : List Usage → Request → Type 0
 IsDescribedBy table r = usage_named r.subcommand.now.name.now table ≡ Some (usage_of r.subcommand.now)
 
--- the text stands for the number: it spells the number, or the first word that is this text has
--- this place; any text of a switch stands for 1
+-- The number of a text: the text spells it, or it is the place of the first word that is this text.
+-- For a switch it is 1, whatever the text is.
 abbrev pub StandsFor : Choice → Text → ℕ → Type 0
 StandsFor (within least greatest) text n =
     IsSpelled text × (number_of text < 2 ^ 64) × (n ≡ number_of text)
 StandsFor (among words) text n = position (λ word. bytes_eq word text) words ≡ Some n
 StandsFor switch text n = n ≡ 1
 
--- the number is the one that the value stands for, or the default if there is no value
+-- the number is that of the value, or the default if there is no value
 abbrev pub IsReadFrom : Flag → Option Text → ℕ → Type 0
 IsReadFrom f None n = f.default ≡ Some n
 IsReadFrom f (Some text) n = StandsFor f.values text n

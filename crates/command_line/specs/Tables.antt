@@ -13,15 +13,15 @@ use Rattle.command_line.specs.declared.table.ValueOption.{ValueOption}
 use Rattle.command_line.specs.declared.table.Values.{Values}
 use Rattle.command_line.specs.declared.table.Values.TheVariants.{Within, Among, Switch}
 
--- the values that an option may have, and the numbers that they stand for: a number from the least
--- to the greatest, or one of some words, which stands for its place among them; a switch has no
--- value, and its number is 1 if it is given
+-- The values that an option may have, each with a number. A value is a number from the least to the
+-- greatest, or one of some words: then its number is its place among them. A switch has no value, and
+-- its number is 1 if it is given.
 pub data Choice : Type 0 where
   within : ℕ → ℕ → Choice
   among : List Text → Choice
   switch : Choice
 
--- the least and the greatest number that a value may stand for
+-- the least and the greatest number of a value
 abbrev pub least_of : Choice → ℕ
 least_of (within least greatest) = least
 least_of (among words) = 0

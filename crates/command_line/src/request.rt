@@ -200,8 +200,7 @@ fn numbers_of_options(
     Ok(numbers)
 }
 
-// Returns the number that the value of an option stands for, or the default if the option is left
-// out.
+// Returns the number of an option's value, or the default if the option is not given.
 fn number_of_option(matches: &ArgMatches<'_>, option: &ValueOption<'_>) -> u64
     requires { (n : ℕ) × IsNumberOf (flag_of option.now)
         (first_value (found_of matches.now) option.now.name.now) n }
@@ -214,7 +213,7 @@ fn number_of_option(matches: &ArgMatches<'_>, option: &ValueOption<'_>) -> u64
     }
 }
 
-// Returns the number that a value stands for.
+// Returns the number of a value: the one that it spells, or the place of the word, or 1 of a switch.
 fn number_of_value(values: Values<'_>, text: &str) -> u64
     requires { (n : ℕ) × StandsFor (choice_of values) text.now n }
     ensures { StandsFor (choice_of values.entry) text.now result }

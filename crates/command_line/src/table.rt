@@ -1,11 +1,11 @@
 // Tables of subcommands and their options.
 
-/// The values that an option may have, and the numbers that they stand for.
+/// The values that an option may have. Each value has a number.
 #[derive(Clone, Copy)]
 pub(crate) enum Values<'a> {
     /// The option takes a number, from the first to the second.
     Within(u64, u64),
-    /// The option takes one of these words. A word stands for its place in the list, from 0.
+    /// The option takes one of these words. The number of a word is its place in the list, from 0.
     Among(&'a [&'a str]),
     /// The option takes no value. Its number is 1 if it is given, and otherwise its default.
     Switch,
