@@ -1,18 +1,18 @@
 -- What a text in the compact form is read as.
 use Rattle.events.specs.declared.event.Event.TheVariants as events
 use Rattle.events.specs.declared.event.Reply.TheVariants as replies
-use Rattle.history_text.proofs.Common.{◌≡◌, ℕ, suc, ◌+◌, ◌-◌, ◌*◌, ◌/◌, ◌%◌, ◌^◌, ◌<◌, ◌≤◌, max, Bool, true, false, ◌&&◌, nat_lt, ltb-true, List, []}
-use Rattle.history_text.proofs.Common.{◌∷◌, ◌++◌, length, map, codes, decimal, take, drop, get_or, Some, None, length-append, option_map}
-use Rattle.history_text.proofs.Common.{option_and_then, refl, sym, ap, ap₂, ◌∙◌, arith, subst, append_assoc, append-nil, take-append-drop, IsTrue}
+use Rattle.history_text.proofs.Common.{◌≡◌, ℕ, suc, ◌+◌, ◌-◌, ◌^◌, ◌<◌, ◌≤◌, max, Bool, true, false, ◌&&◌, nat_lt, ltb-true, List, []}
+use Rattle.history_text.proofs.Common.{◌∷◌, ◌++◌, length, map, codes, decimal, Some, None, length-append, option_map}
+use Rattle.history_text.proofs.Common.{option_and_then, refl, sym, ap, ap₂, ◌∙◌, arith, subst, append_assoc, append-nil, IsTrue}
 use Rattle.history_text.proofs.Common.{list_all, IsAscii, and_parts, IsAscii-append, IsUtf8-from_ascii, IsAscii-nil, IsAscii-cons, map-append}
-use Rattle.history_text.proofs.Common.{take_more, take_rest, list_all-append, tokens, Data, null, boolean, number, string, array, object, Items}
+use Rattle.history_text.proofs.Common.{list_all-append, tokens, Data, null, boolean, number, string, array, object, Items}
 use Rattle.history_text.proofs.Common.{no_items, item, Members, no_members, member, depth, items_depth, members_depth, read, max_depth, of_json}
 use Rattle.history_text.proofs.Common.{of_items, items_of, outline, items_outline, members_outline, comma_if, compact_text, items_text, Call, Get}
 use Rattle.history_text.proofs.Common.{Insert, Remove, Scan, Replace, Reply, Event, HistoryView, TextVersion, One, Two, Three, text_limit}
 use Rattle.history_text.proofs.Common.{version_number, has_start, number_data, list_data, pair_data, call_data, reply_data, event_data, may_stand}
 use Rattle.history_text.proofs.Common.{document, Spells, object_of_two, object_of_three, invocation_data, response_data, IsPlain, ArePlain, IsCompact}
 use Rattle.history_text.proofs.Common.{BeginsWith, EndsAs, SpellsCompactly}
-use Rattle.std.proofs.lemmas.Fmt.{IsAscii-decimal, decimal_digit, decimal_step}
+use Rattle.std.proofs.lemmas.Fmt.{IsAscii-decimal}
 use Rattle.json.specs.Print.{escape_byte, quoted}
 use Rattle.json.proofs.Printed.Decimals.{IsNumber-decimal}
 use Rattle.json.proofs.Printed.Tokens.{tokens-print}
@@ -136,36 +136,6 @@ read_compact d text h shallow =
     (ap (json.value max_depth) (same ∙ sym (append-nil (tree.json_tokens j)))
     ∙ value-json_tokens j max_depth [] (omega (arith, outline_depth d)))
     ∙ h.plain.same
-
--- ---- numbers
-
--- one digit more
-pub decimal_more : (n d : ℕ) → 0 < n → d < 10 → n * 10 + d < 2 ^ 64 → decimal (n * 10 + d) ≡ decimal n ++ (48 + d) ∷ []
-decimal_more n d some digit fits =
-    let front : (n * 10 + d) / 10 ≡ n = omega arith in
-    let last : (n * 10 + d) % 10 ≡ d = omega arith in
-    decimal_step (n * 10 + d) (omega arith) fits ∙ rw (front, last) refl
-
--- the number 0 is one digit
-pub zero_front : (text : List ℕ) → 0 < length text → get_or text 0 0 ≡ 48 → text ≡ decimal 0 ++ take (length text - 1) (drop 1 text)
-zero_front [] some zero_is = absurd (omega arith)
-zero_front (b ∷ text) some zero_is =
-    let all : take (length (b ∷ text) - 1) (drop 1 (b ∷ text)) ≡ text = take_rest (b ∷ text) 1 in
-    ap (λ (x : ℕ). x ∷ text) zero_is ∙ sym (ap₂ (λ (xs ys : List ℕ). xs ++ ys) (decimal_digit 0 (omega arith)) all)
-
-pub first_digit : (text : List ℕ) (n : ℕ) → 0 < length text → get_or text 0 0 ≡ 48 + n → n < 10 → take 1 text ≡ decimal n
-first_digit [] n some is small = absurd (omega arith)
-first_digit (b ∷ text) n some is small = ap (λ x. x ∷ []) is ∙ sym (decimal_digit n small)
-
-pub next_digit : (text : List ℕ) (i n d : ℕ) → i < length text → take i text ≡ decimal n → 0 < n → get_or text i 0 ≡ 48 + d → d < 10
-    → n * 10 + d < 2 ^ 64 → take (i + 1) text ≡ decimal (n * 10 + d)
-next_digit text i n d within so_far some is small fits =
-    take_more text i 0 within ∙ (ap₂ (λ (xs : List ℕ) (x : ℕ). xs ++ x ∷ []) so_far is ∙ sym (decimal_more n d some small fits))
-
--- where the digits end
-pub digits_end : (text : List ℕ) (i n : ℕ) → take i text ≡ decimal n → text ≡ decimal n ++ take (length text - i) (drop i text)
-digits_end text i n so_far =
-    sym (take-append-drop i text) ∙ ap₂ (λ (xs ys : List ℕ). xs ++ ys) so_far (sym (take_rest text i))
 
 -- numbers, each with the byte after it
 one : (xs rest : List ℕ) → xs ++ 93 ∷ rest ≡ (xs ++ 93 ∷ []) ++ rest

@@ -4,8 +4,8 @@ ghost use Rattle.events.specs.Histories.{has_range};
 ghost use Rattle.history_text.specs.Texts.{call_data};
 ghost use Rattle.history_text.specs.Compact.{BeginsWith};
 
-use crate::compact_numbers::{after, number_before};
 use events::Call;
+use plain_numbers::{after, number_before};
 
 /// Returns the call that a text begins with, and what is left after it.
 pub fn call_at(text: &[u8]) -> Option<(Call, &[u8])>

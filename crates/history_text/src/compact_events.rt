@@ -6,10 +6,10 @@ ghost use Rattle.history_text.specs.Texts.{event_data, may_stand};
 ghost use Rattle.history_text.specs.Compact.{BeginsWith};
 
 use crate::compact_calls::call_at;
-use crate::compact_numbers::{after, number_before};
 use crate::compact_replies::reply_at;
 use crate::version::TextVersion;
 use events::{Call, Event, Reply};
+use plain_numbers::{after, number_before};
 use std::alloc::Global;
 
 /// Returns the event that a text begins with, and what is left after it, if the event may be in a

@@ -6,8 +6,8 @@ ghost use Rattle.events.specs.declared.event.Reply.TheVariants as replies;
 ghost use Rattle.history_text.specs.Texts.{pair_data, reply_data};
 ghost use Rattle.history_text.specs.Compact.{ArePlain, BeginsWith};
 
-use crate::compact_numbers::{after, number_at, number_before};
 use events::{Pairs, Reply};
+use plain_numbers::{after, number_at, number_before};
 use std::alloc::Global;
 
 /// Returns the reply that a text begins with, and what is left after it.

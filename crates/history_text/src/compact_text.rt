@@ -11,10 +11,10 @@ ghost use Rattle.history_text.specs.Compact.{ArePlain, BeginsWith, SpellsCompact
 
 use crate::MAX_TEXT;
 use crate::compact_events::event_at;
-use crate::compact_numbers::{after, number_before};
 use crate::compact_replies::pair_at;
 use crate::version::TextVersion;
 use events::{Event, Turns};
+use plain_numbers::{after, number_before};
 use std::alloc::Global;
 
 /// Returns the starting pairs and the events that a text in the compact form spells, without notes,

@@ -3,7 +3,6 @@
 
 mod compact_calls;
 mod compact_events;
-mod compact_numbers;
 mod compact_replies;
 mod compact_text;
 mod json_fault;

@@ -1,6 +1,6 @@
 use Rattle.std.proofs.Common.{ℕ, ◌+◌, ◌*◌, ◌^◌, ◌<◌, decimal, sym, ap, ◌∙◌, arith}
-use Rattle.history_text.proofs.CompactLemmas.{zero_front, first_digit, next_digit, digits_end}
-use Rattle.history_text.proofs.compact_numbers.number_at.Goals as goal
+use Rattle.plain_numbers.proofs.DecimalLemmas.{zero_front, first_digit, next_digit, digits_end}
+use Rattle.plain_numbers.proofs.beginning.number_at.Goals as goal
 
 pub returns-then-number-eq0-clause-text : goal.returns-then-number-eq0-clause-text
 returns-then-number-eq0-clause-text c =

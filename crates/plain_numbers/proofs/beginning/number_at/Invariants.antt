@@ -1,6 +1,6 @@
 -- The digits so far are those of a number above 0, of at most 64 bits.
 use Rattle.std.proofs.Common.{◌≡◌, ◌<◌, ◌^◌, take, decimal}
-use Rattle.history_text.proofs.compact_numbers.number_at.Given as goal
+use Rattle.plain_numbers.proofs.beginning.number_at.Given as goal
 
 abbrev pub invariant-digits : goal.invariant-digits
 invariant-digits l = record {

@@ -1,4 +1,4 @@
-// The bytes and the numbers that a text in the compact form begins with.
+// The bytes and the numbers that a text begins with.
 ghost use Rattle.std.specs.Prelude.{◌≡◌, ◌+◌, ◌*◌, ◌^◌, ◌<◌, ◌++◌, length, slice_index, decimal, IfSome, OnSome};
 
 /// Returns the number that a text begins with, and what is left after it and these bytes.
