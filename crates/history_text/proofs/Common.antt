@@ -1,13 +1,11 @@
 -- The names that most proofs of this crate cite, passed on from one place. Declares nothing.
 pub use Rattle.std.proofs.Common.{Bool, Err, IfErr, IfNone, IsUtf8, List, None, Ok, Option, Result, Some, [], ap, append-nil, append_assoc, ap₂}
 pub use Rattle.std.proofs.Common.{arith, codes, cond, decimal, drop, false, get_or, inl, inr, is_some, leb-false, length, length-append, ltb-true}
-pub use Rattle.std.proofs.Common.{map, max, nat_eq, nat_le, nat_lt, not, option_and_then, option_map, refl, subst, suc, sym, take, take-append-drop}
-pub use Rattle.std.proofs.Common.{true, true≢false, zero, ℕ, ⊎_elim, ◌%◌, ◌&&◌, ◌*◌, ◌++◌, ◌+◌, ◌-◌, ◌/◌, ◌<◌, ◌==◌, ◌^◌, ◌||◌, ◌∙◌, ◌∷◌, ◌≡◌, ◌≢◌}
-pub use Rattle.std.proofs.Common.{◌≤◌}
+pub use Rattle.std.proofs.Common.{map, max, nat_eq, nat_le, nat_lt, not, option_and_then, option_map, refl, subst, suc, sym, take, true, true≢false}
+pub use Rattle.std.proofs.Common.{zero, ℕ, ⊎_elim, ◌&&◌, ◌*◌, ◌++◌, ◌+◌, ◌-◌, ◌<◌, ◌==◌, ◌^◌, ◌||◌, ◌∙◌, ◌∷◌, ◌≡◌, ◌≢◌, ◌≤◌}
 pub use Rattle.std.proofs.lemmas.Bool.{and_parts, leb-true}
 pub use Rattle.std.proofs.lemmas.Bool.Decides.{nat_tests}
-pub use Rattle.std.proofs.lemmas.List.{drop-append-le, length-map, length-take-le, map-append, map_more, take-append-le, take_all, take_more}
-pub use Rattle.std.proofs.lemmas.List.{take_rest}
+pub use Rattle.std.proofs.lemmas.List.{drop-append-le, length-map, length-take-le, map-append, map_more, take-append-le, take_all}
 pub use Rattle.std.proofs.lemmas.List.Folds.{list_all-append, list_all_at, list_all_more}
 pub use Rattle.std.proofs.lemmas.Option.{MatchOption-at_some, none-some, same_Some}
 pub use Rattle.std.proofs.lemmas.Result.{err_from_is_err_and}

@@ -1,17 +1,16 @@
 -- What a text in the compact form is read as.
 use Rattle.events.specs.declared.event.Event.TheVariants as events
 use Rattle.events.specs.declared.event.Reply.TheVariants as replies
-use Rattle.history_text.proofs.Common.{◌≡◌, ℕ, suc, ◌+◌, ◌-◌, ◌^◌, ◌<◌, ◌≤◌, max, Bool, true, false, ◌&&◌, nat_lt, ltb-true, List, []}
-use Rattle.history_text.proofs.Common.{◌∷◌, ◌++◌, length, map, codes, decimal, Some, None, length-append, option_map}
-use Rattle.history_text.proofs.Common.{option_and_then, refl, sym, ap, ap₂, ◌∙◌, arith, subst, append_assoc, append-nil, IsTrue}
-use Rattle.history_text.proofs.Common.{list_all, IsAscii, and_parts, IsAscii-append, IsUtf8-from_ascii, IsAscii-nil, IsAscii-cons, map-append}
-use Rattle.history_text.proofs.Common.{list_all-append, tokens, Data, null, boolean, number, string, array, object, Items}
-use Rattle.history_text.proofs.Common.{no_items, item, Members, no_members, member, depth, items_depth, members_depth, read, max_depth, of_json}
-use Rattle.history_text.proofs.Common.{of_items, items_of, outline, items_outline, members_outline, comma_if, compact_text, items_text, Call, Get}
-use Rattle.history_text.proofs.Common.{Insert, Remove, Scan, Replace, Reply, Event, HistoryView, TextVersion, One, Two, Three, text_limit}
-use Rattle.history_text.proofs.Common.{version_number, has_start, number_data, list_data, pair_data, call_data, reply_data, event_data, may_stand}
-use Rattle.history_text.proofs.Common.{document, Spells, object_of_two, object_of_three, invocation_data, response_data, IsPlain, ArePlain, IsCompact}
-use Rattle.history_text.proofs.Common.{BeginsWith, EndsAs, SpellsCompactly}
+use Rattle.history_text.proofs.Common.{◌≡◌, ℕ, suc, ◌+◌, ◌-◌, ◌^◌, ◌<◌, ◌≤◌, max, Bool, true, false, ◌&&◌, nat_lt, ltb-true, List, [], ◌∷◌, ◌++◌}
+use Rattle.history_text.proofs.Common.{length, map, codes, decimal, Some, None, length-append, option_map, option_and_then, refl, sym, ap, ap₂, ◌∙◌}
+use Rattle.history_text.proofs.Common.{arith, subst, append_assoc, append-nil, IsTrue, list_all, IsAscii, and_parts, IsAscii-append}
+use Rattle.history_text.proofs.Common.{IsUtf8-from_ascii, IsAscii-nil, IsAscii-cons, map-append, list_all-append, tokens, Data, null, boolean, number}
+use Rattle.history_text.proofs.Common.{string, array, object, Items, no_items, item, Members, no_members, member, depth, items_depth, members_depth}
+use Rattle.history_text.proofs.Common.{read, max_depth, of_json, of_items, items_of, outline, items_outline, members_outline, comma_if, compact_text}
+use Rattle.history_text.proofs.Common.{items_text, Call, Get, Insert, Remove, Scan, Replace, Reply, Event, HistoryView, TextVersion, One, Two, Three}
+use Rattle.history_text.proofs.Common.{text_limit, version_number, has_start, number_data, list_data, pair_data, call_data, reply_data, event_data}
+use Rattle.history_text.proofs.Common.{may_stand, document, Spells, object_of_two, object_of_three, invocation_data, response_data, IsPlain, ArePlain}
+use Rattle.history_text.proofs.Common.{IsCompact, BeginsWith, EndsAs, SpellsCompactly}
 use Rattle.std.proofs.lemmas.Fmt.{IsAscii-decimal}
 use Rattle.json.specs.Print.{escape_byte, quoted}
 use Rattle.json.proofs.Printed.Decimals.{IsNumber-decimal}
