@@ -1,6 +1,6 @@
 // A part moves on to a later moment.
 ghost use Rattle.std.specs.Prelude.{◌≡◌, ◌<◌, length, map, All, AllPairs, IfOk, IfSome};
-ghost use Rattle.events.specs.Precedence.{NonePrecedesItself, is_before};
+ghost use Rattle.events.specs.Precedence.{NonePrecedesItself};
 ghost use Rattle.part_cuts.specs.PartCuts.{AreShaped, kept_of};
 ghost use Rattle.part_pasts.specs.Shapes.{IsPastShaped};
 ghost use Rattle.part_pasts.specs.Views.{kept_part};
@@ -17,6 +17,7 @@ use part_pasts::{
     GoneOn, OpenRead, Part, Range, any_alive, busy_ranges, is_time, meet, moment_for, only_pasts,
     place_of, resting_pairs,
 };
+use quiet_cuts::is_ended;
 use std::alloc::Global;
 
 /// The most positions of a level, and the most pasts.
@@ -175,23 +176,13 @@ fn rested(alloc: Global, part: &Part, moment: usize) -> Result<Option<Vec<(u64, 
         return Ok(None);
     }
     let call = &calls[0];
-    if !ended_before(call, moment) || !may_come_next(start, call) {
+    if !is_ended(call, moment) || !may_come_next(start, call) {
         return Ok(None);
     }
     let mut map = start.copy(alloc)?;
     apply(alloc, &mut map, call)?;
     let pairs = Vec::from_slice(alloc, map.pairs())?;
     Ok(Some(pairs))
-}
-
-/// Returns whether a call was answered before a moment.
-fn ended_before(call: &Operation, moment: usize) -> bool
-    ensures { result ≡ is_before call.now.response moment }
-{
-    match &call.response {
-        Some(response) => response.res < moment,
-        None => false,
-    }
 }
 
 /// Returns the pasts of a part at a moment, without those that are found to have no order. Returns

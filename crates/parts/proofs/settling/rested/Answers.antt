@@ -17,7 +17,7 @@ returns c =
     let alone = eqb-true part.others.len 0 (sym c.is_empty-else-not-is_empty.ensures ∙ c.if-not-is_empty-2.false) in
     all_rested part o c.in_ok-pairs.pairs.items c.args.moment only (nil_from_length part.found.items (omega (arith, none, part.found.ok.0)))
     (nil_from_length part.others.items (omega (arith, alone, part.others.ok.0)))
-    (sym c.ended_before.ensures ∙ c.if-not-ended_before.false) (legal_at c.start-start.result.now part.first.start o c.start-start.ensures
+    (sym c.is_ended.ensures ∙ c.if-not-is_ended.false) (legal_at c.start-start.result.now part.first.start o c.start-start.ensures
     (c.may_come_next.ensures.0 c.if-not-may_come_next.false))
     (c.in_ok-pairs.ensures.items ∙ (c.pairs.ensures.pairs ∙ (c.in_ok-apply.ensures.ok
     ∙ ap (λ (m : Contents). after_call m o.call o.response) (c.in_ok-map.ensures ∙ c.start-start.ensures))))
