@@ -5,13 +5,13 @@ use Rattle.std.proofs.lemmas.List.{append-nil}
 use Rattle.events.specs.declared.event.Call.{Call}
 use Rattle.events.specs.declared.event.Reply.{Reply}
 use Rattle.art_rows.specs.declared.table.Shape.{Shape}
-use Rattle.art_steps.specs.declared.variant.Variant.{Variant}
-use Rattle.art_steps.specs.declared.access.Access.{Access}
-use Rattle.art_steps.specs.declared.access.Point.{Point}
-use Rattle.art_steps.specs.Steps.{Rest, Asks, access_of, reply_of}
-use Rattle.art_steps.specs.Act.{act}
-use Rattle.art_steps.specs.Fits.{Fits}
-use Rattle.art_steps.proofs.TurnLemmas.{asks-of, answers-of}
+use Rattle.art_rows.specs.declared.variant.Variant.{Variant}
+use Rattle.art_rows.specs.declared.access.Access.{Access}
+use Rattle.art_rows.specs.declared.access.Point.{Point}
+use Rattle.art_rows.specs.Steps.{Rest, Asks, access_of, reply_of}
+use Rattle.art_rows.specs.Act.{act}
+use Rattle.art_rows.specs.Fits.{Fits}
+use Rattle.art_rows.proofs.TurnLemmas.{asks-of, answers-of}
 use Rattle.art.specs.declared.task.Task.{Task}
 use Rattle.art.specs.Tasks.{rest_of}
 use Rattle.art.specs.Doings.{FitsDoing, after_access}

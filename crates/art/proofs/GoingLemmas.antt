@@ -9,14 +9,14 @@ use Rattle.events.specs.declared.event.Call.{Call}
 use Rattle.events.specs.declared.event.Call.TheVariants.{Get, Insert, Remove, Scan, Replace}
 use Rattle.events.specs.declared.event.Reply.{Reply}
 use Rattle.art_rows.specs.Table.{table_words}
-use Rattle.art_steps.specs.declared.access.Access.{Access}
-use Rattle.art_steps.specs.declared.access.Point.{Point}
-use Rattle.art_steps.specs.Act.{point_of, act}
-use Rattle.art_steps.specs.Fits.{Fits, word_of}
-use Rattle.art_steps.specs.Rows.{Setting, locks, is_scan}
-use Rattle.art_steps.specs.Steps.{Turn, Rest, access_of, reply_of}
-use Rattle.art_steps.proofs.AccessLemmas.{act-stays}
-use Rattle.art_steps.proofs.TurnLemmas.{asks-of}
+use Rattle.art_rows.specs.declared.access.Access.{Access}
+use Rattle.art_rows.specs.declared.access.Point.{Point}
+use Rattle.art_rows.specs.Act.{point_of, act}
+use Rattle.art_rows.specs.Fits.{Fits, word_of}
+use Rattle.art_rows.specs.Rows.{Setting, locks, is_scan}
+use Rattle.art_rows.specs.Steps.{Turn, Rest, access_of, reply_of}
+use Rattle.art_rows.proofs.AccessLemmas.{act-stays}
+use Rattle.art_rows.proofs.TurnLemmas.{asks-of}
 use Rattle.art_stages.specs.declared.stage.Stage.{Stage}
 use Rattle.art_stages.specs.declared.stage.Entry.TheVariants.{Root}
 use Rattle.art_stages.specs.declared.stage.ScanStep.TheVariants.{Lock, Wait}

@@ -3,10 +3,10 @@ use Rattle.std.specs.Prelude.{◌≡◌, ℕ, Bool, false, List, [], Option, Som
 use Rattle.events.specs.declared.event.Call.{Call}
 use Rattle.events.specs.declared.event.Reply.{Reply}
 use Rattle.art_rows.specs.declared.table.Shape.{Shape}
-use Rattle.art_steps.specs.declared.variant.Variant.{Variant}
-use Rattle.art_steps.specs.Steps.{Answers, reply_of}
-use Rattle.art_steps.specs.Act.{act}
-use Rattle.art_steps.specs.Fits.{Fits}
+use Rattle.art_rows.specs.declared.variant.Variant.{Variant}
+use Rattle.art_rows.specs.Steps.{Answers, reply_of}
+use Rattle.art_rows.specs.Act.{act}
+use Rattle.art_rows.specs.Fits.{Fits}
 use Rattle.art.specs.declared.task.Task.{Task}
 use Rattle.art.specs.declared.doing.Doing.{Doing}
 use Rattle.art.specs.declared.doing.Doing.TheVariants.{Idle, Going, Answered}

@@ -6,8 +6,8 @@ ghost use Rattle.art_stages.specs.Sound.{is_sound};
 use crate::asked::access_at;
 use crate::points::point_at;
 use art_after::make_stage;
+use art_rows::{Access, Point};
 use art_stages::{Outcome, Setting, Stage};
-use art_steps::{Access, Point};
 use events::Reply;
 
 /// A get, an insert or a remove under way.
@@ -19,9 +19,9 @@ pub struct KeyCall {
 
 impl KeyCall {
     ghost use Rattle.std.specs.Prelude.{Some, None};
-    ghost use Rattle.art_steps.specs.Rows.{locks};
-    ghost use Rattle.art_steps.specs.Steps.{access_of, reply_of};
-    ghost use Rattle.art_steps.specs.Act.{point_of};
+    ghost use Rattle.art_rows.specs.Rows.{locks};
+    ghost use Rattle.art_rows.specs.Steps.{access_of, reply_of};
+    ghost use Rattle.art_rows.specs.Act.{point_of};
     ghost use Rattle.art_stages.specs.Automaton.{start_at, turn_at, stage_after as stage_behind};
     ghost use Rattle.art_stages.specs.Settings.{setting_of};
 

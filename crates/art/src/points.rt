@@ -1,13 +1,12 @@
 // The point that a stage is at.
 ghost use Rattle.std.specs.Prelude.{◌≡◌};
-ghost use Rattle.art_steps.specs.Act.{point_of};
-ghost use Rattle.art_steps.specs.Rows.{lock_point};
+ghost use Rattle.art_rows.specs.Act.{point_of};
+ghost use Rattle.art_rows.specs.Rows.{lock_point};
 ghost use Rattle.art_stages.specs.Automaton.{turn_at, find_turn, put_keys_turn, grow_keys_turn, pair_turn, grow_leaf_turn, grow_count_turn};
 ghost use Rattle.art_stages.specs.Settings.{setting_of};
 
-use art_rows::Kind;
+use art_rows::{Kind, Point};
 use art_stages::{Growing, Held, Hold, Keys, Pair, PairWord, Setting, Stage};
-use art_steps::Point;
 
 fn lock_point(setting: &Setting, base: usize) -> Point
     ensures { result ≡ lock_point setting.now.shape base }

@@ -1,16 +1,15 @@
 // A call as it goes on, one access at a time.
 ghost use Rattle.std.specs.Prelude.{◌≡◌, ℕ, ◌<◌, false, List, [], ◌∷◌, Some, None, OnOk, is_some};
-ghost use Rattle.art_steps.specs.Act.{act};
-ghost use Rattle.art_steps.specs.Steps.{access_of, reply_of};
+ghost use Rattle.art_rows.specs.Act.{act};
+ghost use Rattle.art_rows.specs.Steps.{access_of, reply_of};
 ghost use Rattle.art_stages.specs.Calls.{rest_at, call_begun};
 ghost use Rattle.art_stages.specs.Settings.{setting_of as call_setting};
 ghost use Rattle.art.specs.Going.{at_of, keys_between, scanned_in, WordsLeadTo};
 
 use crate::key_call::KeyCall;
-use art_rows::Shape;
+use art_rows::{Access, Point, Shape, TreeCall, Variant};
 use art_scan::Scanning;
 use art_stages::Setting;
-use art_steps::{Access, Point, TreeCall, Variant};
 use events::{Call, Memory, Reply};
 use std::alloc::Global;
 
@@ -32,8 +31,8 @@ pub struct Task {
 }
 
 impl Task {
-    ghost use Rattle.art_steps.specs.Act.{point_of};
-    ghost use Rattle.art_steps.specs.Fits.{word_of};
+    ghost use Rattle.art_rows.specs.Act.{point_of};
+    ghost use Rattle.art_rows.specs.Fits.{word_of};
     ghost use Rattle.art_rows.specs.Table.{table_words, IsWithinLimits};
     ghost use Rattle.art.specs.Tasks.{rest_of, shape_of, IsReady};
 

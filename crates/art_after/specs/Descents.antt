@@ -1,7 +1,7 @@
 -- The automaton's words for the way down, by the setting alone.
 use Rattle.std.specs.Prelude.{ℕ, ◌%◌, slice_index}
 use Rattle.art_rows.specs.Words.{entries_of}
-use Rattle.art_steps.specs.Rows.{Setting, locks, is_insert, releases_early, path_differs_at}
+use Rattle.art_rows.specs.Rows.{Setting, locks, is_insert, releases_early, path_differs_at}
 use Rattle.art_stages.specs.declared.stage.Held.{Held}
 use Rattle.art_stages.specs.declared.stage.Keys.{Keys}
 use Rattle.art_stages.specs.declared.stage.Finding.{Finding}

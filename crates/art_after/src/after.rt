@@ -1,8 +1,8 @@
 // The stage that comes after a word.
 ghost use Rattle.std.specs.Prelude.{◌≡◌, ◌+◌, true, nat_le, Some, None};
 ghost use Rattle.art_rows.specs.Words.{child_of, child_word, is_small_child};
-ghost use Rattle.art_steps.specs.Rows.{locks, releases_early, is_insert};
-ghost use Rattle.art_steps.specs.Steps.{reply_of};
+ghost use Rattle.art_rows.specs.Rows.{locks, releases_early, is_insert};
+ghost use Rattle.art_rows.specs.Steps.{reply_of};
 ghost use Rattle.art_stages.specs.Automaton.{turn_at, stage_after, pair_after, put_keys_after, entries_at};
 ghost use Rattle.art_stages.specs.declared.stage.Stage.TheVariants.{ClaimPair as Claiming, ClaimGrow as ClaimingNext, Unlock as UnlockAll};
 ghost use Rattle.art_stages.specs.declared.stage.Stage.TheVariants.{Hang as HangRow};

@@ -1,8 +1,8 @@
 // The stages of a call after what it found on its way down.
 ghost use Rattle.std.specs.Prelude.{◌≡◌, ◌<◌, ◌%◌, true, Some, None, if◌then◌else◌, slice_index};
 ghost use Rattle.art_rows.specs.Words.{entries_of, is_small_child};
-ghost use Rattle.art_steps.specs.Rows.{locks, releases_early, is_insert, leaves_out_check, path_differs_at};
-ghost use Rattle.art_steps.specs.Updates.{overwriting};
+ghost use Rattle.art_rows.specs.Rows.{locks, releases_early, is_insert, leaves_out_check, path_differs_at};
+ghost use Rattle.art_rows.specs.Updates.{overwriting};
 ghost use Rattle.art_stages.specs.Stages.{row_at, held, byte_in};
 ghost use Rattle.art_stages.specs.Automaton.{hold_alone, down_from, keys_one, seek_coupled, overwrite_unlocked, seek_unlocked};
 ghost use Rattle.art_stages.specs.Automaton.{insert_coupled};

@@ -1,7 +1,7 @@
 // Taking rows, and where the work in them begins.
 ghost use Rattle.std.specs.Prelude.{◌≡◌, ◌≢◌, ◌-◌, ◌≤◌, true, Some, None};
 ghost use Rattle.art_rows.specs.Words.{is_small_child};
-ghost use Rattle.art_steps.specs.Rows.{locks};
+ghost use Rattle.art_rows.specs.Rows.{locks};
 ghost use Rattle.art_stages.specs.Stages.{place_in};
 ghost use Rattle.art_stages.specs.Automaton.{take_at, take_alone, taken_at, work_at, put_at, moves_at, release_at, after_with};
 ghost use Rattle.art_stages.specs.Sound.{is_sound, is_sound_work, has_keys};

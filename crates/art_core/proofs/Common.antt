@@ -18,14 +18,14 @@ pub use Rattle.art_core.specs.declared.item.Item.{Item}
 pub use Rattle.art_core.specs.declared.process.Process.{Process}
 pub use Rattle.art_rows.specs.Table.{opening, table_words}
 pub use Rattle.art_rows.specs.declared.table.Shape.{Shape}
-pub use Rattle.art_steps.proofs.AccessLemmas.{act-stays}
-unfoldable pub use Rattle.art_steps.specs.Act.{act}
-pub use Rattle.art_steps.specs.Fits.{word_of}
-pub use Rattle.art_steps.specs.Steps.{Answers, Asks, Turn}
-pub use Rattle.art_steps.specs.declared.access.Point.{Point}
-pub use Rattle.art_steps.specs.declared.variant.Variant.{Variant}
+pub use Rattle.art_rows.proofs.AccessLemmas.{act-stays}
+unfoldable pub use Rattle.art_rows.specs.Act.{act}
+pub use Rattle.art_rows.specs.Fits.{word_of}
+pub use Rattle.art_rows.specs.Steps.{Answers, Asks, Turn}
+pub use Rattle.art_rows.specs.declared.access.Point.{Point}
+pub use Rattle.art_rows.specs.declared.variant.Variant.{Variant}
 pub use Rattle.events.specs.declared.event.Call.{Call}
 pub use Rattle.events.specs.declared.event.Event.TheVariants.{Answer, Invoke}
-pub use Rattle.list_laws.proofs.ZipLemmas.{zip_left}
-pub use Rattle.logs.proofs.GrowthLemmas.{AreBelow}
-pub use Rattle.logs.specs.Logs.{Stamped}
+pub use Rattle.events.proofs.ZipLemmas.{zip_left}
+pub use Rattle.events.proofs.GrowthLemmas.{AreBelow}
+pub use Rattle.events.specs.Logs.{Stamped}

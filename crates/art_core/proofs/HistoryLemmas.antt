@@ -13,7 +13,7 @@ use Rattle.std.proofs.lemmas.Bool.{lt-leb, lt-ltb, le-leb}
 use Rattle.std.proofs.lemmas.List.{length-replicate, map-set}
 use Rattle.std.proofs.lemmas.List.Folds.{sum_by-replicate}
 use Rattle.std.proofs.lemmas.Nat.{mod-mul-add}
-use Rattle.list_laws.proofs.Lists.{All-at}
+use Rattle.events.proofs.Lists.{All-at}
 use Rattle.events.specs.declared.event.Call.TheVariants.{Get, Insert, Remove, Scan, Replace}
 use Rattle.events.specs.declared.event.Reply.{Reply}
 use Rattle.events.specs.declared.event.Event.{Event}
@@ -22,12 +22,12 @@ use Rattle.events.specs.Histories.{AreHistoryEvents, has_range, call_count, pair
 use Rattle.events.specs.HistoryFaults.{has_open_call, fault_after}
 use Rattle.events.specs.Limits.{call_limit, pair_limit, process_limit}
 use Rattle.events.proofs.HistoryLemmas.{AreHistoryEvents-push, has_open_call-push, call_count-push}
-use Rattle.logs.specs.Logs.{events_by_stamp, history_of_logs}
-use Rattle.logs.proofs.GrowthLemmas.{history-push, below-push}
+use Rattle.events.specs.Logs.{events_by_stamp, history_of_logs}
+use Rattle.events.proofs.GrowthLemmas.{history-push, below-push}
 use Rattle.map_object.specs.MapObject.{Contents}
-use Rattle.art_steps.specs.declared.access.Access.{Access}
-use Rattle.art_steps.specs.TreeCalls.{is_tree_call}
-use Rattle.art_steps.proofs.AccessLemmas.{act-small}
+use Rattle.art_rows.specs.declared.access.Access.{Access}
+use Rattle.art_rows.specs.TreeCalls.{is_tree_call}
+use Rattle.art_rows.proofs.AccessLemmas.{act-small}
 use Rattle.art_core.specs.Runs.{HasFewSteps}
 use Rattle.art_core.specs.Claims.{LogsAreHistory}
 use Rattle.art_core.proofs.RunLemmas.{begun-more}

@@ -1,6 +1,6 @@
 -- The rows, computed.
 use Rattle.art_core.proofs.Common.{refl, step, history_of}
-use Rattle.art_steps.specs.Computing.{computing}
+use Rattle.art_rows.specs.Computing.{computing}
 use Rattle.art_core.specs.Schedules.{schedule_run}
 use Rattle.art_core.specs.WorkedRows.{eights, words_at, events, last_event, deep, shifted, shifted_items, lost, lost_items, torn, torn_items}
 use Rattle.art_core.specs.WorkedRows.{early, early_items, one_each, count_events, beside, WorkedRows}

@@ -6,7 +6,7 @@ use Rattle.art_core.proofs.Common.{Invokes, Makes, Responds, invoked, moved, wor
 use Rattle.art_core.proofs.Common.{invocation, move_of, move_from, next_move, moved_by, step_of, step, run_on, Gives}
 use Rattle.std.proofs.Common.{Option, Some, None}
 use Rattle.std.proofs.lemmas.List.{append-nil, length-map}
-use Rattle.list_laws.proofs.Lists.{slice_get-append_left, slice_get-middle}
+use Rattle.events.proofs.Lists.{slice_get-append_left, slice_get-middle}
 use Rattle.art_core.specs.Laws.{Begins, begun_plan, MayMove}
 
 pub run-on-append : (plan : Plan) (s : Option State) (earlier later : List ℕ)

@@ -4,7 +4,7 @@ use Rattle.art_core.proofs.Common.{slice_get, Point, Item, Process, Plan, State,
 use Rattle.std.proofs.Common.{not, ◌||◌, Option, Some, None, eqb-true}
 use Rattle.std.proofs.lemmas.Bool.{not-false, not-true, or_parts, true≢false}
 use Rattle.std.specs.Prelude.{if◌then◌else◌}
-use Rattle.art_steps.specs.declared.access.Point.TheVariants as point
+use Rattle.art_rows.specs.declared.access.Point.TheVariants as point
 use Rattle.art_core.specs.declared.item.Item.TheVariants.{Turns, End, Until}
 use Rattle.art_core.specs.NamedTurns.{next_point, finished_count}
 use Rattle.art_core.specs.Schedules.{Refusal, Run, turn_with, turn, if_refused, unless_refused, turns_made, turns_until, point_number, is_at}

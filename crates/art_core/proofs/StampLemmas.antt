@@ -7,7 +7,7 @@ use Rattle.art_core.proofs.Common.{AreBelow, table_words, word_of, Turn, Asks, A
 use Rattle.art_core.proofs.Common.{Makes, Responds, begun, invoked, answered, moved, after_move, move_of, move_from, next_move, next_call}
 use Rattle.art_core.proofs.Common.{invocation, step, opened_on, history_of, run_on, IsPlan}
 use Rattle.std.proofs.lemmas.List.Elements.{All-cons}
-use Rattle.logs.proofs.GrowthLemmas.{AreBelow-front, AreBelow-back}
+use Rattle.events.proofs.GrowthLemmas.{AreBelow-front, AreBelow-back}
 use Rattle.art_core.specs.Accesses.{changed}
 use Rattle.art_core.specs.Laws.{ClocksAreAhead}
 use Rattle.art_core.proofs.HistoryLemmas.{IsLogged, one-drawn, is-moved, nowhere, opened-logged, calls-within, all-idle}

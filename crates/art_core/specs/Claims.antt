@@ -10,7 +10,7 @@ use Rattle.events.specs.Histories.{AreHistoryEvents}
 use Rattle.events.specs.Operations.{operations}
 use Rattle.map_object.specs.MapObject.{Contents}
 use Rattle.orders.specs.Orders.{IsLegal, after_calls, IsLinearizable}
-use Rattle.art_steps.specs.declared.variant.Variant.TheVariants.{Coupled, Optimistic}
+use Rattle.art_rows.specs.declared.variant.Variant.TheVariants.{Coupled, Optimistic}
 use Rattle.art_core.specs.declared.process.Process.{Process}
 use Rattle.art_core.specs.Core.{Plan, State, begun, history_of, known_reply, opened_on}
 use Rattle.art_core.specs.Plans.{IsRun, IsSerial}

@@ -3,11 +3,11 @@ use Rattle.std.specs.Prelude.{◌≡◌, ℕ, ◌+◌, ◌*◌, ◌<◌, ◌≤�
 use Rattle.events.specs.declared.event.Call.{Call}
 use Rattle.events.specs.Limits.{call_limit}
 use Rattle.events.specs.Histories.{AreHistoryEvents}
-use Rattle.logs.specs.Logs.{Stamped}
+use Rattle.events.specs.Logs.{Stamped}
 use Rattle.art_rows.specs.declared.table.Shape.{Shape}
 use Rattle.art_rows.specs.Table.{clock, table_words}
-use Rattle.art_steps.specs.declared.variant.Variant.{Variant}
-use Rattle.art_steps.specs.Act.{act}
+use Rattle.art_rows.specs.declared.variant.Variant.{Variant}
+use Rattle.art_rows.specs.Act.{act}
 use Rattle.art_core.specs.declared.process.Process.{Process}
 use Rattle.art_core.specs.Core.{Plan, State, Move, Invokes, begun, move_of, history_of, opened_on}
 use Rattle.art_core.specs.Runs.{Gives}

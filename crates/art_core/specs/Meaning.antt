@@ -10,7 +10,7 @@ use Rattle.art_rows.specs.declared.table.Child.{Child}
 use Rattle.art_rows.specs.declared.table.Child.TheVariants.{Empty, Row, Leaf}
 use Rattle.art_rows.specs.Table.{row_words, kind_at, root_base, keys_at, more_keys_at, index_at, count_at, child_at}
 use Rattle.art_rows.specs.Words.{is_locked, keys4_of, keys16_of, place_of, entries_of, child_of}
-use Rattle.art_steps.specs.Steps.{numbers}
+use Rattle.art_rows.specs.Steps.{numbers}
 
 -- the slot of an index entry, if it names one
 abbrev pub entry_slot : ℕ → ℕ → Option ℕ

@@ -6,11 +6,11 @@ use Rattle.events.specs.declared.event.Reply.{Reply}
 use Rattle.art_rows.specs.declared.table.Kind.{Kind}
 use Rattle.art_rows.specs.Table.{row_words, kind_at}
 use Rattle.art_rows.specs.Words.{is_locked}
-use Rattle.art_steps.specs.declared.access.Access.TheVariants.{Load}
-use Rattle.art_steps.specs.declared.access.Point.{Point}
-use Rattle.art_steps.specs.declared.access.Point.TheVariants as point
-use Rattle.art_steps.specs.Steps.{Turn, Asks, Answers}
-use Rattle.art_steps.specs.Act.{act}
+use Rattle.art_rows.specs.declared.access.Access.TheVariants.{Load}
+use Rattle.art_rows.specs.declared.access.Point.{Point}
+use Rattle.art_rows.specs.declared.access.Point.TheVariants as point
+use Rattle.art_rows.specs.Steps.{Turn, Asks, Answers}
+use Rattle.art_rows.specs.Act.{act}
 use Rattle.art_core.specs.declared.process.Process.{Process}
 use Rattle.art_core.specs.Accesses.{got_by}
 use Rattle.art_core.specs.Core.{Plan, State, begun}

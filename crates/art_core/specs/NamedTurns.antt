@@ -1,7 +1,7 @@
 -- The turns that the items of a schedule name: each item is about one process, and names turns of it until it has what it waits for.
 use Rattle.std.specs.Prelude.{◌≡◌, ◌≢◌, ℕ, ◌+◌, ◌<◌, List, [], ◌∷◌, length, replicate, slice_get, Option, Some, None}
-use Rattle.art_steps.specs.declared.access.Point.{Point}
-use Rattle.art_steps.specs.Act.{act, point_of}
+use Rattle.art_rows.specs.declared.access.Point.{Point}
+use Rattle.art_rows.specs.Act.{act, point_of}
 use Rattle.events.specs.declared.event.Call.{Call}
 use Rattle.art_core.specs.declared.item.Item.{Item}
 use Rattle.art_core.specs.declared.item.Item.TheVariants.{Turns, End, Until}

@@ -5,7 +5,7 @@ use Rattle.events.specs.declared.event.Event.TheVariants.{Invoke, Answer}
 use Rattle.events.specs.Limits.{process_limit, call_limit}
 use Rattle.map_object.specs.MapObject.{Contents}
 use Rattle.art_rows.specs.Table.{IsWithinLimits}
-use Rattle.art_steps.specs.TreeCalls.{is_tree_call}
+use Rattle.art_rows.specs.TreeCalls.{is_tree_call}
 use Rattle.art_core.specs.Core.{Plan, State, opened_on}
 use Rattle.art_core.specs.Runs.{Gives, HasFewSteps}
 use Rattle.art_core.specs.Starts.{StartsOn, IsStartOf}

@@ -9,8 +9,8 @@ use Rattle.events.specs.Limits.{call_limit}
 use Rattle.map_object.specs.MapObject.{Contents, IsRising}
 use Rattle.art_rows.specs.declared.table.Shape.{Shape}
 use Rattle.art_rows.specs.Table.{clock}
-use Rattle.art_steps.specs.declared.variant.Variant.{Variant}
-use Rattle.art_steps.specs.TreeCalls.{is_tree_call}
+use Rattle.art_rows.specs.declared.variant.Variant.{Variant}
+use Rattle.art_rows.specs.TreeCalls.{is_tree_call}
 use Rattle.art_core.specs.declared.process.Process.{Process}
 use Rattle.art_core.specs.Core.{Plan, State, finished, next_move, opened}
 use Rattle.art_core.specs.Runs.{Gives, HasFewSteps}

@@ -16,7 +16,7 @@ pub use Rattle.art_stages.specs.declared.stage.Frame.{Frame}
 pub use Rattle.art_stages.specs.declared.stage.Held.{Held}
 pub use Rattle.art_stages.specs.declared.stage.ScanStep.TheVariants.{Child, Exchange, FirstKeys, Index, Info, Keys, Lock, Over, Release, SecondKeys}
 pub use Rattle.art_stages.specs.declared.stage.ScanStep.TheVariants.{Wait}
-pub use Rattle.art_steps.specs.Scan.{bytes_of, can_lie}
-pub use Rattle.art_steps.specs.Steps.{numbers, reply_of}
+pub use Rattle.art_rows.specs.Scan.{bytes_of, can_lie}
+pub use Rattle.art_rows.specs.Steps.{numbers, reply_of}
 pub use Rattle.art_scan.specs.Sound.{is_over, is_sound_frame}
 pub use Rattle.art_scan.specs.Walks.{IsPassed, frame_slot, frame_test, has_any, walk_of, with_pair, words_behind}

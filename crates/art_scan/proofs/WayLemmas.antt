@@ -4,7 +4,7 @@ use Rattle.art_scan.proofs.Common.{Four, Sixteen, FortyEight, Full, reply_of, He
 use Rattle.art_scan.proofs.Common.{Index, Child, Release, Over, child_of, Walk, ScanAt, at, on_way, with_frame, frame_of, frame_at, way_at, scan_turn}
 use Rattle.art_scan.proofs.Common.{resume_at, row_begins, words_at, visit_list, child_after, step_after, is_over, has_any, with_pair}
 use Rattle.std.proofs.lemmas.Option.{none-some}
-use Rattle.art_steps.specs.Rows.{Setting}
+use Rattle.art_rows.specs.Rows.{Setting}
 use Rattle.art_stages.specs.declared.stage.ScanStep.{ScanStep}
 use Rattle.art_stages.specs.Automaton.{keys_one}
 use Rattle.art_rows.specs.declared.table.Child.{Child as ChildOf}

@@ -1,6 +1,6 @@
 -- A scan under way, as its automaton sees it.
 use Rattle.std.specs.Prelude.{ℕ, Option, Some, None}
-use Rattle.art_steps.specs.Rows.{Setting}
+use Rattle.art_rows.specs.Rows.{Setting}
 use Rattle.art_stages.specs.Scans.{Walk, ScanAt, at, no_walk, scan_after}
 use Rattle.art_scan.specs.declared.lists.Lists.{Lists}
 use Rattle.art_scan.specs.declared.scanning.Scanning.{Scanning}

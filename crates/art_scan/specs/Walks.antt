@@ -5,7 +5,7 @@ use Rattle.art_rows.specs.declared.table.Kind.{Kind}
 use Rattle.art_rows.specs.declared.table.Kind.TheVariants.{FortyEight, Full}
 use Rattle.art_rows.specs.Table.{child_at}
 use Rattle.art_rows.specs.Words.{big_endian, info_of, place_of}
-use Rattle.art_steps.specs.Scan.{with_leaf}
+use Rattle.art_rows.specs.Scan.{with_leaf}
 use Rattle.art_stages.specs.declared.stage.Held.{Held}
 use Rattle.art_stages.specs.declared.stage.Frame.{Frame}
 use Rattle.art_stages.specs.Stages.{keys_among}

@@ -1,11 +1,11 @@
 // The rows that a scan has read, the pairs that it has found, and its way.
 ghost use Rattle.std.specs.Prelude.{◌≡◌, ◌≤◌, true, length, map, All};
-ghost use Rattle.art_steps.specs.Scan.{has_row};
+ghost use Rattle.art_rows.specs.Scan.{has_row};
 ghost use Rattle.art_stages.specs.Stages.{row_at};
 ghost use Rattle.art_scan.specs.Sound.{is_sound_frame, is_sound_step};
 
+use art_rows::MAX_LEAVES;
 use art_stages::{Frame, Held, ScanStep};
-use art_steps::MAX_LEAVES;
 use events::{Memory, Pairs};
 use std::alloc::Global;
 

@@ -1,7 +1,7 @@
 // The bytes of a row under which keys can lie.
 ghost use Rattle.std.specs.Prelude.{◌≡◌, ◌+◌, ◌≤◌, ◌<◌, filter};
-ghost use Rattle.art_steps.specs.Scan.{can_lie as can_hold, bytes_of};
-ghost use Rattle.art_steps.specs.Steps.{numbers};
+ghost use Rattle.art_rows.specs.Scan.{can_lie as can_hold, bytes_of};
+ghost use Rattle.art_rows.specs.Steps.{numbers};
 ghost use Rattle.art_stages.specs.Stages.{row_at};
 ghost use Rattle.art_stages.specs.Scans.{in_word};
 ghost use Rattle.art_scan.specs.Walks.{has_any};

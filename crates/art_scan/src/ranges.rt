@@ -1,7 +1,7 @@
 // Which keys can lie below a row.
 ghost use Rattle.std.specs.Prelude.{◌≡◌, ℕ, ◌+◌, ◌-◌, ◌*◌, ◌<◌, ◌≤◌, ◌^◌, true, false};
 ghost use Rattle.art_rows.specs.Words.{big_endian, info_of};
-ghost use Rattle.art_steps.specs.Scan.{can_lie};
+ghost use Rattle.art_rows.specs.Scan.{can_lie};
 ghost use Rattle.art_stages.specs.Stages.{row_at};
 ghost use Rattle.art_scan.specs.Walks.{begins_by};
 

@@ -6,8 +6,8 @@ use crate::lists::Lists;
 use crate::steps::make_step;
 use crate::turns::{access_at, point_at};
 use crate::walks::enter;
+use art_rows::{Access, Point};
 use art_stages::{Entry, ScanStep, Setting};
-use art_steps::{Access, Point};
 use events::{Memory, Reply};
 use std::alloc::Global;
 use std::mem;
@@ -24,8 +24,8 @@ pub struct Scanning {
 
 impl Scanning {
     ghost use Rattle.std.specs.Prelude.{Some, None, OnOk, is_some};
-    ghost use Rattle.art_steps.specs.Steps.{access_of, reply_of};
-    ghost use Rattle.art_steps.specs.Act.{point_of};
+    ghost use Rattle.art_rows.specs.Steps.{access_of, reply_of};
+    ghost use Rattle.art_rows.specs.Act.{point_of};
     ghost use Rattle.art_stages.specs.Scans.{scan_start, scan_turn};
     ghost use Rattle.art_stages.specs.Settings.{setting_of};
     ghost use Rattle.events.specs.declared.event.Reply.TheVariants.{Pairs};

@@ -1,19 +1,18 @@
 // The access of a scan's step, and its point.
 ghost use Rattle.std.specs.Prelude.{◌≡◌, true, false, Some};
 ghost use Rattle.art_rows.specs.Words.{locked_word};
-ghost use Rattle.art_steps.specs.Steps.{access_of};
-ghost use Rattle.art_steps.specs.Act.{point_of};
-ghost use Rattle.art_steps.specs.Rows.{lock_point as point_of_lock, locks};
+ghost use Rattle.art_rows.specs.Steps.{access_of};
+ghost use Rattle.art_rows.specs.Act.{point_of};
+ghost use Rattle.art_rows.specs.Rows.{lock_point as point_of_lock, locks};
 ghost use Rattle.art_stages.specs.Scans.{Walk, at, entry_base as base_of_entry, scan_turn, keys_turn, release_turn};
 ghost use Rattle.art_stages.specs.Settings.{setting_of};
-ghost use Rattle.art_steps.specs.declared.access.Access.TheVariants.{Load};
+ghost use Rattle.art_rows.specs.declared.access.Access.TheVariants.{Load};
 ghost use Rattle.art_scan.specs.Sound.{is_sound_step, is_over};
 
-use art_rows::{Kind, version_locked, version_released};
+use art_rows::{Access, Kind, Point, version_locked, version_released};
 use art_stages::{
     Entry, Held, ScanStep, Setting, count_slot, index_slot, info_slot, keys_slot, more_keys_slot,
 };
-use art_steps::{Access, Point};
 
 fn entry_base(setting: &Setting, entry: Entry) -> usize
     ensures { result ≡ base_of_entry (setting_of setting.now) entry }

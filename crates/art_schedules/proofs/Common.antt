@@ -185,23 +185,23 @@ pub use Rattle.art_stages.specs.declared.stage.Taking.{Taking}
 pub use Rattle.art_stages.specs.declared.stage.Target.{Target}
 pub use Rattle.art_stages.specs.declared.stage.Target.TheVariants.{Below, Root, Taken}
 pub use Rattle.art_stages.specs.declared.stage.Work.{Work}
-pub use Rattle.art_steps.proofs.AccessLemmas.{not_full}
-pub use Rattle.art_steps.proofs.TurnLemmas.{add-store, answers-asks, answers-same, asks-answers, asks-same, exchange-store, exchange-word}
-pub use Rattle.art_steps.proofs.TurnLemmas.{exchanges-same, load-add, load-exchange, load-store, load-word, loads-same, store-add, store-exchange}
-pub use Rattle.art_steps.proofs.TurnLemmas.{store-word, stores-same}
-unfoldable pub use Rattle.art_steps.specs.Act.{act}
-pub use Rattle.art_steps.specs.Fits.{word_of}
-pub use Rattle.art_steps.specs.Rows.{Setting, byte_at, is_full, is_insert, is_scan, key_of, locks, path_differs_at, releases_early}
-unfoldable pub use Rattle.art_steps.specs.Rows.{unlock_all}
-pub use Rattle.art_steps.specs.Scan.{bytes_of, has_row, with_leaf}
-pub use Rattle.art_steps.specs.Steps.{Answers, Asks, Rest, Turn, give, numbers, reply_of, ◌>>◌}
-pub use Rattle.art_steps.specs.TreeCalls.{is_tree_call}
-pub use Rattle.art_steps.specs.Updates.{keys_differ_at, new_entry, new_leaf, next_kind, overwriting}
-pub use Rattle.art_steps.specs.declared.access.Access.{Access}
-pub use Rattle.art_steps.specs.declared.access.Access.TheVariants.{Add, Exchange as Swap, Load, Store}
-pub use Rattle.art_steps.specs.declared.access.Point.{Point}
-pub use Rattle.art_steps.specs.declared.variant.Variant.{Variant}
-pub use Rattle.art_steps.specs.declared.variant.Variant.TheVariants.{Coupled, Optimistic}
+pub use Rattle.art_rows.proofs.AccessLemmas.{not_full}
+pub use Rattle.art_rows.proofs.TurnLemmas.{add-store, answers-asks, answers-same, asks-answers, asks-same, exchange-store, exchange-word}
+pub use Rattle.art_rows.proofs.TurnLemmas.{exchanges-same, load-add, load-exchange, load-store, load-word, loads-same, store-add, store-exchange}
+pub use Rattle.art_rows.proofs.TurnLemmas.{store-word, stores-same}
+unfoldable pub use Rattle.art_rows.specs.Act.{act}
+pub use Rattle.art_rows.specs.Fits.{word_of}
+pub use Rattle.art_rows.specs.Rows.{Setting, byte_at, is_full, is_insert, is_scan, key_of, locks, path_differs_at, releases_early}
+unfoldable pub use Rattle.art_rows.specs.Rows.{unlock_all}
+pub use Rattle.art_rows.specs.Scan.{bytes_of, has_row, with_leaf}
+pub use Rattle.art_rows.specs.Steps.{Answers, Asks, Rest, Turn, give, numbers, reply_of, ◌>>◌}
+pub use Rattle.art_rows.specs.TreeCalls.{is_tree_call}
+pub use Rattle.art_rows.specs.Updates.{keys_differ_at, new_entry, new_leaf, next_kind, overwriting}
+pub use Rattle.art_rows.specs.declared.access.Access.{Access}
+pub use Rattle.art_rows.specs.declared.access.Access.TheVariants.{Add, Exchange as Swap, Load, Store}
+pub use Rattle.art_rows.specs.declared.access.Point.{Point}
+pub use Rattle.art_rows.specs.declared.variant.Variant.{Variant}
+pub use Rattle.art_rows.specs.declared.variant.Variant.TheVariants.{Coupled, Optimistic}
 pub use Rattle.events.specs.Events.{process_of}
 pub use Rattle.events.specs.Limits.{pair_limit}
 pub use Rattle.events.specs.Operations.{operations}
@@ -213,8 +213,8 @@ pub use Rattle.events.specs.declared.event.Event.TheVariants.{Answer, Invoke}
 pub use Rattle.events.specs.declared.event.Reply.{Reply}
 pub use Rattle.events.specs.declared.operation.Operation.{Operation}
 pub use Rattle.events.specs.declared.operation.Response.{Response}
-pub use Rattle.list_laws.proofs.Lists.{All-at, All-from_contains, AllPairs-append, AllPairs-nil, Contains-first, place_of-Contains}
-pub use Rattle.list_laws.proofs.NumberLemmas.{slice_get-below}
+pub use Rattle.events.proofs.Lists.{All-at, All-from_contains, AllPairs-append, AllPairs-nil, Contains-first, place_of-Contains}
+pub use Rattle.events.proofs.NumberLemmas.{slice_get-below}
 pub use Rattle.map_object.specs.MapObject.{Contents, Does, is_just, put, reply_to, value_at}
 pub use Rattle.orders.proofs.LegalLemmas.{legal_from_DoesCall}
 pub use Rattle.orders.proofs.OrderLemmas.{after_calls-append, calls_at-append, calls_at-push}

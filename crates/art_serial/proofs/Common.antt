@@ -59,24 +59,24 @@ pub use Rattle.art_serial.specs.words.Keys.{place_moved}
 pub use Rattle.art_serial.specs.words.Laws.{VersionsSay, WordsAreReadBack, WordsAreSmall}
 pub use Rattle.art_serial.specs.words.Stored.{IsShort, IsStored}
 pub use Rattle.art_serial.specs.writes.Writes.{AreSmall, HasGrown, HasPair, HasPut, HasSameFields, IsApart, IsBeside, IsOutside, fresh_base}
-unfoldable pub use Rattle.art_steps.specs.Act.{act, procedure}
-pub use Rattle.art_steps.specs.Fits.{word_of}
-unfoldable pub use Rattle.art_steps.specs.Optimistic.{step_down}
-pub use Rattle.art_steps.specs.Rows.{Has, Lacks, Place, Row, Setting, byte_at, is_insert, key_of, leaves_out_check, lock_point, locks}
-pub use Rattle.art_steps.specs.Rows.{path_differs_at, root_row, row_of, takes_unchecked}
-unfoldable pub use Rattle.art_steps.specs.Rows.{check, check_of, claim, find, find_among, find_child, find_in, find_indexed, load_child, lock}
-unfoldable pub use Rattle.art_steps.specs.Rows.{take_row, unlock, unlock_all, unlock_obsolete, wait}
-pub use Rattle.art_steps.specs.Scan.{Walked, can_lie, enter, has_row, with_row}
-unfoldable pub use Rattle.art_steps.specs.Scan.{walk_child, walk_from, walk_in}
-pub use Rattle.art_steps.specs.Steps.{Answers, Asks, Part, Rest, Turn, access, add, answer, each, exchange, first_at, give, load, load_at}
-pub use Rattle.art_steps.specs.Steps.{marked, numbers, numbers_down, over, start_again, store, store_at, ◌>>=◌, ◌>>◌}
-pub use Rattle.art_steps.specs.TreeCalls.{is_tree_call}
-pub use Rattle.art_steps.specs.Updates.{Under, keys_differ_at, new_entry, new_leaf, next_kind, overwriting, store_child}
-unfoldable pub use Rattle.art_steps.specs.Updates.{copy_child, fill, grow, insert_beside, insert_in, make_room, pair, pair_in, put_in}
-unfoldable pub use Rattle.art_steps.specs.Updates.{spread_entry, spread_index, store_index}
-pub use Rattle.art_steps.specs.declared.access.Access.{Access}
-pub use Rattle.art_steps.specs.declared.access.Point.{Point}
-pub use Rattle.art_steps.specs.declared.variant.Variant.{Variant}
+unfoldable pub use Rattle.art_rows.specs.Act.{act, procedure}
+pub use Rattle.art_rows.specs.Fits.{word_of}
+unfoldable pub use Rattle.art_rows.specs.Optimistic.{step_down}
+pub use Rattle.art_rows.specs.Rows.{Has, Lacks, Place, Row, Setting, byte_at, is_insert, key_of, leaves_out_check, lock_point, locks}
+pub use Rattle.art_rows.specs.Rows.{path_differs_at, root_row, row_of, takes_unchecked}
+unfoldable pub use Rattle.art_rows.specs.Rows.{check, check_of, claim, find, find_among, find_child, find_in, find_indexed, load_child, lock}
+unfoldable pub use Rattle.art_rows.specs.Rows.{take_row, unlock, unlock_all, unlock_obsolete, wait}
+pub use Rattle.art_rows.specs.Scan.{Walked, can_lie, enter, has_row, with_row}
+unfoldable pub use Rattle.art_rows.specs.Scan.{walk_child, walk_from, walk_in}
+pub use Rattle.art_rows.specs.Steps.{Answers, Asks, Part, Rest, Turn, access, add, answer, each, exchange, first_at, give, load, load_at}
+pub use Rattle.art_rows.specs.Steps.{marked, numbers, numbers_down, over, start_again, store, store_at, ◌>>=◌, ◌>>◌}
+pub use Rattle.art_rows.specs.TreeCalls.{is_tree_call}
+pub use Rattle.art_rows.specs.Updates.{Under, keys_differ_at, new_entry, new_leaf, next_kind, overwriting, store_child}
+unfoldable pub use Rattle.art_rows.specs.Updates.{copy_child, fill, grow, insert_beside, insert_in, make_room, pair, pair_in, put_in}
+unfoldable pub use Rattle.art_rows.specs.Updates.{spread_entry, spread_index, store_index}
+pub use Rattle.art_rows.specs.declared.access.Access.{Access}
+pub use Rattle.art_rows.specs.declared.access.Point.{Point}
+pub use Rattle.art_rows.specs.declared.variant.Variant.{Variant}
 pub use Rattle.events.specs.Limits.{call_limit}
 pub use Rattle.events.specs.Operations.{operations}
 pub use Rattle.events.specs.declared.event.Call.{Call}
@@ -84,9 +84,9 @@ pub use Rattle.events.specs.declared.event.Call.TheVariants.{Get, Insert, Remove
 pub use Rattle.events.specs.declared.event.Event.{Event}
 pub use Rattle.events.specs.declared.event.Event.TheVariants.{Answer, Invoke}
 pub use Rattle.events.specs.declared.event.Reply.{Reply}
-pub use Rattle.list_laws.proofs.FilterLemmas.{Contains-filter, Contains-from_filter}
-pub use Rattle.list_laws.proofs.Lists.{All-at, All-from_contains, AllPairs-append, AllPairs-head, AllPairs-nil, AllPairs-tail, Contains-cases}
-pub use Rattle.list_laws.proofs.Lists.{Contains-first, Contains-later, Contains-nil}
+pub use Rattle.events.proofs.FilterLemmas.{Contains-filter, Contains-from_filter}
+pub use Rattle.events.proofs.Lists.{All-at, All-from_contains, AllPairs-append, AllPairs-head, AllPairs-nil, AllPairs-tail, Contains-cases}
+pub use Rattle.events.proofs.Lists.{Contains-first, Contains-later, Contains-nil}
 pub use Rattle.map_object.proofs.TellLemmas.{after_reply-answer}
 pub use Rattle.map_object.specs.MapObject.{Contents, IsLegalReply, IsRising, above, after, after_reply, is_just, put, reply_to, value_at}
 pub use Rattle.map_object.specs.MapObject.{value_reply, within}

@@ -42,17 +42,17 @@ pub use Rattle.art_stages.specs.declared.stage.Taking.{Taking}
 pub use Rattle.art_stages.specs.declared.stage.Target.{Target}
 pub use Rattle.art_stages.specs.declared.stage.Target.TheVariants.{Below, Root, Taken}
 pub use Rattle.art_stages.specs.declared.stage.Work.{Work}
-pub use Rattle.art_steps.proofs.GuardLemmas.{act-body, lock_again-body, wait-body}
-unfoldable pub use Rattle.art_steps.proofs.GuardLemmas.{lock_turn, wait_turn}
-unfoldable pub use Rattle.art_steps.specs.Act.{act, procedure}
-pub use Rattle.art_steps.specs.Rows.{Setting, is_full, is_insert, is_scan, key_of, leaves_out_check, locks, releases_early, row_of}
-pub use Rattle.art_steps.specs.Rows.{takes_unchecked}
-unfoldable pub use Rattle.art_steps.specs.Rows.{check, check_of, claim, find, find_child, find_in, load_child, lock, lock_again, unlock}
-unfoldable pub use Rattle.art_steps.specs.Rows.{unlock_all, unlock_obsolete, wait}
-pub use Rattle.art_steps.specs.Steps.{Asks, Part, Rest, each, exchange as swap, give, load, reply_of, start_again, store, ◌>>=◌, ◌>>◌}
-pub use Rattle.art_steps.specs.Updates.{keys_differ_at, next_kind, overwriting}
-unfoldable pub use Rattle.art_steps.specs.Updates.{copy_child, grow, pair, pair_in, spread_index, store_index}
-pub use Rattle.art_steps.specs.declared.access.Access.TheVariants.{Add}
+pub use Rattle.art_rows.proofs.GuardLemmas.{act-body, lock_again-body, wait-body}
+unfoldable pub use Rattle.art_rows.proofs.GuardLemmas.{lock_turn, wait_turn}
+unfoldable pub use Rattle.art_rows.specs.Act.{act, procedure}
+pub use Rattle.art_rows.specs.Rows.{Setting, is_full, is_insert, is_scan, key_of, leaves_out_check, locks, releases_early, row_of}
+pub use Rattle.art_rows.specs.Rows.{takes_unchecked}
+unfoldable pub use Rattle.art_rows.specs.Rows.{check, check_of, claim, find, find_child, find_in, load_child, lock, lock_again, unlock}
+unfoldable pub use Rattle.art_rows.specs.Rows.{unlock_all, unlock_obsolete, wait}
+pub use Rattle.art_rows.specs.Steps.{Asks, Part, Rest, each, exchange as swap, give, load, reply_of, start_again, store, ◌>>=◌, ◌>>◌}
+pub use Rattle.art_rows.specs.Updates.{keys_differ_at, next_kind, overwriting}
+unfoldable pub use Rattle.art_rows.specs.Updates.{copy_child, grow, pair, pair_in, spread_index, store_index}
+pub use Rattle.art_rows.specs.declared.access.Access.TheVariants.{Add}
 pub use Rattle.events.specs.declared.event.Call.{Call}
 pub use Rattle.events.specs.declared.event.Call.TheVariants.{Get, Insert, Remove, Replace, Scan}
 pub use Rattle.events.specs.declared.event.Reply.{Reply}

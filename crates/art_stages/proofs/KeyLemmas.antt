@@ -6,7 +6,7 @@ use Rattle.art_rows.specs.Words.{place_of}
 use Rattle.art_rows.specs.declared.table.Kind.{Kind}
 use Rattle.art_rows.specs.declared.table.Kind.TheVariants.{Four, Sixteen, FortyEight, Full}
 use Rattle.art_rows.proofs.ReaderLemmas.{joined, place_append}
-use Rattle.art_steps.specs.Updates.{new_entry}
+use Rattle.art_rows.specs.Updates.{new_entry}
 use Rattle.art_stages.specs.Stages.{keys_among, keys_in, count_in}
 use Rattle.art_stages.specs.declared.stage.Keys.{Keys}
 use Rattle.art_stages.specs.Sound.{has_keys}

@@ -8,10 +8,10 @@ use Rattle.std.proofs.Common.{◌<◌, append_assoc, length, take, subst}
 use Rattle.std.proofs.Math.Seq.{get_or-append_seam, take-append_seam}
 use Rattle.std.proofs.lemmas.List.{append-nil, get_or_append_left, take-append-le}
 use Rattle.events.specs.declared.event.Reply.TheVariants as reply
-use Rattle.art_steps.specs.Steps.{Answers}
-use Rattle.art_steps.specs.Fits.{Fits, Claims, RefusedAtCapacity, RefusesOnlyAtCapacity}
+use Rattle.art_rows.specs.Steps.{Answers}
+use Rattle.art_rows.specs.Fits.{Fits, Claims, RefusedAtCapacity, RefusesOnlyAtCapacity}
 use Rattle.art_rows.specs.declared.table.Shape.{Shape}
-use Rattle.art_steps.specs.declared.variant.Variant.{Variant}
+use Rattle.art_rows.specs.declared.variant.Variant.{Variant}
 use Rattle.art_stages.specs.declared.stage.ScanStep.TheVariants.{Lock, Exchange, Wait, Info, Keys, Child, Over as ScanOver}
 use Rattle.art_stages.proofs.ScanLemmas.{scan_next, scan_begins, scan_goes_on}
 use Rattle.art_stages.specs.Stages.{setting}

@@ -15,7 +15,7 @@ use Rattle.art_stages.proofs.Common.{insert_unlocked, found_at, checked_at, amon
 use Rattle.art_stages.proofs.Common.{pair_after, put_keys_after, copies_at, spreads_at, entries_at, fill_at, leaf_after, keys_at_after}
 use Rattle.art_stages.proofs.Common.{after_with, keys_one}
 use Rattle.events.specs.declared.event.Reply.TheVariants as reply
-use Rattle.art_steps.specs.Steps.{Turn}
+use Rattle.art_rows.specs.Steps.{Turn}
 use Rattle.art_stages.specs.declared.stage.Finding.TheVariants.{Has, Lacks}
 use Rattle.art_stages.specs.declared.stage.Work.TheVariants as work
 use Rattle.art_stages.specs.declared.stage.PairWord.TheVariants as pair_word

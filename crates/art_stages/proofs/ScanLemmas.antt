@@ -18,11 +18,11 @@ use Rattle.art_stages.specs.declared.stage.Entry.{Entry}
 use Rattle.art_stages.specs.declared.stage.Entry.TheVariants.{Root, Below}
 use Rattle.art_stages.specs.declared.stage.Frame.{Frame}
 use Rattle.art_stages.specs.declared.stage.ScanStep.TheVariants.{Lock, Exchange, Wait, Info, Keys, Child as LoadChild, Over}
-use Rattle.art_steps.specs.Steps.{over, numbers}
-use Rattle.art_steps.specs.Rows.{Row}
-use Rattle.art_steps.specs.Scan.{Walked, enter, bytes_of, with_leaf, has_row, walk_child, walk_slot, walk_place, walk_keys, walk_entry}
-use Rattle.art_steps.specs.Scan.{walk_index, walk_in, walk_bytes, scan}
-use Rattle.art_steps.proofs.GuardLemmas.{walk_from-body}
+use Rattle.art_rows.specs.Steps.{over, numbers}
+use Rattle.art_rows.specs.Rows.{Row}
+use Rattle.art_rows.specs.Scan.{Walked, enter, bytes_of, with_leaf, has_row, walk_child, walk_slot, walk_place, walk_keys, walk_entry}
+use Rattle.art_rows.specs.Scan.{walk_index, walk_in, walk_bytes, scan}
+use Rattle.art_rows.proofs.GuardLemmas.{walk_from-body}
 use Rattle.art_stages.specs.Stages.{keys_among}
 use Rattle.art_stages.specs.Scans.{Walk, no_walk, walked, on_way, walk_on, lies, in_word, words_rest, frame_rest, close, scan_rest, visit_rest}
 use Rattle.art_stages.specs.Scans.{entry_base, entry_rest, frame_of, keys16, release_rest, scan_part, release_rows, close_at, slot_at, bytes_at}

@@ -18,10 +18,10 @@ use Rattle.art_rows.specs.Table.{keys_at, more_keys_at}
 use Rattle.art_rows.specs.Words.{keys16_word, more_keys16_word}
 use Rattle.art_stages.specs.declared.stage.Finding.TheVariants as seen
 use Rattle.art_stages.specs.declared.stage.PairWord.TheVariants as pair_word
-use Rattle.art_steps.specs.Steps.{answer}
-use Rattle.art_steps.specs.Updates.{spread_entry, fill}
-use Rattle.art_steps.specs.Coupled as coupled
-use Rattle.art_steps.specs.Optimistic as optimistic
+use Rattle.art_rows.specs.Steps.{answer}
+use Rattle.art_rows.specs.Updates.{spread_entry, fill}
+use Rattle.art_rows.specs.Coupled as coupled
+use Rattle.art_rows.specs.Optimistic as optimistic
 use Rattle.art_stages.specs.Stages.{keys_after, rows_held, target_base, pair_from, grow_copies, grow_spreads, spread_rest, grow_keys}
 use Rattle.art_stages.proofs.TurnLemmas.{growing_of}
 use Rattle.art_stages.proofs.WayLemmas.{left, Begins, release_step, unlock_step, moves_step, taken_step, found_step, checked_step, placed_step}

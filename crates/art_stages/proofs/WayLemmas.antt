@@ -17,12 +17,12 @@ use Rattle.art_rows.specs.Table.{info_at, count_at}
 use Rattle.art_rows.specs.Words.{keys4_of, keys16_of, count_of, child_word, key_bytes}
 use Rattle.art_stages.specs.declared.stage.Finding.TheVariants as seen
 use Rattle.art_stages.specs.declared.stage.Work.TheVariants as work
-use Rattle.art_steps.specs.Steps.{first_at}
-use Rattle.art_steps.specs.Rows.{Lacks, lock_point, take_row, find_among, find_indexed, path_differs_at}
-use Rattle.art_steps.specs.Updates.{new_leaf, make_room, put_in, put, store_child, insert_in, insert_beside}
-use Rattle.art_steps.specs.Coupled as coupled
-use Rattle.art_steps.specs.Optimistic as optimistic
-use Rattle.art_steps.proofs.GuardLemmas.{seek_from-body, insert_from-body, seek_from_optimistic-body, insert_from_optimistic-body}
+use Rattle.art_rows.specs.Steps.{first_at}
+use Rattle.art_rows.specs.Rows.{Lacks, lock_point, take_row, find_among, find_indexed, path_differs_at}
+use Rattle.art_rows.specs.Updates.{new_leaf, make_room, put_in, put, store_child, insert_in, insert_beside}
+use Rattle.art_rows.specs.Coupled as coupled
+use Rattle.art_rows.specs.Optimistic as optimistic
+use Rattle.art_rows.proofs.GuardLemmas.{seek_from-body, insert_from-body, seek_from_optimistic-body, insert_from_optimistic-body}
 use Rattle.art_stages.specs.Stages.{root_place, keys_in, descend, checked_then, placed_then, below_then, arrived, work_in, put_moves, end_with}
 use Rattle.art_stages.specs.Automaton.{hold_alone, end_at, leaf_work, pair_work, beside_work, has_room, take_alone}
 

@@ -36,12 +36,12 @@ use Rattle.art_stages.specs.declared.stage.Stage.TheVariants.{PutLeaf, PutKeys, 
 use Rattle.art_stages.specs.declared.stage.Stage.TheVariants.{PutCount, ClaimGrow, GrowInfo, GrowLoad, GrowStore, SpreadIndex, SpreadLoad}
 use Rattle.art_stages.specs.declared.stage.Stage.TheVariants.{SpreadStore}
 use Rattle.art_stages.specs.declared.stage.Stage.TheVariants.{GrowLeaf, GrowKeys, GrowCount, Hang, Obsolete, Unlock, Over}
-use Rattle.art_steps.specs.declared.access.Access.TheVariants.{Load, Store, Exchange as Swap, Add}
-use Rattle.art_steps.specs.declared.access.Point.TheVariants as point
-use Rattle.art_steps.specs.Steps.{Turn, Asks, Answers, numbers}
-use Rattle.art_steps.specs.Rows.{Setting, is_insert, is_full, locks, releases_early, leaves_out_check, takes_unchecked, lock_point, key_of}
-use Rattle.art_steps.specs.Rows.{path_differs_at}
-use Rattle.art_steps.specs.Updates.{overwriting, new_leaf, lesser, greater, new_entry, next_kind, keys_differ_at}
+use Rattle.art_rows.specs.declared.access.Access.TheVariants.{Load, Store, Exchange as Swap, Add}
+use Rattle.art_rows.specs.declared.access.Point.TheVariants as point
+use Rattle.art_rows.specs.Steps.{Turn, Asks, Answers, numbers}
+use Rattle.art_rows.specs.Rows.{Setting, is_insert, is_full, locks, releases_early, leaves_out_check, takes_unchecked, lock_point, key_of}
+use Rattle.art_rows.specs.Rows.{path_differs_at}
+use Rattle.art_rows.specs.Updates.{overwriting, new_leaf, lesser, greater, new_entry, next_kind, keys_differ_at}
 use Rattle.art_stages.specs.Stages.{row_at, held, root_place, target_base, keys_among, count_in, byte_in, keys_before, keys_after, place_in}
 use Rattle.art_stages.specs.Stages.{leaf_place}
 use Rattle.art_stages.specs.Stages.{old_child, new_child, new_child_at, reply_for}

@@ -3,8 +3,8 @@ use Rattle.std.specs.Prelude.{ℕ, List, [], ◌∷◌}
 use Rattle.events.specs.declared.event.Call.{Call}
 use Rattle.events.specs.declared.event.Call.TheVariants.{Scan}
 use Rattle.art_stages.specs.declared.stage.Stage.{Stage}
-use Rattle.art_steps.specs.Steps.{Turn, Rest}
-use Rattle.art_steps.specs.Rows.{Setting, locks}
+use Rattle.art_rows.specs.Steps.{Turn, Rest}
+use Rattle.art_rows.specs.Rows.{Setting, locks}
 use Rattle.art_stages.specs.Stages.{rest_in}
 use Rattle.art_stages.specs.Automaton.{start_at, turn_at, stage_after}
 use Rattle.art_stages.specs.Scans.{ScanAt, scan_in, scan_turn, scan_start, scan_after}

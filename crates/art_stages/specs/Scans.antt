@@ -10,7 +10,7 @@ use Rattle.art_rows.specs.declared.table.Child.{Child}
 use Rattle.art_rows.specs.declared.table.Child.TheVariants.{Empty, Row as ChildRow, Leaf}
 use Rattle.art_rows.specs.Table.{root_base, info_at, keys_at, more_keys_at, index_at, count_at, child_at}
 use Rattle.art_rows.specs.Words.{is_locked, is_obsolete, locked_word, entries_of, place_of, child_of}
-use Rattle.art_steps.specs.declared.access.Access.TheVariants.{Load, Exchange as Swap}
+use Rattle.art_rows.specs.declared.access.Access.TheVariants.{Load, Exchange as Swap}
 use Rattle.art_stages.specs.declared.stage.Held.{Held}
 use Rattle.art_stages.specs.declared.stage.Keys.{Keys as KeyWords}
 use Rattle.art_stages.specs.declared.stage.Entry.{Entry}
@@ -20,12 +20,12 @@ use Rattle.art_stages.specs.declared.stage.ScanStep.{ScanStep}
 use Rattle.art_stages.specs.declared.stage.ScanStep.TheVariants.{Lock, Exchange, Wait, Info, Keys, FirstKeys, SecondKeys, Index}
 use Rattle.art_stages.specs.declared.stage.ScanStep.TheVariants.{Child as LoadChild, Release}
 use Rattle.art_stages.specs.declared.stage.ScanStep.TheVariants.{Over}
-use Rattle.art_steps.specs.Steps.{Rest, Part, Turn, Asks, Answers, ◌>>=◌, ◌>>◌, give, load, exchange, each, over, numbers}
-use Rattle.art_steps.specs.Rows.{Setting, Row, locks, leaves_out_check, lock_point, lock, lock_again, wait, unlock, unlock_all, check}
-use Rattle.art_steps.specs.Rows.{check_of, load_child}
-use Rattle.art_steps.specs.Scan.{Walked, can_lie, bytes_of, with_leaf, has_row, with_row, walk_child, walk_slot, walk_place, walk_entry}
-use Rattle.art_steps.specs.Scan.{walk_index, walk_from}
-use Rattle.art_steps.specs.Act.{act}
+use Rattle.art_rows.specs.Steps.{Rest, Part, Turn, Asks, Answers, ◌>>=◌, ◌>>◌, give, load, exchange, each, over, numbers}
+use Rattle.art_rows.specs.Rows.{Setting, Row, locks, leaves_out_check, lock_point, lock, lock_again, wait, unlock, unlock_all, check}
+use Rattle.art_rows.specs.Rows.{check_of, load_child}
+use Rattle.art_rows.specs.Scan.{Walked, can_lie, bytes_of, with_leaf, has_row, with_row, walk_child, walk_slot, walk_place, walk_entry}
+use Rattle.art_rows.specs.Scan.{walk_index, walk_from}
+use Rattle.art_rows.specs.Act.{act}
 use Rattle.art_stages.specs.Stages.{row_at, held, ends, keys_among}
 use Rattle.art_stages.specs.Automaton.{load_of, unlock_of, check_turn, keys_one}
 

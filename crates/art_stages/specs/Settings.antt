@@ -1,6 +1,6 @@
 -- The setting of a call, in the form that the trees' steps take.
 use Rattle.std.specs.Prelude.{ℕ, List, [], ◌∷◌, ◌++◌}
-use Rattle.art_steps.specs.Rows.{Setting}
+use Rattle.art_rows.specs.Rows.{Setting}
 use Rattle.art_stages.specs.declared.stage.Growing.{Growing}
 use Rattle.art_stages.specs.Stages.{setting, keys_before, byte_in}
 use Rattle.art_stages.specs.declared.setting.Setting.{Setting as CallSetting}

@@ -12,7 +12,7 @@ use Rattle.art_rows.specs.Table.{root_base, info_at, keys_at, more_keys_at, inde
 use Rattle.art_rows.specs.Words.{locked_word, key_bytes, keys4_of, keys16_of, entries_of, count_of, place_of, new_place, with_key}
 use Rattle.art_rows.specs.Words.{info_word, keys4_word}
 use Rattle.art_rows.specs.Words.{keys16_word, more_keys16_word, entries_word, row_word}
-use Rattle.art_steps.specs.declared.variant.Variant.{Variant}
+use Rattle.art_rows.specs.declared.variant.Variant.{Variant}
 use Rattle.art_stages.specs.declared.stage.Held.{Held}
 use Rattle.art_stages.specs.declared.stage.Keys.{Keys}
 use Rattle.art_stages.specs.declared.stage.Finding.{Finding}
@@ -33,17 +33,17 @@ use Rattle.art_stages.specs.declared.stage.Outcome.{Outcome}
 use Rattle.art_stages.specs.declared.stage.Outcome.TheVariants.{Value, Refused}
 use Rattle.art_stages.specs.declared.stage.Stage.{Stage}
 use Rattle.art_stages.specs.declared.stage.Stage.TheVariants as stage
-use Rattle.art_steps.specs.Steps.{Answers, Rest, Part, ◌>>=◌, ◌>>◌, give, start_again, load, store, exchange, first_at, each, numbers}
-use Rattle.art_steps.specs.Steps.{numbers_down}
-use Rattle.art_steps.specs.Rows.{Setting, Row, Place, Found, Has, Lacks, row_of, key_of, byte_at, path_differs_at, is_insert, locks}
-use Rattle.art_steps.specs.Rows.{releases_early, lock_point}
-use Rattle.art_steps.specs.Rows.{lock, lock_again, unlock, unlock_obsolete, unlock_all, wait, check, check_of, take_row, find, find_child}
-use Rattle.art_steps.specs.Updates.{Under, new_leaf, lesser, greater, store_child, copy_child, pair_in, put, grow, next_kind, store_index}
-use Rattle.art_steps.specs.Updates.{spread_index}
-use Rattle.art_steps.specs.Updates.{spread_entry}
-use Rattle.art_steps.specs.Coupled as coupled
-use Rattle.art_steps.specs.Optimistic as optimistic
-use Rattle.art_steps.specs.Act.{act}
+use Rattle.art_rows.specs.Steps.{Answers, Rest, Part, ◌>>=◌, ◌>>◌, give, start_again, load, store, exchange, first_at, each, numbers}
+use Rattle.art_rows.specs.Steps.{numbers_down}
+use Rattle.art_rows.specs.Rows.{Setting, Row, Place, Found, Has, Lacks, row_of, key_of, byte_at, path_differs_at, is_insert, locks}
+use Rattle.art_rows.specs.Rows.{releases_early, lock_point}
+use Rattle.art_rows.specs.Rows.{lock, lock_again, unlock, unlock_obsolete, unlock_all, wait, check, check_of, take_row, find, find_child}
+use Rattle.art_rows.specs.Updates.{Under, new_leaf, lesser, greater, store_child, copy_child, pair_in, put, grow, next_kind, store_index}
+use Rattle.art_rows.specs.Updates.{spread_index}
+use Rattle.art_rows.specs.Updates.{spread_entry}
+use Rattle.art_rows.specs.Coupled as coupled
+use Rattle.art_rows.specs.Optimistic as optimistic
+use Rattle.art_rows.specs.Act.{act}
 
 -- What the fields say.
 

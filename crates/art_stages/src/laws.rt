@@ -1,8 +1,8 @@
 // Laws of stages and of refusals: each function only carries its clause.
 ghost use Rattle.std.specs.Prelude.{◌≡◌, ℕ, List, [], ◌∷◌, ◌++◌, false};
 ghost use Rattle.events.specs.declared.event.Call.TheVariants.{Scan};
-ghost use Rattle.art_steps.specs.Rows.{Setting, is_scan};
-ghost use Rattle.art_steps.specs.Act.{act};
+ghost use Rattle.art_rows.specs.Rows.{Setting, is_scan};
+ghost use Rattle.art_rows.specs.Act.{act};
 ghost use Rattle.art_stages.specs.declared.stage.Stage.{Stage};
 ghost use Rattle.art_stages.specs.Stages.{rest_in};
 ghost use Rattle.art_stages.specs.Automaton.{stage_after};
@@ -10,8 +10,8 @@ ghost use Rattle.art_stages.specs.Scans.{ScanAt, scan_in, scan_after};
 ghost use Rattle.art_stages.specs.Calls.{CallAt, rest_at, call_turn, call_behind};
 ghost use Rattle.art_rows.specs.declared.table.Shape.{Shape};
 ghost use Rattle.events.specs.declared.event.Call.{Call};
-ghost use Rattle.art_steps.specs.declared.variant.Variant.{Variant};
-ghost use Rattle.art_steps.specs.Fits.{RefusesOnlyAtCapacity};
+ghost use Rattle.art_rows.specs.declared.variant.Variant.{Variant};
+ghost use Rattle.art_rows.specs.Fits.{RefusesOnlyAtCapacity};
 
 /// What a stage does next is what is left of the call there.
 pub fn stages_ask()

@@ -1,7 +1,7 @@
 // Where the words of a row are, by its kind.
 ghost use Rattle.std.specs.Prelude.{◌≡◌};
 ghost use Rattle.art_rows.specs.Table.{child_at, count_at, claims_of, info_at, keys_at, more_keys_at, index_at};
-ghost use Rattle.art_steps.specs.Updates.{next_kind};
+ghost use Rattle.art_rows.specs.Updates.{next_kind};
 
 use art_rows::Kind;
 

@@ -3,8 +3,9 @@ ghost use Rattle.art_rows.specs.Table.{IsWithinLimits};
 
 use crate::keys_read::{count, key_among};
 use crate::stage::{Growing, Held, Hold, Keys, Stage, Target};
-use art_rows::{Kind, Shape, info_level, key_byte, new_key_place, new_key_place16};
-use art_steps::{TreeCall, Variant};
+use art_rows::{
+    Kind, Shape, TreeCall, Variant, info_level, key_byte, new_key_place, new_key_place16,
+};
 use events::Call;
 
 /// A call, with the shape of its table and the variant of its tree.
@@ -19,9 +20,9 @@ pub struct Setting {
 impl Setting {
     ghost use Rattle.std.specs.Prelude.{◌≡◌, ◌+◌, ◌<◌, ◌≤◌, ◌^◌, true, map};
     ghost use Rattle.art_rows.specs.Words.{packed};
-    ghost use Rattle.art_steps.specs.Rows.{locks, releases_early, takes_unchecked, is_insert, leaves_out_check};
-    ghost use Rattle.art_steps.specs.Steps.{numbers};
-    ghost use Rattle.art_steps.specs.Updates.{new_entry};
+    ghost use Rattle.art_rows.specs.Rows.{locks, releases_early, takes_unchecked, is_insert, leaves_out_check};
+    ghost use Rattle.art_rows.specs.Steps.{numbers};
+    ghost use Rattle.art_rows.specs.Updates.{new_entry};
     ghost use Rattle.art_stages.specs.Stages.{target_base, byte_in, place_in};
     ghost use Rattle.art_stages.specs.Automaton.{start_at};
     ghost use Rattle.art_stages.specs.Settings.{setting_of, grown_keys};

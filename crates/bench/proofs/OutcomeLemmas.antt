@@ -14,7 +14,7 @@ use Rattle.outcomes.specs.declared.outcome.RunOutcome.{RunOutcome}
 use Rattle.outcomes.specs.declared.outcome.RunOutcome.TheVariants.{Answered, Noted, Refused, Memory, Words, Failed}
 use Rattle.outcomes.specs.Ends.{Change, IsSound}
 use Rattle.art_rows.specs.declared.table.Shape.{Shape}
-use Rattle.art_steps.specs.declared.variant.Variant.{Variant}
+use Rattle.art_rows.specs.declared.variant.Variant.{Variant}
 use Rattle.recorder.specs.Answers.{IsAnswerOf}
 use Rattle.plan_engines.specs.Drives.{IsDriveAnswer, IsDriveRefusal, IsTreeDriveAnswer}
 use Rattle.plan_engines.specs.Outcomes.{IsGenerateOutcome}

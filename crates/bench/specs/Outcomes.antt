@@ -1,8 +1,8 @@
 -- The outcome of a run, by the command line and the text on the source.
 use Rattle.std.specs.Prelude.{ℕ, Option, Some, None}
 use Rattle.art_rows.specs.declared.table.Shape.{Shape}
-use Rattle.art_steps.specs.declared.variant.Variant.{Variant}
-use Rattle.art_steps.specs.declared.variant.Variant.TheVariants as variants
+use Rattle.art_rows.specs.declared.variant.Variant.{Variant}
+use Rattle.art_rows.specs.declared.variant.Variant.TheVariants as variants
 use Rattle.command_line.specs.declared.line.Tree.{Tree}
 use Rattle.command_line.specs.declared.line.Tree.TheVariants as trees
 use Rattle.command_line.specs.declared.line.Line.{Line}

@@ -10,8 +10,8 @@ pub use Rattle.std.proofs.lemmas.List.Elements.{All-append, All-contains, All-he
 pub use Rattle.std.proofs.lemmas.List.Elements.{Contains-append_right, Contains-push, Contains-push_cases}
 pub use Rattle.std.proofs.lemmas.Option.{none-some, same_Some, slice_get_read, slice_get_within}
 pub use Rattle.std.specs.Prelude.{All, AllPairs, Contains, IfSome, if◌then◌else◌, is_some, min, slice_get, ◌||◌, ◌≢◌, ◌⊎◌}
-pub use Rattle.configurations.proofs.FrontLemmas.{IsFront-from_order, IsFront-front, IsFront-next, IsFront-nil, IsNext, IsNext-from_front, completed}
-pub use Rattle.configurations.specs.Fronts.{IsFront}
+pub use Rattle.memo.proofs.FrontLemmas.{IsFront-from_order, IsFront-front, IsFront-next, IsFront-nil, IsNext, IsNext-from_front, completed}
+pub use Rattle.memo.specs.Fronts.{IsFront}
 pub use Rattle.events.specs.Keys.{high_key, low_key, may_change}
 pub use Rattle.events.specs.Precedence.{NonePrecedesItself, is_before, is_completed, precedes}
 pub use Rattle.events.specs.declared.event.Call.{Call}
@@ -19,12 +19,12 @@ pub use Rattle.events.specs.declared.event.Call.TheVariants.{Get, Insert, Remove
 pub use Rattle.events.specs.declared.event.Reply.{Reply}
 pub use Rattle.events.specs.declared.operation.Operation.{Operation}
 pub use Rattle.events.specs.declared.operation.Response.{Response}
-pub use Rattle.list_laws.proofs.FilterLemmas.{Contains-filter_map, Contains-from_filter_map}
-pub use Rattle.list_laws.proofs.Lists.{All-at, All-back, All-from_contains, All-front, AllPairs-across, AllPairs-at, AllPairs-back, AllPairs-head}
-pub use Rattle.list_laws.proofs.Lists.{Contains-around, Contains-at, Contains-cases, Contains-first, Contains-later, Contains-nil, Contains-split}
-pub use Rattle.list_laws.proofs.Lists.{place-push, place_before-Contains, place_of-Contains, slice_get-append_left, slice_get-middle}
-pub use Rattle.list_laws.proofs.NumberLemmas.{has_number-Contains, has_number-from_Contains, has_number-push, slice_get-below, some_at}
-pub use Rattle.list_laws.specs.Lists.{has_number}
+pub use Rattle.events.proofs.FilterLemmas.{Contains-filter_map, Contains-from_filter_map}
+pub use Rattle.events.proofs.Lists.{All-at, All-back, All-from_contains, All-front, AllPairs-across, AllPairs-at, AllPairs-back, AllPairs-head}
+pub use Rattle.events.proofs.Lists.{Contains-around, Contains-at, Contains-cases, Contains-first, Contains-later, Contains-nil, Contains-split}
+pub use Rattle.events.proofs.Lists.{place-push, place_before-Contains, place_of-Contains, slice_get-append_left, slice_get-middle}
+pub use Rattle.events.proofs.NumberLemmas.{has_number-Contains, has_number-from_Contains, has_number-push, slice_get-below, some_at}
+pub use Rattle.events.specs.Lists.{has_number}
 pub use Rattle.map_object.proofs.MapLemmas.{AreAbove, AreAbove-above, AreBelow, AreBelow-below, value_at_found, value_at_gap}
 pub use Rattle.map_object.specs.MapObject.{Contents, IsLegalReply, IsRising, above, after, after_reply, below, is_just, put, reply_to, value_at}
 pub use Rattle.map_object.specs.MapObject.{value_reply, within}
@@ -42,7 +42,7 @@ pub use Rattle.quiet_cuts.specs.Values.{IsCallOf, value_behind, value_behind_cal
 pub use Rattle.search.proofs.EarliestLemmas.{IsOrder-from_none, IsOrder-not_yet, preceded_from_earliest}
 pub use Rattle.search.specs.Remaining.{IsEarliestAnswer, RemainsBefore}
 pub use Rattle.search.specs.Standing.{pairs_after}
-pub use Rattle.segments.proofs.RangeLemmas.{IsInside, IsLegalCall-within, IsOutside, value_at-within, within-after_call, within_left_call}
+pub use Rattle.orders.proofs.RangeLemmas.{IsInside, IsLegalCall-within, IsOutside, value_at-within, within-after_call, within_left_call}
 pub use Rattle.call_choices.specs.Dead.{HasListed, IsLeftBy, IsReported, IsStuck, IsUnput, Puts, Reports, StuckCallsAreDeadEnds}
 pub use Rattle.call_choices.specs.FirstKeys.{AllMissOne, AreFirstKeys, AreNextOfOne, BeginsWithOne, Differs, FewKeysGoFirst, HasAnswered, IsCallOfOne}
 pub use Rattle.call_choices.specs.FirstKeys.{IsMissed, IsScanOfOne, MissesOne, OneDiffers}

@@ -9,8 +9,8 @@ use Rattle.call_choices.proofs.Common.{Contains-cases, Contains-at, place_before
 use Rattle.call_choices.proofs.Common.{pairs_after, IsReadNext, places, IsDead, IsDeadAt, AreNext, Closes, Remembers, IsSettled, AreMarked}
 use Rattle.call_choices.proofs.Common.{StandsWith, AreChoices, IsNextOf, IsReduced, HasMoved, IsLooked, IsStep, to_try}
 use Rattle.std.proofs.lemmas.List.{append_assoc}
-use Rattle.configurations.specs.Configurations.{Configuration, LeadsTo, IsReachable}
-use Rattle.configurations.proofs.ConfigurationLemmas.{configuration_of, LeadsTo-nil}
+use Rattle.memo.specs.Configurations.{Configuration, LeadsTo, IsReachable}
+use Rattle.memo.proofs.ConfigurationLemmas.{configuration_of, LeadsTo-nil}
 use Rattle.search.specs.Undo.{undone}
 use Rattle.search.proofs.FutureLemmas.{same_completion}
 use Rattle.call_choices.specs.declared.branch.CallSearch.{CallSearch}

@@ -9,7 +9,7 @@ use Rattle.events.specs.declared.operation.Response.{Response}
 use Rattle.events.specs.Precedence.{NonePrecedesItself}
 use Rattle.map_object.specs.MapObject.{Contents, IsRising, value_at}
 use Rattle.quiet_cuts.specs.Values.{IsCallOf}
-use Rattle.configurations.proofs.FrontLemmas.{IsNext}
+use Rattle.memo.proofs.FrontLemmas.{IsNext}
 use Rattle.search.specs.Remaining.{IsEarliestAnswer}
 use Rattle.search.specs.Standing.{pairs_after}
 use Rattle.call_choices.specs.Dead.{IsLeftBy, HasListed}

@@ -6,7 +6,7 @@ use Rattle.events.specs.Keys.{low_key, high_key}
 use Rattle.events.specs.Precedence.{is_completed}
 use Rattle.map_object.specs.MapObject.{Contents, value_at}
 use Rattle.orders.specs.Orders.{IsLegalCall, after_calls}
-use Rattle.segments.proofs.RangeLemmas.{IsOutside}
+use Rattle.orders.proofs.RangeLemmas.{IsOutside}
 
 -- a pending call that is left, and was not invoked after a place: it may come next where that is
 -- the earliest answer

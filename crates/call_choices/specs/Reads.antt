@@ -6,7 +6,7 @@ use Rattle.events.specs.Precedence.{is_completed}
 use Rattle.events.specs.Told.{is_told}
 use Rattle.map_object.specs.MapObject.{Contents, IsRising}
 use Rattle.orders.specs.Orders.{IsLegalCall, after_call, IsOrder}
-use Rattle.configurations.specs.Fronts.{PrecedesAt}
+use Rattle.memo.specs.Fronts.{PrecedesAt}
 use Rattle.search.specs.Standing.{pairs_after}
 
 -- what is left has an order where these calls lead: they go on to an order of all calls

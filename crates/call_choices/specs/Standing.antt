@@ -4,12 +4,12 @@ use Rattle.std.specs.Prelude.{slice_get}
 use Rattle.std.specs.Prelude.{slice_index_or, slice_set, Contains}
 use Rattle.events.specs.declared.event.Call.{Call}
 use Rattle.events.specs.declared.operation.Operation.{Operation}
-use Rattle.list_laws.specs.Lists.{has_number}
+use Rattle.events.specs.Lists.{has_number}
 use Rattle.map_object.specs.MapObject.{Contents}
 use Rattle.orders.specs.Orders.{IsOrder, IsLinearizable}
-use Rattle.configurations.specs.Fronts.{IsFront}
-use Rattle.configurations.specs.Configurations.{Configuration, LeadsTo, IsReachable}
-use Rattle.configurations.proofs.FrontLemmas.{IsNext}
+use Rattle.memo.specs.Fronts.{IsFront}
+use Rattle.memo.specs.Configurations.{Configuration, LeadsTo, IsReachable}
+use Rattle.memo.proofs.FrontLemmas.{IsNext}
 use Rattle.search.specs.Standing.{pairs_after, IsConfigurationAt}
 use Rattle.search.specs.Undo.{undone}
 use Rattle.call_choices.specs.Reads.{HasOrderAfter}

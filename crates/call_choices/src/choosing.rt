@@ -4,7 +4,7 @@ ghost use Rattle.std.specs.Prelude.{◌↔◌, All, IsTrue, IsSomeAnd, IsPermuta
 ghost use Rattle.events.specs.Precedence.{NonePrecedesItself};
 ghost use Rattle.map_object.specs.MapObject.{Contents, IsRising};
 ghost use Rattle.orders.specs.Orders.{IsOrder};
-ghost use Rattle.configurations.proofs.FrontLemmas.{IsNext};
+ghost use Rattle.memo.proofs.FrontLemmas.{IsNext};
 ghost use Rattle.search.specs.Remaining.{IsEarliestAnswer};
 ghost use Rattle.call_choices.specs.FirstKeys.{IsCallOfOne, AreNextOfOne};
 ghost use Rattle.call_choices.specs.Idle.{IsPassedOver};

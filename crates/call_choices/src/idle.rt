@@ -1,11 +1,11 @@
 // Pending calls that need not be tried in the state of a search.
 ghost use Rattle.std.specs.Prelude.{◌≡◌, ◌↔◌, ◌⊎◌, ℕ, ◌<◌, true, false, length, Some, AllPairs, IsTrue, Contains, slice_get, slice_index_or};
-ghost use Rattle.list_laws.specs.Lists.{has_number};
+ghost use Rattle.events.specs.Lists.{has_number};
 ghost use Rattle.events.specs.declared.operation.Operation.{Operation};
 ghost use Rattle.events.specs.declared.operation.Response.{Response};
 ghost use Rattle.events.specs.Keys.{low_key, high_key};
 ghost use Rattle.map_object.specs.MapObject.{Contents, IsRising, value_at};
-ghost use Rattle.segments.proofs.RangeLemmas.{IsOutside};
+ghost use Rattle.orders.proofs.RangeLemmas.{IsOutside};
 ghost use Rattle.call_choices.specs.Idle.{AreIdle, WaitsForNone, IsDoneNext, IsOpenNext, IsFree, MissesPair, IsMissing};
 ghost use Rattle.call_choices.specs.Standing.{places, StandsBare};
 

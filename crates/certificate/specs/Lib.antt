@@ -1,4 +1,13 @@
-pub mod Faults
-pub mod Laws
+pub mod CacheRecords
+pub mod CacheRecordings
+pub mod CacheValues
+pub mod Finds
+pub mod Lossy
+pub mod CacheLaws
+pub mod FoundAfterOther
+pub mod Tellings
+pub mod PartialLaws
 pub mod Prefix
 pub mod OrderFaults
+pub mod Faults
+pub mod Laws

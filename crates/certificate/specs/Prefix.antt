@@ -1,7 +1,7 @@
 -- What the checker remembers of the numbers so far.
 use Rattle.std.specs.Prelude.{◌≡◌, ℕ, ◌<◌, false, List, length, map, slice_index_or}
 use Rattle.events.specs.declared.operation.Operation.{Operation}
-use Rattle.list_laws.specs.Lists.{greatest, has_number}
+use Rattle.events.specs.Lists.{greatest, has_number}
 use Rattle.map_object.specs.MapObject.{Contents}
 use Rattle.orders.specs.Orders.{IsLegalOrder, after_calls, calls_at}
 use Rattle.certificate.specs.declared.prefix.Prefix.{Prefix}

@@ -17,18 +17,18 @@ pub use Rattle.events.specs.Keys.{high_key, low_key, may_change}
 pub use Rattle.events.specs.Operations.{operations}
 pub use Rattle.events.specs.Precedence.{belongs, is_completed}
 pub use Rattle.events.specs.declared.operation.Operation.{Operation}
-pub use Rattle.list_laws.proofs.FilterLemmas.{AllPairs-from_map, AllPairs-map, AllPairs-weaker, Contains-filter_map, Contains-from_filter_map}
-pub use Rattle.list_laws.proofs.FilterLemmas.{Contains-from_map, Contains-map}
-pub use Rattle.list_laws.proofs.Lists.{All-back, All-from_contains, All-front, AllPairs-at, AllPairs-back, AllPairs-front, AllPairs-head}
-pub use Rattle.list_laws.proofs.Lists.{AllPairs-tail, Contains-at, Contains-cases, Contains-first, Contains-later, Contains-nil}
-pub use Rattle.list_laws.proofs.Lists.{place_before-Contains}
-pub use Rattle.list_laws.proofs.NumberLemmas.{greatest_bound, greatest_is, greatest_more, slice_get-below}
-pub use Rattle.list_laws.specs.Lists.{greatest, least}
+pub use Rattle.events.proofs.FilterLemmas.{AllPairs-from_map, AllPairs-map, AllPairs-weaker, Contains-filter_map, Contains-from_filter_map}
+pub use Rattle.events.proofs.FilterLemmas.{Contains-from_map, Contains-map}
+pub use Rattle.events.proofs.Lists.{All-back, All-from_contains, All-front, AllPairs-at, AllPairs-back, AllPairs-front, AllPairs-head}
+pub use Rattle.events.proofs.Lists.{AllPairs-tail, Contains-at, Contains-cases, Contains-first, Contains-later, Contains-nil}
+pub use Rattle.events.proofs.Lists.{place_before-Contains}
+pub use Rattle.events.proofs.NumberLemmas.{greatest_bound, greatest_is, greatest_more, slice_get-below}
+pub use Rattle.events.specs.Lists.{greatest, least}
 pub use Rattle.map_object.specs.MapObject.{Contents}
 pub use Rattle.orders.specs.Orders.{IsLinearizable, calls_at}
-pub use Rattle.segments.proofs.SegmentViewLemmas.{keys_in_order-operations}
-pub use Rattle.segments.specs.Cuts.{AreTogether, BelongsAt, IsCut, Separates, spans}
-pub use Rattle.segments.specs.SegmentView.{SegmentView, segment_of}
-pub use Rattle.segments.specs.Segments.{AreSegments, IsSegment}
+pub use Rattle.orders.proofs.SegmentViewLemmas.{keys_in_order-operations}
+pub use Rattle.orders.specs.Cuts.{AreTogether, BelongsAt, IsCut, Separates, spans}
+pub use Rattle.orders.specs.SegmentView.{SegmentView, segment_of}
+pub use Rattle.orders.specs.Segments.{AreSegments, IsSegment}
 pub use Rattle.cutter.specs.KeyRanges.{AreApart, AreChained, AreRanges, GoesOver, IsRangeOf, range_with}
 pub use Rattle.cutter.specs.declared.key_range.KeyRange.{KeyRange}

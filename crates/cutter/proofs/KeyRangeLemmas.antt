@@ -5,7 +5,7 @@ use Rattle.cutter.proofs.Common.{map-append, All-push, All-permutation, Contains
 use Rattle.cutter.proofs.Common.{belongs, AllPairs-weaker, AllPairs-from_map, KeyRange, range_with, IsRangeOf, AreRanges}
 use Rattle.std.specs.List.{IsDistinct}
 use Rattle.std.proofs.lemmas.Map.Keys.{IsDistinct-from_apart, apart_from_distinct, IsDistinct-IsPermutation, IsStrictlyIncreasing-from_distinct}
-use Rattle.segments.proofs.BelongingLemmas.{BelongBelow, BelongBelow-take, BelongBelow-skip, BelongBelow-all}
+use Rattle.orders.proofs.BelongingLemmas.{BelongBelow, BelongBelow-take, BelongBelow-skip, BelongBelow-all}
 use Rattle.cutter.proofs.ChainLemmas.{RiseByLow}
 
 -- the numbers of ranges

@@ -5,8 +5,8 @@ use Rattle.cutter.proofs.Common.{IsSegment, AreSegments, AllPairs-head, AllPairs
 use Rattle.cutter.proofs.Common.{Contains-at, slice_get-below, keys_in_order-operations}
 use Rattle.events.specs.HistoryView.{HistoryView}
 use Rattle.events.specs.Histories.{IsHistory}
-use Rattle.list_laws.proofs.RisingLemmas.{rising_unique}
-use Rattle.segments.proofs.SegmentLemmas.{known-IsSegment, IsInside-segment}
+use Rattle.events.proofs.RisingLemmas.{rising_unique}
+use Rattle.orders.proofs.SegmentLemmas.{known-IsSegment, IsInside-segment}
 
 -- no scan has its ends the wrong way round
 abbrev pub KeysInOrder : List Operation → Type 0

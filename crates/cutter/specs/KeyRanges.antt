@@ -4,7 +4,7 @@ use Rattle.events.specs.declared.event.Call.{Call}
 use Rattle.events.specs.declared.operation.Operation.{Operation}
 use Rattle.events.specs.Keys.{low_key, high_key}
 use Rattle.events.specs.Precedence.{belongs}
-use Rattle.segments.specs.Cuts.{BelongsAt}
+use Rattle.orders.specs.Cuts.{BelongsAt}
 use Rattle.cutter.specs.declared.key_range.KeyRange.{KeyRange}
 
 -- the keys of a call with a number

@@ -3,8 +3,8 @@ use Rattle.std.specs.Prelude.{◌≡◌, List}
 use Rattle.events.specs.HistoryView.{HistoryView}
 use Rattle.events.specs.Histories.{IsHistory}
 use Rattle.events.specs.Operations.{operations}
-use Rattle.segments.specs.SegmentView.{SegmentView}
-use Rattle.segments.specs.Segments.{AreSegments}
+use Rattle.orders.specs.SegmentView.{SegmentView}
+use Rattle.orders.specs.Segments.{AreSegments}
 
 -- a history has one list of segments only
 abbrev pub HasOneListOfSegments : Type 0

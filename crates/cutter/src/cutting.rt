@@ -2,13 +2,13 @@
 ghost use Rattle.std.specs.Prelude.{◌≢◌, ◌<◌, ◌≤◌, [], length, take, drop, All, AllPairs, IfOk};
 ghost use Rattle.events.specs.Operations.{operations};
 ghost use Rattle.orders.specs.Orders.{IsLinearizableHistory};
-ghost use Rattle.segments.specs.Segments.{AreSegments};
-ghost use Rattle.segments.specs.SegmentOrders.{HasNoOrder};
+ghost use Rattle.orders.specs.Segments.{AreSegments};
+ghost use Rattle.orders.specs.SegmentOrders.{HasNoOrder};
 ghost use Rattle.cutter.specs.KeyRanges.{AreRanges, AreApart, AreChained};
 
 use crate::key_range::{KeyRange, ranges_by_low_key, rising_numbers};
 use events::{History, Memory};
-use segments::Segment;
+use orders::Segment;
 use std::alloc::Global;
 
 /// Splits the history into segments, by rising key. Pending gets and pending scans are in none. If

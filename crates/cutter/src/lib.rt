@@ -1,7 +1,7 @@
 //! The segments of a recorded history of an ordered map. The calls split between two keys if no
 //! completed scan spans them, and each part is judged separately.
 //!
-//! The definitions of `segments` say what a cut and a segment are.
+//! The definitions of `orders` say what a cut and a segment are.
 #![tactic(auto)]
 
 mod cutting;

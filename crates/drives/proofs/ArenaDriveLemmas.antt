@@ -6,7 +6,7 @@ use Rattle.drives.proofs.Common.{events_of, ends_waiting, HistoryView, Stamped, 
 use Rattle.drives.proofs.Common.{HasFinished, HasStopped, most_calls, Arena, shows, opened_for, setup_with, IsHistoryOf, HoldsAll, IsHandedBack}
 use Rattle.drives.proofs.Common.{IsArenaDriveOf, IsLimited, IsLinearizableIn, HasAnsweredAll, HasStoppedIn, HasDone, HasDoneOwn, WantsMemory}
 use Rattle.art_rows.specs.declared.table.Shape.{Shape}
-use Rattle.art_steps.specs.declared.variant.Variant.{Variant}
+use Rattle.art_rows.specs.declared.variant.Variant.{Variant}
 use Rattle.art_core.specs.Core.{invoked}
 use Rattle.running.specs.declared.group.Pass.{Pass}
 use Rattle.running.specs.declared.fault.ArenaClose.{ArenaClose}

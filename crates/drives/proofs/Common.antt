@@ -19,7 +19,7 @@ pub use Rattle.std.specs.Prelude.{slice_get, slice_index_or, sum}
 pub use Rattle.std.specs.Vec.Iter.{into_iter_items}
 pub use Rattle.art_core.specs.Core.{Invokes, Makes, Responds, after_move, begun, idle, move_of}
 pub use Rattle.art_core.specs.declared.process.Process.{Process}
-pub use Rattle.art_steps.specs.TreeCalls.{is_tree_call}
+pub use Rattle.art_rows.specs.TreeCalls.{is_tree_call}
 pub use Rattle.events.specs.Events.{events_of, is_invocation, process_of}
 pub use Rattle.events.specs.HistoryFaults.{ends_waiting}
 pub use Rattle.events.specs.HistoryView.{HistoryView, with_no_start}
@@ -28,10 +28,10 @@ pub use Rattle.events.specs.declared.event.Event.{Event}
 pub use Rattle.events.specs.declared.event.Event.TheVariants.{Answer, Invoke}
 pub use Rattle.events.specs.declared.event.Reply.{Reply}
 pub use Rattle.events.specs.declared.memory.Memory.{Memory}
-pub use Rattle.list_laws.proofs.Lists.{All-at, filter_all, filter_none}
-pub use Rattle.list_laws.proofs.NumberLemmas.{greatest_bound, greatest_more, slice_get-below}
-pub use Rattle.list_laws.specs.Lists.{greatest}
-pub use Rattle.logs.specs.Logs.{Stamped, by_stamp}
+pub use Rattle.events.proofs.Lists.{All-at, filter_all, filter_none}
+pub use Rattle.events.proofs.NumberLemmas.{greatest_bound, greatest_more, slice_get-below}
+pub use Rattle.events.specs.Lists.{greatest}
+pub use Rattle.events.specs.Logs.{Stamped, by_stamp}
 pub use Rattle.recorder.specs.Passes.{HasRecorded, calls_of, events_by, is_waiting, log_of, process_number}
 pub use Rattle.recorder.specs.Recorders.{HasProcesses, IsPassOf, history_of, processes_of}
 pub use Rattle.recorder.specs.declared.pass.Pass.{Pass}

@@ -9,7 +9,7 @@ use Rattle.drives.proofs.Common.{AreOwn, AnswersFit, HasRecordedScript, IsPassAf
 use Rattle.std.proofs.Common.{nat_lt}
 use Rattle.std.proofs.lemmas.List.Concat.{flat_map-cons}
 use Rattle.std.proofs.lemmas.List.Folds.{list_all-append, list_all-map}
-use Rattle.logs.proofs.MergeLemmas.{all-by_stamp}
+use Rattle.events.proofs.MergeLemmas.{all-by_stamp}
 use Rattle.recorder.specs.declared.recorders.Recorder.{Recorder}
 use Rattle.recorder.specs.Recorders.{HasOwnEvents}
 use Rattle.recorder.specs.Closing.{IsOneOfEach}

@@ -4,8 +4,8 @@ use Rattle.drives.proofs.Common.{None, is_some, append-nil, length-append, map-a
 use Rattle.drives.proofs.Common.{ends_waiting, Stamped, Process, Makes, Responds, begun, move_of, after_move, Setup, View, view, open_move}
 use Rattle.drives.proofs.Common.{moved_first, moved_if, is_open, Ran, alone}
 use Rattle.std.specs.Prelude.{Some}
-use Rattle.art_steps.specs.Steps.{Turn, Asks, Answers}
-use Rattle.art_steps.specs.Act.{act}
+use Rattle.art_rows.specs.Steps.{Turn, Asks, Answers}
+use Rattle.art_rows.specs.Act.{act}
 use Rattle.art_core.specs.Accesses.{told}
 use Rattle.art_core.specs.Core.{invoked}
 

@@ -1,6 +1,6 @@
 -- What is recorded while each process does the calls of a script of its own.
 use Rattle.std.specs.Prelude.{◌≡◌, ℕ, ◌*◌, ◌<◌, ◌≤◌, true, false, List, [], ◌∷◌, ◌++◌, length, map, Some, IfSome, slice_get, All}
-use Rattle.list_laws.specs.Lists.{greatest}
+use Rattle.events.specs.Lists.{greatest}
 use Rattle.events.specs.Limits.{call_limit}
 use Rattle.events.specs.declared.event.Call.{Call}
 use Rattle.events.specs.declared.event.Reply.{Reply}

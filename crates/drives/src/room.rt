@@ -2,7 +2,7 @@
 ghost use Rattle.std.specs.Prelude.{◌≡◌, ◌↔◌, ◌≤◌, IsTrue, map, All, vec_len};
 ghost use Rattle.drives.specs.Drives.{IsDrivable, most_calls};
 
-use art_steps::TreeCall;
+use art_rows::TreeCall;
 use events::MAX_CALLS;
 use plans::Plan;
 

@@ -1,14 +1,14 @@
 // One process does its script.
 ghost use Rattle.std.specs.Prelude.{◌≡◌, ◌<◌, ◌≤◌, ◌++◌, ◌∷◌, [], false, IsTrue, IfOk, OnOk, length, All};
 ghost use Rattle.events.specs.Histories.{has_range, call_count};
-ghost use Rattle.art_steps.specs.TreeCalls.{is_tree_call};
+ghost use Rattle.art_rows.specs.TreeCalls.{is_tree_call};
 ghost use Rattle.recorder.specs.Passes.{process_number, calls_of, log_of, events_by, is_waiting};
 ghost use Rattle.recorder.specs.Recorders.{IsPassOf};
 ghost use Rattle.recorder.specs.declared.fault.RecorderFault.TheVariants as faults;
 ghost use Rattle.drives.specs.Drives.{invoked};
 ghost use Rattle.drives.specs.Passes.{AreOwn, AnswersFit, HasRecordedScript};
 
-use art_steps::TreeCall;
+use art_rows::TreeCall;
 use events::{Call, Memory};
 use recorder::{Pass, Recorder, RecorderFault, Subject};
 

@@ -10,7 +10,7 @@ ghost use Rattle.drives.specs.Passes.{IsReady, IsPassAfter, EachIsAfter, AreAfte
 
 use crate::room::most_calls;
 use crate::script::do_script;
-use art_steps::TreeCall;
+use art_rows::TreeCall;
 use events::{History, Memory};
 use plans::Plan;
 use recorder::{CloseFault, Pass, Recorder, Subject};

@@ -1,3 +1,9 @@
+pub mod Lists
+pub mod FilterLemmas
+pub mod NumberLemmas
+pub mod Places
+pub mod RisingLemmas
+pub mod ZipLemmas
 mod Common
 pub mod HistoryLemmas
 pub mod OperationLemmas
@@ -6,3 +12,6 @@ pub mod TimeLemmas
 pub mod OpenCallLemmas
 pub mod StartLemmas
 pub mod FirstFaultLemmas
+pub mod SortLemmas
+pub mod GrowthLemmas
+pub mod MergeLemmas

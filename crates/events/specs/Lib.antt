@@ -1,3 +1,4 @@
+pub mod Lists
 pub mod Limits
 pub mod Events
 pub mod HistoryView
@@ -11,3 +12,4 @@ pub mod Operations
 pub mod Precedence
 pub mod OpenCalls
 pub mod Laws
+pub mod Logs

@@ -1,5 +1,9 @@
 //! Recorded histories of an ordered map: events, the calls that they make, and which precedes
 //! which.
+//!
+//! Also words and laws of lists that several layers cite.
+//!
+//! Also logs of events with stamps, and the history that they make.
 #![tactic(auto)]
 
 mod event;
@@ -10,6 +14,7 @@ mod memory;
 mod open_calls;
 mod operation;
 mod operations;
+mod stamped;
 mod starts;
 mod turns;
 
@@ -19,6 +24,7 @@ pub use histories::History;
 pub use laws::one_event_fault;
 pub use memory::Memory;
 pub use operation::{Operation, Response};
+pub use stamped::{append_log, history_by_stamp};
 pub use starts::is_above;
 pub use turns::Turns;
 

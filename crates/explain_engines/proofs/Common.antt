@@ -8,6 +8,9 @@ pub use Rattle.std.proofs.lemmas.Option.{none-some, same_Some, slice_get_within}
 pub use Rattle.std.proofs.lemmas.Result.{IfOk-weaker}
 pub use Rattle.std.specs.List.{cons_option, list_any, slice_index_or}
 pub use Rattle.std.specs.Prelude.{All, Contains, IsSomeAnd, IsTrue, is_some, slice_get, slice_index, ◌==◌, ◌||◌, ◌≢◌}
+pub use Rattle.events.proofs.FilterLemmas.{Contains-filter_map, Contains-from_filter_map, Contains-map}
+pub use Rattle.events.proofs.Lists.{All-from_contains, AllPairs-at, Contains-at, Contains-cases, Contains-filter, Contains-first}
+pub use Rattle.events.proofs.Lists.{Contains-from_filter, Contains-later, Contains-nil, place_of-Contains}
 pub use Rattle.events.specs.HistoryView.{HistoryView}
 pub use Rattle.events.specs.Keys.{may_change}
 pub use Rattle.events.specs.Operations.{operations}
@@ -15,31 +18,28 @@ pub use Rattle.events.specs.Precedence.{NonePrecedesItself, belongs, is_complete
 pub use Rattle.events.specs.declared.event.Event.{Event}
 pub use Rattle.events.specs.declared.operation.Operation.{Operation}
 pub use Rattle.events.specs.declared.operation.Response.{Response}
-pub use Rattle.explaining.specs.declared.explanation.Reason.{Reason}
-pub use Rattle.history_engines.proofs.WholeHistories.{IsHistoryRefusal-whole, IsTextOf-whole}
 pub use Rattle.history_text.proofs.WrittenLemmas.{has_float-call, has_float-reply, items_have_float-map}
 pub use Rattle.history_text.specs.Limits.{text_limit}
 pub use Rattle.history_text.specs.Texts.{list_data, pair_data}
-pub use Rattle.list_laws.proofs.FilterLemmas.{Contains-filter_map, Contains-from_filter_map, Contains-map}
-pub use Rattle.list_laws.proofs.Lists.{All-from_contains, AllPairs-at, Contains-at, Contains-cases, Contains-filter, Contains-first}
-pub use Rattle.list_laws.proofs.Lists.{Contains-from_filter, Contains-later, Contains-nil, place_of-Contains}
 pub use Rattle.map_object.specs.MapObject.{Contents, IsLegalReply, after_reply, reply_to, within}
+pub use Rattle.orders.proofs.BelongingLemmas.{BelongsAt-below}
 pub use Rattle.orders.proofs.PlaceLemmas.{All-at_places, Contains-place, IsCompletedAt-place, IsLegalOrder-numbers, at_places, calls_at-at_places}
 pub use Rattle.orders.proofs.PlaceLemmas.{place_of, slice_get-at_place}
+pub use Rattle.orders.proofs.SegmentViewLemmas.{All-calls_at, IsSegmentView-segment_of}
 pub use Rattle.orders.specs.Orders.{IsCompletedAt, IsLegalCall, IsLegalOrder, IsLinearizable, IsOrder, after_call, after_calls, calls_at}
+pub use Rattle.orders.specs.SegmentView.{IsSegmentView, NamesKeysWithin, SegmentView}
+pub use Rattle.search.proofs.LongestLemmas.{as_long_as}
+pub use Rattle.quiet_cuts.specs.Groups.{AreAlike, RangesSuffice, reply_in}
+pub use Rattle.explaining.specs.declared.explanation.Reason.{Reason}
 pub use Rattle.origins.specs.Missed.{missed_by, missed_of}
 pub use Rattle.origins.specs.declared.missing.Missed.{Missed}
 pub use Rattle.outcomes.specs.Lines.{line}
-pub use Rattle.quiet_cuts.specs.Groups.{AreAlike, RangesSuffice, reply_in}
-pub use Rattle.search.proofs.LongestLemmas.{as_long_as}
-pub use Rattle.segments.proofs.BelongingLemmas.{BelongsAt-below}
-pub use Rattle.segments.proofs.SegmentViewLemmas.{All-calls_at, IsSegmentView-segment_of}
-pub use Rattle.segments.specs.SegmentView.{IsSegmentView, NamesKeysWithin, SegmentView}
-pub use Rattle.serde_json.specs.View.{view}
-pub use Rattle.serde_json.specs.Written.{compact_text, has_float}
+pub use Rattle.history_engines.proofs.WholeHistories.{IsHistoryRefusal-whole, IsTextOf-whole}
 pub use Rattle.explain_engines.specs.Answers.{AreFew, AreFewLines, AreHistoryLines, AreOriginLines, IsExplainAnswer}
 pub use Rattle.explain_engines.specs.Fronts.{event_data, front_data, is_preceded, is_taken, left_by, next_of, stuck_data, taken_data, unpreceded}
 pub use Rattle.explain_engines.specs.Laws.{NoFrontIsLonger, NoNextCallIsLegal}
 pub use Rattle.explain_engines.specs.Origins.{origin_data, origin_lines, pair_origin_data, writer_data}
 pub use Rattle.explain_engines.specs.OwnParts.{key_lines, loss_lines}
 pub use Rattle.explain_engines.specs.Reports.{answer_data, kept_data, missed_data, missing_row_data, row_data, rows, was_answered}
+pub use Rattle.serde_json.specs.View.{view}
+pub use Rattle.serde_json.specs.Written.{compact_text, has_float}

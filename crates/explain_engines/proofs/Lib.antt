@@ -1,10 +1,11 @@
+mod WholeLocations
 mod Common
-mod FrontLemmas
 mod LineLemmas
 mod LongestLemmas
 mod OriginLemmas
 mod OutcomeLemmas
 mod RowLemmas
-mod StuckLemmas
+mod FrontLemmas
 mod ValueLemmas
 mod WholeLemmas
+mod StuckLemmas

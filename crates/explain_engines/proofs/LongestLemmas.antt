@@ -3,9 +3,9 @@ use Rattle.explain_engines.proofs.Common.{ℕ, ◌≤◌, List, [], ◌∷◌, �
 use Rattle.explain_engines.proofs.Common.{get_or_default, All-contains, All-weaker, Contains-push_cases, Operation, NonePrecedesItself}
 use Rattle.explain_engines.proofs.Common.{All-from_contains, Contents, as_long_as, NoFrontIsLonger}
 use Rattle.std.proofs.lemmas.List.Quantifiers.{all_pairs_push}
-use Rattle.configurations.specs.Configurations.{Configuration, IsReachable}
-use Rattle.configurations.specs.Counts.{ReachesMoreThan}
-use Rattle.configurations.proofs.ConfigurationLemmas.{LeadsTo-exists}
+use Rattle.memo.specs.Configurations.{Configuration, IsReachable}
+use Rattle.memo.specs.Counts.{ReachesMoreThan}
+use Rattle.memo.proofs.ConfigurationLemmas.{LeadsTo-exists}
 use Rattle.search.specs.LeastCounts.{IsCounted}
 use Rattle.search.specs.LongestFront.{HasMetEnough}
 use Rattle.search.proofs.CountLemmas.{IsReachable-from_counted, counted_within}

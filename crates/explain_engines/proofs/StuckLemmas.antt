@@ -10,7 +10,7 @@ use Rattle.explain_engines.proofs.Common.{at_places, All-at_places, IsSegmentVie
 use Rattle.explain_engines.proofs.Common.{RangesSuffice, as_long_as, is_taken, is_preceded, left_by, next_of, NoNextCallIsLegal}
 use Rattle.events.specs.declared.event.Call.{Call}
 use Rattle.events.specs.declared.event.Reply.{Reply}
-use Rattle.list_laws.proofs.NumberLemmas.{slice_get-below}
+use Rattle.events.proofs.NumberLemmas.{slice_get-below}
 use Rattle.quiet_cuts.specs.TimeCuts.{InvocationsRise}
 use Rattle.explain_engines.proofs.LongestLemmas.{no_front_is_longer}
 use Rattle.explain_engines.proofs.WholeLemmas.{whole_has_no_order, whole_front_goes_on}

@@ -6,12 +6,12 @@ use Rattle.explain_engines.proofs.Common.{precedes, Contains-map, All-from_conta
 use Rattle.explain_engines.proofs.Common.{IsLegalCall, IsLegalOrder, IsCompletedAt, IsOrder, IsLinearizable, at_places, place_of, slice_get-at_place}
 use Rattle.explain_engines.proofs.Common.{calls_at-at_places, IsLegalOrder-numbers, IsCompletedAt-place, Contains-place, SegmentView, NamesKeysWithin}
 use Rattle.explain_engines.proofs.Common.{IsSegmentView, BelongsAt-below, All-calls_at, RangesSuffice}
-use Rattle.configurations.specs.Fronts.{PrecedesAt, IsFront}
-use Rattle.configurations.proofs.FrontLemmas.{IsFront-push}
-use Rattle.segments.specs.Cuts.{BelongsAt}
-use Rattle.segments.specs.SegmentOrders.{HasNoOrder}
-use Rattle.segments.specs.WholeSegments.{IsWholeSegment}
-use Rattle.segments.proofs.RangeLemmas.{IsInside, within-after_call, IsLegalCall-within}
+use Rattle.memo.specs.Fronts.{PrecedesAt, IsFront}
+use Rattle.memo.proofs.FrontLemmas.{IsFront-push}
+use Rattle.orders.specs.Cuts.{BelongsAt}
+use Rattle.orders.specs.SegmentOrders.{HasNoOrder}
+use Rattle.orders.specs.WholeSegments.{IsWholeSegment}
+use Rattle.orders.proofs.RangeLemmas.{IsInside, within-after_call, IsLegalCall-within}
 
 -- a completed call belongs to a segment
 pub completed_belongs : (o : Option Operation) → IsSomeAnd o (λ a. IsTrue (is_completed a)) → IsSomeAnd o (λ a. IsTrue (belongs a))

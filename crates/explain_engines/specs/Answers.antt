@@ -7,8 +7,8 @@ use Rattle.events.specs.Operations.{operations}
 use Rattle.map_object.specs.MapObject.{Contents}
 use Rattle.small_histories.specs.SmallHistories.{AreOfNoHistory, IsSmallHistory, IsWrittenAs, text_of}
 use Rattle.search.specs.LongestFront.{IsLongestFront}
-use Rattle.segments.specs.SegmentView.{SegmentView}
-use Rattle.segments.specs.WholeSegments.{IsWholeSegment}
+use Rattle.orders.specs.SegmentView.{SegmentView}
+use Rattle.orders.specs.WholeSegments.{IsWholeSegment}
 use Rattle.history_text.specs.Limits.{text_limit}
 use Rattle.judge.specs.declared.verdict.Verdict.{Verdict}
 use Rattle.judge.specs.declared.verdict.Verdict.TheVariants.{Yes, No, Undecided}
@@ -23,7 +23,7 @@ use Rattle.locating.specs.Reports.{location_data}
 use Rattle.locating.specs.declared.evidence.Evidence.{Evidence}
 use Rattle.locating.specs.declared.evidence.Evidence.TheVariants.{OfEvents, OfPart, Missing}
 use Rattle.locating.specs.Evidences.{IsEvidenceOf}
-use Rattle.losses.specs.OwnParts.{OwnPart}
+use Rattle.monitor.specs.OwnParts.{OwnPart}
 use Rattle.outcomes.specs.declared.outcome.Answer.{Answer}
 use Rattle.outcomes.specs.Lines.{line}
 use Rattle.history_engines.specs.Answers.{IsTextOf, answer_of}

@@ -5,10 +5,10 @@ use Rattle.events.specs.declared.operation.Operation.{Operation}
 use Rattle.events.specs.Precedence.{NonePrecedesItself, belongs}
 use Rattle.map_object.specs.MapObject.{Contents}
 use Rattle.orders.specs.Orders.{calls_at, after_calls, IsLegalCall}
-use Rattle.configurations.specs.Counts.{ReachesMoreThan}
-use Rattle.configurations.specs.Fronts.{IsFront}
-use Rattle.segments.specs.SegmentOrders.{HasNoOrder}
-use Rattle.segments.specs.SegmentView.{SegmentView}
+use Rattle.memo.specs.Counts.{ReachesMoreThan}
+use Rattle.memo.specs.Fronts.{IsFront}
+use Rattle.orders.specs.SegmentOrders.{HasNoOrder}
+use Rattle.orders.specs.SegmentView.{SegmentView}
 use Rattle.quiet_cuts.specs.TimeCuts.{InvocationsRise}
 use Rattle.search.specs.LongestFront.{IsLongestFront}
 use Rattle.explain_engines.specs.Fronts.{next_of}

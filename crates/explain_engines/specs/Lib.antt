@@ -1,3 +1,5 @@
+pub mod LocationAnswers
+pub mod LocationOutcomes
 pub mod Reports
 pub mod Origins
 pub mod OwnParts

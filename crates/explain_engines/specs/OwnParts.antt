@@ -7,9 +7,9 @@ use Rattle.events.specs.HistoryView.{HistoryView}
 use Rattle.events.specs.declared.event.Event.{Event}
 use Rattle.events.specs.declared.operation.Operation.{Operation}
 use Rattle.history_text.specs.Texts.{number_data}
-use Rattle.losses.specs.OwnParts.{AreOwnLosses, OwnPart}
-use Rattle.losses.specs.declared.lost_keys.KeyLoss.{KeyLoss}
-use Rattle.losses.specs.declared.lost_keys.Origin.{Origin}
+use Rattle.monitor.specs.OwnParts.{AreOwnLosses, OwnPart}
+use Rattle.monitor.specs.declared.lost_keys.KeyLoss.{KeyLoss}
+use Rattle.monitor.specs.declared.lost_keys.Origin.{Origin}
 use Rattle.outcomes.specs.Lines.{line}
 use Rattle.small_histories.specs.Values.{value_data}
 use Rattle.explain_engines.specs.Origins.{writer_data}

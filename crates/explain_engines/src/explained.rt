@@ -18,7 +18,7 @@ ghost use Rattle.outcomes.specs.Outcomes.{IsTextOutcome};
 ghost use Rattle.outcomes.specs.Reads.{IsTextRead};
 ghost use Rattle.outcomes.specs.Runs.{IsRun};
 ghost use Rattle.search.specs.Limits.{budget_limit};
-ghost use Rattle.segments.specs.SegmentOrders.{HasNoOrder};
+ghost use Rattle.orders.specs.SegmentOrders.{HasNoOrder};
 ghost use Rattle.explain_engines.specs.Answers.{IsExplainAnswer, IsExplaining, AreDetails, AreFew, AreEvidenceLines, AreLocated, ArePartLines};
 ghost use Rattle.explain_engines.specs.Outcomes.{IsExplainOutcome};
 
@@ -30,10 +30,10 @@ use history_engines::{answer_of, refused_text};
 use history_text::{MAX_TEXT, read_history};
 use judge::{Verdict, judge_alone, report};
 use locating::{Evidence, evidence_of, locate_from, location_line};
-use losses::OwnPart;
 use map_object::SortedMap;
+use monitor::OwnPart;
+use orders::Segment;
 use outcomes::{Answer, RunOutcome, line_of, run_text};
-use segments::Segment;
 use std::alloc::Global;
 use streams::{Sink, Source};
 

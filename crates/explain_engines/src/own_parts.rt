@@ -8,7 +8,7 @@ ghost use Rattle.explain_engines.specs.OwnParts.{put_data, from_data, key_lines,
 
 use crate::writers::writer_value;
 use events::{Event, History, Memory, Operation};
-use losses::{KeyLoss, Origin, OwnPart, own_losses};
+use monitor::{KeyLoss, Origin, OwnPart, own_losses};
 use outcomes::line_of;
 use serde_json::{Map, Value, put};
 use small_histories::value_or_null;

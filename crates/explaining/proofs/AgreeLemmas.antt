@@ -14,7 +14,7 @@ use Rattle.events.specs.PlainHistories.{is_replace}
 use Rattle.events.specs.Told.{is_told}
 use Rattle.map_object.proofs.MapLemmas.{AreBelow-below, AreAbove-above, value_at_found, value_at_gap}
 use Rattle.map_object.proofs.TellLemmas.{after_reply-answer, tells_answers, whole_from_tells}
-use Rattle.segments.proofs.RangeLemmas.{value_at-within}
+use Rattle.orders.proofs.RangeLemmas.{value_at-within}
 use Rattle.quiet_cuts.specs.Replies.{says_unchanged}
 use Rattle.quiet_cuts.proofs.ReplyLemmas.{unchanged}
 

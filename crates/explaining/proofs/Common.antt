@@ -11,9 +11,9 @@ pub use Rattle.events.specs.Keys.{high_key, low_key, may_change}
 pub use Rattle.events.specs.Precedence.{NonePrecedesItself, belongs, is_before, is_completed, precedes}
 pub use Rattle.events.specs.declared.operation.Operation.{Operation}
 pub use Rattle.events.specs.declared.operation.Response.{Response}
-pub use Rattle.list_laws.proofs.Lists.{All-from_contains, AllPairs-head, AllPairs-nil, AllPairs-tail, Contains-cases, Contains-filter, Contains-first}
-pub use Rattle.list_laws.proofs.Lists.{Contains-from_filter, Contains-later, Contains-nil, length-distinct}
-pub use Rattle.list_laws.specs.Lists.{has_number}
+pub use Rattle.events.proofs.Lists.{All-from_contains, AllPairs-head, AllPairs-nil, AllPairs-tail, Contains-cases, Contains-filter, Contains-first}
+pub use Rattle.events.proofs.Lists.{Contains-from_filter, Contains-later, Contains-nil, length-distinct}
+pub use Rattle.events.specs.Lists.{has_number}
 pub use Rattle.map_object.specs.MapObject.{Contents, IsLegalReply, IsRising, TellsOf, above, after, after_reply, below, is_just, is_none_or_other}
 pub use Rattle.map_object.specs.MapObject.{is_value, misses, put, reply_to, value_at, value_reply}
 pub use Rattle.orders.specs.Orders.{IsLegal, IsLegalCall, IsLinearizable, KeepsPrecedence, after_call, after_calls}

@@ -8,9 +8,9 @@ use Rattle.explaining.proofs.Common.{opened, gone_of, puts_of, is_overwritten, m
 use Rattle.explaining.proofs.Common.{IsCallOf, IsOverwritten, IsLeftOut, IsRelaxed}
 use Rattle.std.specs.Prelude.{◌&&◌}
 use Rattle.std.proofs.lemmas.Option.{none-some, same_Some}
-use Rattle.list_laws.proofs.NumberLemmas.{has_number-Contains}
-use Rattle.list_laws.proofs.FilterLemmas.{AreRelatedAs, AllPairs-filter_map, AllPairs-weaker, AllPairs-map, Contains-filter_map}
-use Rattle.list_laws.proofs.FilterLemmas.{Contains-from_filter_map, Contains-from_map}
+use Rattle.events.proofs.NumberLemmas.{has_number-Contains}
+use Rattle.events.proofs.FilterLemmas.{AreRelatedAs, AllPairs-filter_map, AllPairs-weaker, AllPairs-map, Contains-filter_map}
+use Rattle.events.proofs.FilterLemmas.{Contains-from_filter_map, Contains-from_map}
 use Rattle.explaining.proofs.AnyLemmas.{none_of, any_of, found_any}
 use Rattle.explaining.proofs.AgreeLemmas.{put_none, put_changes}
 use Rattle.explaining.proofs.RelaxedLemmas.{same_place, fewer_precede}

@@ -5,7 +5,7 @@ use Rattle.events.specs.declared.operation.Operation.{Operation}
 use Rattle.events.specs.Precedence.{NonePrecedesItself}
 use Rattle.map_object.specs.MapObject.{Contents}
 use Rattle.orders.specs.Orders.{IsOrder, IsLinearizable}
-use Rattle.configurations.specs.Counts.{ReachesMoreThan}
+use Rattle.memo.specs.Counts.{ReachesMoreThan}
 use Rattle.quiet_cuts.specs.TimeCuts.{InvocationsRise}
 use Rattle.explaining.specs.Rest.{rest_of, are_held}
 use Rattle.explaining.specs.Relaxed.{IsRelaxed}

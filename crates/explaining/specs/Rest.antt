@@ -4,7 +4,7 @@ use Rattle.std.specs.Prelude.{ℕ, ◌&&◌, Bool, not, if◌then◌else◌, Lis
 use Rattle.std.specs.List.{list_any}
 use Rattle.events.specs.declared.operation.Operation.{Operation}
 use Rattle.events.specs.Precedence.{belongs, precedes}
-use Rattle.list_laws.specs.Lists.{has_number}
+use Rattle.events.specs.Lists.{has_number}
 use Rattle.explaining.specs.Tells.{tells_put}
 use Rattle.explaining.specs.Overwriting.{says_put, is_between}
 

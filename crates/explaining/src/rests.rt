@@ -2,7 +2,7 @@
 ghost use Rattle.std.specs.Prelude.{◌≡◌, ◌&&◌, IfOk};
 ghost use Rattle.std.specs.List.{list_any};
 ghost use Rattle.events.specs.Precedence.{precedes};
-ghost use Rattle.list_laws.specs.Lists.{has_number};
+ghost use Rattle.events.specs.Lists.{has_number};
 ghost use Rattle.explaining.specs.Overwriting.{says_put, is_between};
 ghost use Rattle.explaining.specs.Rest.{opened, gone_of, puts_of, is_overwritten, may_tell, is_touched, is_held, if_belongs, left_of};
 ghost use Rattle.explaining.specs.Rest.{rest_of};

@@ -3,7 +3,7 @@ use Rattle.fronts.proofs.Common.{◌≡◌, ℕ, ◌<◌, List, Some, [], ◌∷
 use Rattle.fronts.proofs.Common.{slice_get, All, Contains, take_at, take_more, append_assoc, get_or_default, same_Some, All-head, All-contains}
 use Rattle.fronts.proofs.Common.{Operation, Contents, IsLegalCall, after_calls, calls_at, IsFront, IsNext, IsNext-from_front, pairs_after, All-back}
 use Rattle.fronts.proofs.Common.{AllPairs-across, slice_get-middle, IsClosed}
-use Rattle.list_laws.proofs.Places.{parts_at}
+use Rattle.events.proofs.Places.{parts_at}
 
 -- a front is closed
 pub IsClosed-from_front : (start : Contents) (calls : List Operation) (path : List ℕ) → IsFront start calls path → IsClosed calls path

@@ -8,12 +8,12 @@ pub use Rattle.std.proofs.lemmas.List.Elements.{All-contains, All-head, All-push
 pub use Rattle.std.proofs.lemmas.List.Elements.{Contains-push, Contains-push_cases}
 pub use Rattle.std.proofs.lemmas.Option.{same_Some, slice_get-map, slice_get_read, slice_get_within}
 pub use Rattle.std.specs.Prelude.{All, AllPairs, Contains, IsSomeAnd, IsTrue, is_some, option_map, slice_get, slice_index_or, ◌↔◌, ◌≢◌, ◌⊎◌}
-pub use Rattle.configurations.proofs.FrontLemmas.{IsFront-front, IsFront-next, IsNext, IsNext-from_front, IsOrder-from_front}
-pub use Rattle.configurations.specs.Fronts.{IsFront, PrecedesAt}
+pub use Rattle.memo.proofs.FrontLemmas.{IsFront-front, IsFront-next, IsNext, IsNext-from_front, IsOrder-from_front}
+pub use Rattle.memo.specs.Fronts.{IsFront, PrecedesAt}
 pub use Rattle.events.specs.Precedence.{NonePrecedesItself, is_before, is_completed, precedes}
 pub use Rattle.events.specs.declared.operation.Operation.{Operation}
-pub use Rattle.list_laws.proofs.Lists.{All-at, All-back, All-front, AllPairs-across, AllPairs-at, AllPairs-front, Contains-first, Contains-later}
-pub use Rattle.list_laws.proofs.Lists.{Contains-nil, place-push, slice_get-append_left, slice_get-middle}
+pub use Rattle.events.proofs.Lists.{All-at, All-back, All-front, AllPairs-across, AllPairs-at, AllPairs-front, Contains-first, Contains-later}
+pub use Rattle.events.proofs.Lists.{Contains-nil, place-push, slice_get-append_left, slice_get-middle}
 pub use Rattle.map_object.specs.MapObject.{Contents}
 pub use Rattle.orders.proofs.OrderLemmas.{IsCompletedAt-below, after_calls-push}
 pub use Rattle.orders.specs.Orders.{IsCompletedAt, IsLegalCall, IsOrder, after_call, after_calls, calls_at}

@@ -1,7 +1,7 @@
 -- Lists of calls that are fronts except for their answers.
 use Rattle.std.specs.Prelude.{◌≡◌, ◌≢◌, ℕ, ◌<◌, List, length, Some, slice_get, take, All, AllPairs, Contains}
 use Rattle.events.specs.declared.operation.Operation.{Operation}
-use Rattle.configurations.specs.Fronts.{PrecedesAt}
+use Rattle.memo.specs.Fronts.{PrecedesAt}
 
 -- distinct calls, each after all that precede it
 pub record IsClosed (calls : List Operation) (path : List ℕ) : Type 0 where

@@ -2,7 +2,7 @@
 use Rattle.std.specs.Prelude.{◌≡◌, ℕ, List, [], ◌∷◌, ◌++◌, Option, Some, None, Contains}
 use Rattle.events.specs.declared.operation.Operation.{Operation}
 use Rattle.orders.specs.Orders.{IsCompletedAt}
-use Rattle.configurations.specs.Fronts.{PrecedesAt}
+use Rattle.memo.specs.Fronts.{PrecedesAt}
 
 -- each completed call is in a list
 abbrev pub HasCompleted : List Operation → List ℕ → Type 0

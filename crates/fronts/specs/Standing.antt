@@ -3,7 +3,7 @@ use Rattle.std.specs.Prelude.{◌≡◌, ℕ, ◌<◌, Bool, List, [], ◌∷◌
 use Rattle.events.specs.declared.operation.Operation.{Operation}
 use Rattle.map_object.specs.MapObject.{Contents}
 use Rattle.orders.specs.Orders.{IsCompletedAt, IsOrder}
-use Rattle.configurations.specs.Fronts.{IsFront}
+use Rattle.memo.specs.Fronts.{IsFront}
 use Rattle.search.specs.Standing.{pairs_after}
 use Rattle.search.specs.Undo.{undone}
 use Rattle.call_choices.specs.Standing.{AreMarked}

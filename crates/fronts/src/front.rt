@@ -1,6 +1,6 @@
 // A front of calls.
 ghost use Rattle.std.specs.Prelude.{◌≡◌, ◌↔◌, ◌<◌, ◌≤◌, ◌⊎◌, ℕ, true, false, length, slice_index_or, slice_set, Contains, IsTrue, IfOk, []};
-ghost use Rattle.list_laws.specs.Lists.{has_number};
+ghost use Rattle.events.specs.Lists.{has_number};
 ghost use Rattle.fronts.specs.Standing.{places, Stands};
 
 use events::{Call, Memory, Operation};

@@ -2,8 +2,8 @@
 ghost use Rattle.std.specs.Prelude.{◌≡◌, ◌↔◌, ◌<◌, true, false, length, AllPairs, IsTrue, OnOk, Contains, ℕ};
 ghost use Rattle.events.specs.Precedence.{NonePrecedesItself};
 ghost use Rattle.orders.specs.Orders.{IsCompletedAt};
-ghost use Rattle.configurations.specs.Fronts.{PrecedesAt};
-ghost use Rattle.configurations.proofs.FrontLemmas.{IsNext};
+ghost use Rattle.memo.specs.Fronts.{PrecedesAt};
+ghost use Rattle.memo.proofs.FrontLemmas.{IsNext};
 ghost use Rattle.fronts.specs.Standing.{places, Stands, HasBelow, IsWhole};
 
 use crate::front::Front;

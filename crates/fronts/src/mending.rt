@@ -1,6 +1,6 @@
 // A call that does not fit at the end of a front is put before its last calls.
 ghost use Rattle.std.specs.Prelude.{◌≡◌, ◌<◌, ◌++◌, ◌∷◌, [], ℕ, true, false, List, length, reverse, IfOk, OnOk};
-ghost use Rattle.configurations.specs.Fronts.{PrecedesAt};
+ghost use Rattle.memo.specs.Fronts.{PrecedesAt};
 ghost use Rattle.fronts.specs.Closed.{IsClosed};
 ghost use Rattle.fronts.specs.Mending.{HasCompleted, GoesOn, IsTaken};
 ghost use Rattle.fronts.specs.Standing.{places, Stands, IsWhole};

@@ -1,7 +1,7 @@
 // Calls are pushed to a front, and taken back.
 ghost use Rattle.std.specs.Prelude.{◌≡◌, ◌<◌, ◌++◌, ◌∷◌, [], true, false, length, take, reverse, Contains, IfOk, OnOk};
-ghost use Rattle.configurations.specs.Fronts.{IsFront};
-ghost use Rattle.configurations.proofs.FrontLemmas.{IsNext};
+ghost use Rattle.memo.specs.Fronts.{IsFront};
+ghost use Rattle.memo.proofs.FrontLemmas.{IsNext};
 ghost use Rattle.fronts.specs.Closed.{IsClosed};
 ghost use Rattle.fronts.specs.Mending.{GoesOn};
 ghost use Rattle.fronts.specs.Standing.{places, Stands, IsPopped, IsFromOn};

@@ -11,8 +11,8 @@ use Rattle.outcomes.specs.declared.outcome.Answer.{Answer}
 use Rattle.outcomes.specs.declared.outcome.RunOutcome.{RunOutcome}
 use Rattle.outcomes.specs.declared.outcome.RunOutcome.TheVariants.{Answered, Noted, Refused, Memory, Words, Failed}
 use Rattle.outcomes.specs.Lines.{line}
-use Rattle.answer_hints.specs.Hints.{verdict_hint}
-use Rattle.answer_hints.specs.Outcomes.{IsHintedBy, IsHintedOutcome}
+use Rattle.outcomes.specs.Hints.{verdict_hint}
+use Rattle.outcomes.specs.HintedOutcomes.{IsHintedBy, IsHintedOutcome}
 use Rattle.history_engines.specs.Answers.{IsTextOf, IsHistoryRefusal, IsHintedJudgeAnswer, answer_of}
 
 module _ (budget : ℕ) (text : List ℕ) (history : HistoryView) (verdict : Verdict) (report : List ℕ) (is_text : IsTextOf text history)

@@ -17,7 +17,7 @@ use Rattle.judge.specs.Judged.{IsJudged}
 use Rattle.outcomes.specs.declared.outcome.Answer.{Answer}
 use Rattle.outcomes.specs.declared.outcome.Answer.TheVariants.{Yes, No, Undecided}
 use Rattle.outcomes.specs.Lines.{line, ok_line, order_fault_line}
-use Rattle.answer_hints.specs.Hints.{verdict_hint}
+use Rattle.outcomes.specs.Hints.{verdict_hint}
 use Rattle.history_engines.specs.Refusals.{IsToldFault}
 
 -- the text spells this, and it is a history

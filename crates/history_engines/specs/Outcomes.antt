@@ -3,7 +3,7 @@ use Rattle.std.specs.Prelude.{ℕ, List}
 use Rattle.outcomes.specs.declared.outcome.RunOutcome.{RunOutcome}
 use Rattle.outcomes.specs.Ends.{Change}
 use Rattle.outcomes.specs.Outcomes.{IsReadOutcome}
-use Rattle.answer_hints.specs.Outcomes.{IsHintedRead}
+use Rattle.outcomes.specs.HintedOutcomes.{IsHintedRead}
 use Rattle.history_engines.specs.Answers.{IsHistoryRefusal, IsCheckAnswer, IsHintedJudgeAnswer}
 
 -- the outcome of `check` with this order

@@ -1,7 +1,7 @@
 // `bench judge`: whether the history on the input has an order at all.
 ghost use Rattle.std.specs.Prelude.{◌≡◌, ℕ, ◌<◌, List, Some, IfOk, IfSome, IsOk, string_bytes};
-ghost use Rattle.answer_hints.specs.Hints.{verdict_hint};
-ghost use Rattle.answer_hints.specs.Outcomes.{IsHintedBy, IsHintedOutcome};
+ghost use Rattle.outcomes.specs.Hints.{verdict_hint};
+ghost use Rattle.outcomes.specs.HintedOutcomes.{IsHintedBy, IsHintedOutcome};
 ghost use Rattle.events.specs.Operations.{operations};
 ghost use Rattle.history_engines.specs.Answers.{IsHistoryRefusal, IsHintedJudgeAnswer, IsTextOf, answer_of};
 ghost use Rattle.history_text.specs.Limits.{text_limit};
@@ -16,11 +16,12 @@ ghost use Rattle.outcomes.specs.Runs.{IsRun};
 ghost use Rattle.outcomes.specs.Statuses.{OnAnswerStatus};
 
 use crate::refusals::refused_text;
-use answer_hints::{hinted_no, hinted_undecided, hinted_yes, overlap_of};
 use events::{History, Memory};
 use history_text::{MAX_TEXT, read_history};
 use judge::{Judge, Verdict, report};
-use outcomes::{Answer, RunOutcome, line_of, run_text};
+use outcomes::{
+    Answer, RunOutcome, hinted_no, hinted_undecided, hinted_yes, line_of, overlap_of, run_text,
+};
 use std::alloc::{AllocError, Global};
 use streams::{Sink, Source};
 

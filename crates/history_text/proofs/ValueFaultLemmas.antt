@@ -8,7 +8,7 @@ use Rattle.history_text.proofs.Common.{has_open_call, fault_after, IsRefusedAfte
 use Rattle.history_text.proofs.Common.{pair_data, IsEventData, SpellEvents, may_stand, IsPairFaultAfter, AreEventsOfText, IsValueFault}
 use Rattle.history_text.proofs.Common.{IsPairValueFault, ShowsPairFaultAmong, IsPairFaultAmong, ShowsFaultAmong, IsFaultAmong}
 use Rattle.events.specs.Events.{process_of}
-use Rattle.list_laws.proofs.Places.{parts_at}
+use Rattle.events.proofs.Places.{parts_at}
 use Rattle.history_text.proofs.SplitLemmas.{same_length, spelled_more}
 use Rattle.history_text.proofs.TextLemmas.{pair_data_injective}
 

@@ -9,15 +9,15 @@ pub use Rattle.std.specs.Prelude.{All, Contains, slice_get, ◌≢◌, ◌⊎◌
 pub use Rattle.events.specs.Operations.{operations}
 pub use Rattle.events.specs.declared.operation.Operation.{Operation}
 pub use Rattle.history_text.specs.Texts.{list_data, number_data}
-pub use Rattle.list_laws.proofs.Lists.{Contains-first, Contains-later, length-distinct, length-distinct_below}
+pub use Rattle.events.proofs.Lists.{Contains-first, Contains-later, length-distinct, length-distinct_below}
 pub use Rattle.map_object.specs.MapObject.{Contents}
 pub use Rattle.orders.specs.Orders.{IsLinearizable, IsOrder, after_calls, calls_at}
 pub use Rattle.search.specs.Exact.{IsExactAnswer}
 pub use Rattle.search.specs.declared.found.Found.{Found}
 pub use Rattle.search.specs.declared.found.Found.TheVariants.{NoOrder, Order, Spent}
-pub use Rattle.segments.specs.SegmentOrders.{HasNoOrder, IsOrderOf, numbers_at}
-pub use Rattle.segments.specs.SegmentView.{SegmentView}
-pub use Rattle.segments.specs.Segments.{AreSegments, IsSegment}
+pub use Rattle.orders.specs.SegmentOrders.{HasNoOrder, IsOrderOf, numbers_at}
+pub use Rattle.orders.specs.SegmentView.{SegmentView}
+pub use Rattle.orders.specs.Segments.{AreSegments, IsSegment}
 pub use Rattle.serde_json.specs.View.{items_of, view}
 pub use Rattle.serde_json.specs.Written.{compact_text, has_float, items_have_float}
 pub use Rattle.judge.specs.Answers.{IsFirstAt, orders_in}

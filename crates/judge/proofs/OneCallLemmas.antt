@@ -2,10 +2,10 @@
 use Rattle.judge.proofs.Common.{◌≡◌, ℕ, ◌<◌, ◌≤◌, List, ◌∷◌, ◌++◌, length, ap, arith, ◌≢◌, All-contains, Contains-append_right, Operation, Contents}
 use Rattle.judge.proofs.Common.{SegmentView, IsSegment, length-distinct_below, Contains-first, ShowsUndecided}
 use Rattle.std.proofs.lemmas.List.Kept.{AllPairs-from_increasing}
-use Rattle.list_laws.proofs.FilterLemmas.{AllPairs-weaker}
+use Rattle.events.proofs.FilterLemmas.{AllPairs-weaker}
 use Rattle.judge.proofs.ReachedLemmas.{reached_by_one_call}
 use Rattle.orders.proofs.CallsAtLemmas.{length-calls_at}
-use Rattle.segments.proofs.SegmentLemmas.{known-IsSegment, calls-IsSegment}
+use Rattle.orders.proofs.SegmentLemmas.{known-IsSegment, calls-IsSegment}
 
 -- a segment has no more calls than the history
 length-segment_le : (start : Contents) (calls : List Operation) (segment : SegmentView) → IsSegment start calls segment

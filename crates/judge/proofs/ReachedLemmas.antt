@@ -2,10 +2,10 @@
 use Rattle.judge.proofs.Common.{◌≡◌, ℕ, ◌<◌, ◌≤◌, List, [], ◌∷◌, length, refl, ap, subst, inl, inr, ⊎_elim, arith, ◌⊎◌, All, Contains, All-weaker}
 use Rattle.judge.proofs.Common.{All-head, Operation, Contents, calls_at, after_calls, Contains-first, Contains-later, length-distinct}
 use Rattle.judge.proofs.Common.{length-distinct_below}
-use Rattle.configurations.specs.Fronts.{IsFront}
-use Rattle.configurations.specs.Configurations.{Configuration, LeadsTo, IsReachable}
-use Rattle.configurations.specs.Counts.{ReachesMoreThan}
-use Rattle.configurations.proofs.ConfigurationLemmas.{configuration_of, configuration_unique, LeadsTo-nil}
+use Rattle.memo.specs.Fronts.{IsFront}
+use Rattle.memo.specs.Configurations.{Configuration, LeadsTo, IsReachable}
+use Rattle.memo.specs.Counts.{ReachesMoreThan}
+use Rattle.memo.proofs.ConfigurationLemmas.{configuration_of, configuration_unique, LeadsTo-nil}
 
 -- at most one number below one
 short_cases : (front : List ℕ) → length front ≤ 1 → All (λ n. n < 1) front → (front ≡ []) ⊎ (front ≡ 0 ∷ [])

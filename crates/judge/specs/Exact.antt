@@ -3,9 +3,9 @@ use Rattle.std.specs.Prelude.{◌≡◌, ◌⊎◌, ℕ, List, ◌∷◌, ◌++�
 use Rattle.std.specs.List.{AllZip}
 use Rattle.events.specs.declared.operation.Operation.{Operation}
 use Rattle.map_object.specs.MapObject.{Contents}
-use Rattle.segments.specs.SegmentView.{SegmentView}
-use Rattle.segments.specs.Segments.{AreSegments}
-use Rattle.segments.specs.SegmentOrders.{HasNoOrder}
+use Rattle.orders.specs.SegmentView.{SegmentView}
+use Rattle.orders.specs.Segments.{AreSegments}
+use Rattle.orders.specs.SegmentOrders.{HasNoOrder}
 use Rattle.merge_orders.specs.Merge.{IsMergedOrder}
 use Rattle.search.specs.Exact.{IsLeastOrderOf, CountIsWithinOf, CountIsAboveOf}
 use Rattle.judge.specs.declared.verdict.Verdict.{Verdict}

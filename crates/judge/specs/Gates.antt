@@ -4,8 +4,8 @@ use Rattle.events.specs.HistoryView.{HistoryView}
 use Rattle.events.specs.Histories.{IsHistory}
 use Rattle.events.specs.Operations.{operations}
 use Rattle.history_text.specs.Texts.{Spells}
-use Rattle.segments.specs.SegmentView.{SegmentView}
-use Rattle.segments.specs.Segments.{AreSegments}
+use Rattle.orders.specs.SegmentView.{SegmentView}
+use Rattle.orders.specs.Segments.{AreSegments}
 
 -- the gate was passed for each segment of the history
 pub record WasPassedForEach (WasPassed : ℕ → Type 0) (history : HistoryView) : Type 0 where

@@ -2,7 +2,7 @@
 use Rattle.std.specs.Prelude.{◌≡◌, ℕ, ◌≤◌, List, length}
 use Rattle.events.specs.declared.operation.Operation.{Operation}
 use Rattle.map_object.specs.MapObject.{Contents}
-use Rattle.segments.specs.SegmentView.{SegmentView}
+use Rattle.orders.specs.SegmentView.{SegmentView}
 use Rattle.events.specs.HistoryView.{HistoryView}
 use Rattle.events.specs.Histories.{IsHistory}
 use Rattle.events.specs.Operations.{operations}

@@ -2,7 +2,7 @@
 use Rattle.std.specs.Prelude.{ℕ, List, map, codes}
 use Rattle.serde_json.specs.Data.{Data, string, object, no_members, member}
 use Rattle.history_text.specs.Texts.{number_data, list_data}
-use Rattle.segments.specs.SegmentView.{SegmentView}
+use Rattle.orders.specs.SegmentView.{SegmentView}
 use Rattle.judge.specs.declared.verdict.Verdict.{Verdict}
 use Rattle.judge.specs.declared.verdict.Verdict.TheVariants.{Yes, No, Undecided}
 

@@ -5,11 +5,11 @@ use Rattle.std.specs.List.{AllZip}
 use Rattle.events.specs.declared.operation.Operation.{Operation}
 use Rattle.map_object.specs.MapObject.{Contents}
 use Rattle.orders.specs.Orders.{IsOrder, IsLinearizable}
-use Rattle.segments.specs.SegmentView.{SegmentView}
-use Rattle.segments.specs.Segments.{AreSegments}
-use Rattle.segments.specs.SegmentOrders.{IsOrderOf, HasNoOrder}
+use Rattle.orders.specs.SegmentView.{SegmentView}
+use Rattle.orders.specs.Segments.{AreSegments}
+use Rattle.orders.specs.SegmentOrders.{IsOrderOf, HasNoOrder}
 use Rattle.merge_orders.specs.Merge.{IsMergedOrder}
-use Rattle.configurations.specs.Counts.{ReachesMoreThan}
+use Rattle.memo.specs.Counts.{ReachesMoreThan}
 
 -- the calls of the segment have an order
 abbrev pub HasOrder : SegmentView → Type 0

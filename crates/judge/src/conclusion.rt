@@ -3,8 +3,8 @@ ghost use Rattle.std.specs.Prelude.{◌≡◌, ◌≢◌, ◌<◌, length, map, 
 ghost use Rattle.std.specs.List.{AllZip};
 ghost use Rattle.events.specs.Operations.{operations};
 ghost use Rattle.orders.specs.Orders.{IsLinearizable, IsOrderOfHistory};
-ghost use Rattle.segments.specs.Segments.{AreSegments};
-ghost use Rattle.segments.specs.SegmentOrders.{HasNoOrder};
+ghost use Rattle.orders.specs.Segments.{AreSegments};
+ghost use Rattle.orders.specs.SegmentOrders.{HasNoOrder};
 ghost use Rattle.search.specs.Exact.{IsExactAnswer};
 ghost use Rattle.search.specs.declared.found.Found.TheVariants.{NoOrder, Spent};
 ghost use Rattle.merge_orders.specs.Merge.{IsMergedOrder};
@@ -16,8 +16,8 @@ ghost use Rattle.judge.specs.Exact.{IsExactVerdict};
 use crate::verdict::Verdict;
 use events::{History, Memory};
 use merge_orders::merge;
+use orders::Segment;
 use search::Found;
-use segments::Segment;
 use std::alloc::Global;
 
 /// Returns the verdict on a history whose segments have these answers at the budget. It is no if a

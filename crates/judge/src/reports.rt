@@ -7,7 +7,7 @@ ghost use Rattle.judge.specs.Reports.{numbers_data, segment_data, verdict_data};
 
 use crate::verdict::Verdict;
 use events::Memory;
-use segments::Segment;
+use orders::Segment;
 use serde_json::{Map, Value, put};
 use std::alloc::{AllocError, Global};
 

@@ -1,5 +1,5 @@
 // Verdicts on a history.
-use segments::Segment;
+use orders::Segment;
 
 /// What the judge found out about a history.
 pub enum Verdict {

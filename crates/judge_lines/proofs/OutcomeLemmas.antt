@@ -6,7 +6,7 @@ use Rattle.command_line.specs.declared.line.Line.TheVariants.{Check, Judge, Loca
 use Rattle.outcomes.specs.declared.outcome.RunOutcome.{RunOutcome}
 use Rattle.outcomes.specs.Ends.{Change}
 use Rattle.history_engines.specs.Answers.{IsCheckAnswer, IsHistoryRefusal, IsHintedJudgeAnswer}
-use Rattle.location_engines.specs.Answers.{IsLocateAnswerWith}
+use Rattle.explain_engines.specs.LocationAnswers.{IsLocateAnswerWith}
 use Rattle.explain_engines.specs.Answers.{IsExplainAnswer}
 use Rattle.picture_engines.specs.Drawings.{IsViewAnswer}
 use Rattle.page_engines.specs.Answers.{IsPageAnswer}

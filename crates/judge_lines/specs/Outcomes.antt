@@ -6,7 +6,7 @@ use Rattle.outcomes.specs.declared.outcome.RunOutcome.{RunOutcome}
 use Rattle.outcomes.specs.Ends.{Change, IsUnused}
 use Rattle.outcomes.specs.Lines.{line}
 use Rattle.history_engines.specs.Outcomes.{IsCheckOutcome, IsJudgeOutcome}
-use Rattle.location_engines.specs.Outcomes.{IsLocateOutcome}
+use Rattle.explain_engines.specs.LocationOutcomes.{IsLocateOutcome}
 use Rattle.explain_engines.specs.Outcomes.{IsExplainOutcome}
 use Rattle.picture_engines.specs.Outcomes.{IsDrawOutcome}
 use Rattle.page_engines.specs.Outcomes.{IsPageOutcome}

@@ -10,11 +10,10 @@ ghost use Rattle.judge_lines.specs.Outcomes.{IsJudgeLineOutcome};
 
 use command_line::Line;
 use events::History;
-use explain_engines::run_explain;
+use explain_engines::{run_explain, run_locate};
 use history_engines::{run_check, run_judge};
 use judge::{ByCalls, judge};
 use line_outcomes::elsewhere_outcome;
-use location_engines::run_locate;
 use outcomes::write_outcome;
 use page_engines::run_page;
 use picture_engines::{View, run_draw};

@@ -2,15 +2,15 @@
 // turn at a time.
 ghost use Rattle.std.specs.Prelude.{map, IfOk};
 ghost use Rattle.std.specs.List.{AllZip};
-ghost use Rattle.segments.specs.SegmentOrders.{IsOrderOf};
+ghost use Rattle.orders.specs.SegmentOrders.{IsOrderOf};
 
 use crate::worked::{TWO_KEYS, gets};
 use cutter::cut;
 use events::{History, MAX_CALLS};
 use history_text::read_history;
 use merge_orders::merge;
+use orders::Segment;
 use search::{Found, Turn, Walk, search};
-use segments::Segment;
 use std::alloc::Global;
 use std::test::Fail;
 

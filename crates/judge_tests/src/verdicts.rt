@@ -10,9 +10,9 @@ use judge::{
     Judge, JudgeFault, MAX_BUDGET, OneThread, Verdict, judge_alone, judge_text, judge_text_by,
     report,
 };
+use orders::Segment;
 use pool::{MAX_WORKERS, OpenGate, search_all, search_alone};
 use search::Found;
-use segments::Segment;
 use std::alloc::Global;
 use std::process::Abort;
 use std::test::Fail;

@@ -6,12 +6,12 @@ pub use Rattle.std.proofs.lemmas.List.Elements.{All-append, All-contains, All-he
 pub use Rattle.std.proofs.lemmas.List.Elements.{Contains-push, Contains-push_cases}
 pub use Rattle.std.proofs.lemmas.Option.{get_or_from_slice_get, slice_get-get_or, slice_get_read}
 pub use Rattle.std.specs.Prelude.{All, AllPairs, Contains, IsSomeAnd, IsTrue, map, slice_get, slice_index, ◌↔◌, ◌≢◌}
-pub use Rattle.configurations.proofs.FrontLemmas.{IsFront-from_order, IsLegalOrder-from_front}
+pub use Rattle.memo.proofs.FrontLemmas.{IsFront-from_order, IsLegalOrder-from_front}
 pub use Rattle.events.specs.Precedence.{NonePrecedesItself, is_completed, precedes}
 pub use Rattle.events.specs.declared.operation.Operation.{Operation}
 pub use Rattle.fronts.specs.Standing.{HasBelow, Stands, places}
-pub use Rattle.list_laws.proofs.Lists.{All-at, All-from_contains, AllPairs-append, AllPairs-at, AllPairs-from_at, AllPairs-nil, Contains-at}
-pub use Rattle.list_laws.proofs.Lists.{Contains-nil, place_before-Contains, place_of-Contains}
+pub use Rattle.events.proofs.Lists.{All-at, All-from_contains, AllPairs-append, AllPairs-at, AllPairs-from_at, AllPairs-nil, Contains-at}
+pub use Rattle.events.proofs.Lists.{Contains-nil, place_before-Contains, place_of-Contains}
 pub use Rattle.orders.proofs.OrderLemmas.{IsCompletedAt-below, IsLegal-append, calls_at-append, calls_at-more}
 pub use Rattle.orders.specs.Orders.{IsCompletedAt, IsLegal, IsOrder, KeepsPrecedence, after_calls, calls_at}
 pub use Rattle.kept_fronts.specs.Searching.{AreLeft}

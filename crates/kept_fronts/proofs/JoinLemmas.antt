@@ -7,13 +7,13 @@ use Rattle.kept_fronts.proofs.Common.{NonePrecedesItself, calls_at, IsLegal, Kee
 use Rattle.kept_fronts.proofs.Common.{calls_at-append, IsCompletedAt-below, IsLegalOrder-from_front, AllPairs-append, AllPairs-at, AllPairs-from_at}
 use Rattle.kept_fronts.proofs.Common.{All-at, All-from_contains, Contains-at, place_of-Contains, place_before-Contains, AreLeft}
 use Rattle.map_object.specs.MapObject.{Contents}
-use Rattle.configurations.specs.Fronts.{IsFront}
+use Rattle.memo.specs.Fronts.{IsFront}
 use Rattle.search.specs.Standing.{pairs_after}
-use Rattle.list_laws.proofs.NumberLemmas.{has_number-Contains, has_number-from_Contains}
+use Rattle.events.proofs.NumberLemmas.{has_number-Contains, has_number-from_Contains}
 use Rattle.std.specs.List.{cons_option}
 use Rattle.orders.proofs.CallsAtLemmas.{slice_get-calls_at, length-calls_at, number_at}
-use Rattle.list_laws.specs.Lists.{has_number}
-use Rattle.list_laws.proofs.FilterLemmas.{AllPairs-weaker, AllPairs-map, Contains-map, Contains-from_map}
+use Rattle.events.specs.Lists.{has_number}
+use Rattle.events.proofs.FilterLemmas.{AllPairs-weaker, AllPairs-map, Contains-map, Contains-from_map}
 
 -- what is in the beginning of a list is in the list
 Contains-from_take : (xs : List ℕ) (i n : ℕ) → Contains (take i xs) n → Contains xs n

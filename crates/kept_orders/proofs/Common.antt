@@ -14,8 +14,8 @@ pub use Rattle.std.proofs.lemmas.Option.{slice_get_within}
 pub use Rattle.std.specs.List.{AllWithin, cons_option, insert}
 pub use Rattle.std.specs.Prelude.{All, AllPairs, Contains, IfOk, IsSomeAnd, IsTrue, cond, is_some, option_map, slice_get, ◌^◌, ◌≢◌, ◌⊎◌}
 pub use Rattle.call_choices.specs.Standing.{AreMarked}
-pub use Rattle.configurations.proofs.FrontLemmas.{IsCompletedAt-from_PrecedesAt, IsFront-from_order, IsOrder-from_front, completed}
-pub use Rattle.configurations.specs.Fronts.{IsFront, PrecedesAt}
+pub use Rattle.memo.proofs.FrontLemmas.{IsCompletedAt-from_PrecedesAt, IsFront-from_order, IsOrder-from_front, completed}
+pub use Rattle.memo.specs.Fronts.{IsFront, PrecedesAt}
 pub use Rattle.events.specs.Precedence.{NonePrecedesItself, is_before, is_completed, precedes}
 pub use Rattle.events.specs.declared.operation.Operation.{Operation}
 pub use Rattle.events.specs.declared.operation.Response.{Response}
@@ -26,12 +26,12 @@ pub use Rattle.fronts.specs.Standing.{IsFromOn, IsUndone, IsWhole, Stands, Stand
 pub use Rattle.fronts.specs.declared.front.Front.{Front}
 pub use Rattle.fronts.specs.declared.front.Level.{Level}
 pub use Rattle.kept_fronts.specs.Searching.{AreCalls}
-pub use Rattle.list_laws.proofs.FilterLemmas.{AllPairs-map, AllPairs-weaker, Contains-from_map, Contains-map}
-pub use Rattle.list_laws.proofs.Lists.{All-at, All-back, All-from_contains, All-front, AllPairs-at, AllPairs-from_at, Contains-at, Contains-first}
-pub use Rattle.list_laws.proofs.Lists.{Contains-later, place-push, place_before-Contains, place_of-Contains, slice_get-append_left, slice_get-middle}
-pub use Rattle.list_laws.proofs.Lists.{slice_get-take}
-pub use Rattle.list_laws.proofs.NumberLemmas.{has_number-Contains, has_number-from_Contains, slice_get-below, some_at}
-pub use Rattle.list_laws.specs.Lists.{has_number}
+pub use Rattle.events.proofs.FilterLemmas.{AllPairs-map, AllPairs-weaker, Contains-from_map, Contains-map}
+pub use Rattle.events.proofs.Lists.{All-at, All-back, All-from_contains, All-front, AllPairs-at, AllPairs-from_at, Contains-at, Contains-first}
+pub use Rattle.events.proofs.Lists.{Contains-later, place-push, place_before-Contains, place_of-Contains, slice_get-append_left, slice_get-middle}
+pub use Rattle.events.proofs.Lists.{slice_get-take}
+pub use Rattle.events.proofs.NumberLemmas.{has_number-Contains, has_number-from_Contains, slice_get-below, some_at}
+pub use Rattle.events.specs.Lists.{has_number}
 pub use Rattle.map_object.specs.MapObject.{Contents}
 pub use Rattle.orders.specs.Orders.{IsCompletedAt, IsLegal, IsLinearizable, IsOrder, after_calls, calls_at}
 pub use Rattle.search.specs.Undo.{undone}

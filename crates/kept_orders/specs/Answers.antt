@@ -3,7 +3,7 @@ use Rattle.std.specs.Prelude.{◌≡◌, ℕ, List}
 use Rattle.events.specs.declared.operation.Operation.{Operation}
 use Rattle.map_object.specs.MapObject.{Contents}
 use Rattle.orders.specs.Orders.{IsOrder, IsLinearizable}
-use Rattle.configurations.specs.Counts.{ReachesMoreThan}
+use Rattle.memo.specs.Counts.{ReachesMoreThan}
 use Rattle.kept_orders.specs.Views.{KeptOrderView, HasCome}
 use Rattle.kept_orders.specs.declared.kept.Kept.{Kept}
 use Rattle.kept_orders.specs.declared.kept.Kept.TheVariants.{Order, NoOrder, Spent}

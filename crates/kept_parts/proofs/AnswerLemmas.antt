@@ -1,14 +1,17 @@
 -- Parts that are kept, as calls are answered. `all_become`: the pasts of the first part become
 -- others, each on its own.
 use Rattle.kept_parts.proofs.Common.{◌≡◌, ℕ, suc, ◌<◌, true, false, not, List, [], ◌∷◌, ◌++◌, map, Option, None, Some, append-nil, inl, inr, sym, ap}
+use Rattle.kept_parts.proofs.DropLemmas.{pasts_in_any_order}
+use Rattle.kept_parts.proofs.OnePastLemmas.{taken_concerns}
+use Rattle.kept_parts.proofs.PastEventLemmas.{answered_calls_are_kept, answered_reads_are_kept, others_are_answered, refused_calls_are_not_kept}
+use Rattle.kept_parts.proofs.TakenLemmas.{taken_calls_agree, taken_calls_disagree}
 use Rattle.kept_parts.proofs.Common.{◌∙◌, subst, ⊎_elim, arith, ◌≢◌, AllPairs, Contains, AllZip, and_parts, append_assoc, All-nil, All-cons, All-head}
 use Rattle.kept_parts.proofs.Common.{All-tail, All-append, All-weaker, All-contains, Contains-append_left, Contains-append_right}
 use Rattle.kept_parts.proofs.Common.{Contains-append_cases, none-some, AllPairs-weaker, All-from_contains, Contains-around, Operation, Response}
 use Rattle.kept_parts.proofs.Common.{low_key, may_change, Contents, value_at, KeyedCall, concerns_key, is_refusal, keyed, AreKeyedCalls, HasForm}
 use Rattle.kept_parts.proofs.Common.{Choice, Keys, AreApart, same_call, Part, StandFor, HasSomeKeyIn, HasKeysIn, HasNoKeyIn, answered, not_both}
-use Rattle.kept_parts.proofs.Common.{beside, middle, differ, KeptPast, FoundAt, IsPast, IsLeftOrFound, pasts_in_any_order, answered_calls_are_kept}
-use Rattle.kept_parts.proofs.Common.{answered_reads_are_kept, others_are_answered, refused_calls_are_not_kept, taken_concerns, taken_calls_agree}
-use Rattle.kept_parts.proofs.Common.{taken_calls_disagree, KeptPart, AreCallsBefore, IsOfCalls, IsOwn, IsKeptAs, ChangesAreAnswered, ReadsAreAnswered}
+use Rattle.kept_parts.proofs.Common.{beside, middle, differ, KeptPast, FoundAt, IsPast, IsLeftOrFound}
+use Rattle.kept_parts.proofs.Common.{KeptPart, AreCallsBefore, IsOfCalls, IsOwn, IsKeptAs, ChangesAreAnswered, ReadsAreAnswered}
 use Rattle.kept_parts.proofs.Common.{IsLeftWithAnswer, IsLeftNoMore, FoundAsAnswered, FoundOtherwise, IsAfterAnswer, AreAfterAnswer, IsWithRead}
 use Rattle.kept_parts.proofs.CallLemmas.{one_key_of, form_of, has_low_key, calls_answered, keyed_around}
 use Rattle.kept_parts.proofs.PartLemmas.{keys_in, no_key_in, IsKeptFirst, first_of, from_first, others_apart, stand_after, IsKeptPast, AreKeptPasts}

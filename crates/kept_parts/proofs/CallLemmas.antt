@@ -2,6 +2,7 @@
 -- its kind: `reads_leave`, `one_key_of`, `own_key_of`, `form_of`.
 use Rattle.events.specs.declared.event.Reply.TheVariants as replies
 use Rattle.kept_parts.proofs.Common.{◌≡◌, ℕ, suc, ◌<◌, ◌≤◌, ◌==◌, ◌&&◌, nat_le, nat_lt, Bool, true, false, cond, List, [], ◌∷◌, ◌++◌, map, Option}
+use Rattle.kept_parts.proofs.OnePastLemmas.{one_key}
 use Rattle.kept_parts.proofs.Common.{None, Some, inl, inr, refl, sym, ap, ◌∙◌, subst, ⊎_elim, arith, ◌≢◌, ◌⊎◌, All, AllPairs, Contains, eq-eqb}
 use Rattle.kept_parts.proofs.Common.{leb-true, le-leb, ltb-true, and_parts, and_from, false_from_ne_true, map-append, All-nil, All-cons, All-contains}
 use Rattle.kept_parts.proofs.Common.{Contains-append_left, Contains-append_cases, AllPairs-cons, none-some, same_Some, AllPairs-map}
@@ -9,12 +10,12 @@ use Rattle.kept_parts.proofs.Common.{AllPairs-from_map, AllPairs-weaker, Contain
 use Rattle.kept_parts.proofs.Common.{All-from_contains, Contains-nil, Contains-cases, Contains-around, Operation, Response, low_key, high_key}
 use Rattle.kept_parts.proofs.Common.{may_change, Contents, value_at, after, after_call, after_call_cases, KeyedCall, IsFormed, no_effect}
 use Rattle.kept_parts.proofs.Common.{point_effect, effect_of_key, told_effect, read_of, effect_at, concerns_key, place_of, is_refusal, keyed}
-use Rattle.kept_parts.proofs.Common.{precedes, AreDistinct, HasForm, IsRead, formed, open_fits, answered, beside, middle, one_key, AreCallsBefore}
+use Rattle.kept_parts.proofs.Common.{precedes, AreDistinct, HasForm, IsRead, formed, open_fits, answered, beside, middle, AreCallsBefore}
 use Rattle.events.specs.declared.event.Call.{Call}
 use Rattle.events.specs.declared.event.Call.TheVariants.{Get, Insert, Remove, Scan, Replace}
 use Rattle.events.specs.declared.event.Reply.{Reply}
 use Rattle.quiet_cuts.specs.Values.{value_behind, value_behind_reply}
-use Rattle.key_effects.specs.Growth.{LeaveTheSame, IsLater, HaveGrown}
+use Rattle.key_parts.specs.Growth.{LeaveTheSame, IsLater, HaveGrown}
 
 -- ---- kinds of calls
 

@@ -1,9 +1,10 @@
 -- Parts that are kept before any event, and as calls begin.
 use Rattle.kept_parts.proofs.Common.{◌≡◌, ℕ, suc, ◌<◌, true, false, List, [], ◌∷◌, ◌++◌, map, None, inl, inr, refl, sym, subst, ⊎_elim, ◌⊎◌, All}
+use Rattle.kept_parts.proofs.PastEventLemmas.{nothing_is_kept, begun_calls_are_kept, others_begin}
 use Rattle.kept_parts.proofs.Common.{Contains, All-nil, All-cons, All-append, All-weaker, Contains-append_left, All-from_contains, Contains-nil}
 use Rattle.kept_parts.proofs.Common.{Operation, low_key, may_change, value_at, KeyedCall, concerns_key, keyed, Choice, at_first, Keys, AreApart}
-use Rattle.kept_parts.proofs.Common.{IsRead, HasNoKeyIn, not_both, middle, parts_begin, KeptPast, IsPast, IsLeftOrFound, nothing_is_kept}
-use Rattle.kept_parts.proofs.Common.{begun_calls_are_kept, others_begin, AreCallsBefore, IsOfCalls, IsOwn, at_rest, AllIsKept, ChangesBegin}
+use Rattle.kept_parts.proofs.Common.{IsRead, HasNoKeyIn, not_both, middle, parts_begin, KeptPast, IsPast, IsLeftOrFound}
+use Rattle.kept_parts.proofs.Common.{AreCallsBefore, IsOfCalls, IsOwn, at_rest, AllIsKept, ChangesBegin}
 use Rattle.kept_parts.proofs.Common.{ReadsBegin, with_begun}
 use Rattle.kept_parts.proofs.CallLemmas.{one_key_of, has_low_key, low_is_not_above, reads_leave, last_or_old, no_calls, calls_begun, keyed_begun}
 use Rattle.kept_parts.proofs.PartLemmas.{keys_in, no_key_in, own_at_rest, first_of, from_first, others_apart, stand_after, IsKeptPast, pasts_go}

@@ -1,4 +1,14 @@
 mod Common
+pub mod DropLemmas
+pub mod AlikeLemmas
+pub mod LimitLemmas
+pub mod OnePastLemmas
+pub mod AfterLemmas
+pub mod NextLemmas
+pub mod BarredLemmas
+pub mod PastEventLemmas
+pub mod TakenLemmas
+pub mod UnionLemmas
 pub mod CallLemmas
 pub mod PartLemmas
 pub mod EventLemmas

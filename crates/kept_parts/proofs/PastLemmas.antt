@@ -2,11 +2,12 @@
 -- the part's keys (`kept_pasts_are_within`), and what they keep of a pending call
 -- (`open_changes_are_kept`). `zip_forth`, `zip_back`: the partner of an item.
 use Rattle.kept_parts.proofs.Common.{◌≡◌, ℕ, true, List, [], ◌∷◌, ◌++◌, map, Option, inl, inr, refl, sym, ◌∙◌, subst, ⊎_elim, ◌≢◌, Contains, AllZip}
+use Rattle.kept_parts.proofs.DropLemmas.{pasts_in_any_order}
 use Rattle.kept_parts.proofs.Common.{All-contains, Contains-append_left, Contains-append_right, Contains-append_cases, All-from_contains}
 use Rattle.kept_parts.proofs.Common.{Contains-nil, Contains-first, Contains-later, Contains-cases, Operation, value_at, KeyedCall, keyed, Choice}
-use Rattle.kept_parts.proofs.Common.{Keys, Part, StandFor, not_both, KeptPast, IsPast, ArePasts, AreKeptAlike, IsLeftOrFound, pasts_in_any_order}
+use Rattle.kept_parts.proofs.Common.{Keys, Part, StandFor, not_both, KeptPast, IsPast, ArePasts, AreKeptAlike, IsLeftOrFound}
 use Rattle.kept_parts.proofs.Common.{IsOwn, PastsInAnyOrderAreKept, IsWithinKeys, KeptPastsAreWithin, IsKnownIn, OpenChangesAreKept}
-use Rattle.kept_pasts.proofs.AlikeLemmas.{alike_pasts_go}
+use Rattle.kept_parts.proofs.AlikeLemmas.{alike_pasts_go}
 use Rattle.kept_parts.proofs.PartLemmas.{IsKeptFirst, first_of, from_first}
 
 -- ---- what goes with an item

@@ -15,7 +15,7 @@ use Rattle.std.proofs.Common.{is_some}
 use Rattle.key_parts.specs.Reached.{Lead, IsOpen, AreAllTaken}
 use Rattle.key_parts.proofs.PartLemmas.{at_next, instead, instead_here, instead_there, or_cases}
 use Rattle.key_parts.proofs.ReachLemmas.{choices_are_reached}
-use Rattle.kept_pasts.proofs.NextLemmas.{zip_there}
+use Rattle.kept_parts.proofs.NextLemmas.{zip_there}
 use Rattle.kept_parts.specs.Reached.{IsFoundIn, IsReached, HasPasts, KeptPastsAreReached}
 use Rattle.kept_parts.proofs.CallLemmas.{own_key_of}
 use Rattle.kept_parts.proofs.PartLemmas.{IsKeptFirst, first_of}

@@ -1,6 +1,9 @@
 -- Reads that are taken as they are answered: such as report nothing (`reads_without_report`), and such as report what keys at rest hold
 -- (`reads_at_rest`).
 use Rattle.kept_parts.proofs.Common.{◌≡◌, ℕ, suc, ◌<◌, Bool, true, false, not, cond, List, [], ◌∷◌, ◌++◌, map, Option, None, Some, append-nil, inl}
+use Rattle.kept_parts.proofs.OnePastLemmas.{left_of}
+use Rattle.kept_parts.proofs.PastEventLemmas.{refused_reads_are_not_kept}
+use Rattle.kept_parts.proofs.TakenLemmas.{untold_reads_are_taken}
 use Rattle.kept_parts.proofs.Common.{inr, refl, sym, ap, ◌∙◌, subst, ⊎_elim, ◌⊎◌, All, AllPairs, Contains, AllZip, eq-eqb, and_from}
 use Rattle.kept_parts.proofs.Common.{false_from_ne_true, All-nil, All-cons, All-head, All-append, All-contains, AllPairs-cons, Contains-map}
 use Rattle.kept_parts.proofs.Common.{Contains-from_map, AllPairs-head, AllPairs-tail, AllPairs-append, AllPairs-front, AllPairs-back, AllPairs-across}
@@ -9,12 +12,12 @@ use Rattle.kept_parts.proofs.Common.{Contains-around, Operation, Response, low_k
 use Rattle.kept_parts.proofs.Common.{IsFormed, IsNoEffect, no_effect, concerns_key, effect_at, is_refusal, keyed, precedes, HasForm, Choice, rest_of}
 use Rattle.kept_parts.proofs.Common.{Keys, AreApart, IsQuiet, bool_cases, step_of, formed, pending_never, Part, StandFor, IsLeftAt, NoneIsLeftAt}
 use Rattle.kept_parts.proofs.Common.{MayComeNext, IsReadAt, IsAtRest, HasSomeKeyIn, HasKeysIn, IsNotTakenAt, answered, formed_rest, not_both, beside}
-use Rattle.kept_parts.proofs.Common.{middle, own_alike, parts_in_any_order, KeptPast, IsOpenRead, IsPast, refused_reads_are_not_kept, left_of}
-use Rattle.kept_parts.proofs.Common.{untold_reads_are_taken, KeptPart, AreCallsBefore, IsOwn, IsKeptAs, AreKept, at_rest, ReadsAtRestAreTaken}
+use Rattle.kept_parts.proofs.Common.{middle, own_alike, parts_in_any_order, KeptPast, IsOpenRead, IsPast}
+use Rattle.kept_parts.proofs.Common.{KeptPart, AreCallsBefore, IsOwn, IsKeptAs, AreKept, at_rest, ReadsAtRestAreTaken}
 use Rattle.kept_parts.proofs.Common.{ReadsWithoutReportAreTaken}
 use Rattle.key_parts.proofs.ComeLemmas.{operations_come_next}
 use Rattle.key_parts.proofs.RestLemmas.{reads_at_rest as reads_of_parts_at_rest}
-use Rattle.kept_pasts.proofs.AfterLemmas.{is_past_after}
+use Rattle.kept_parts.proofs.AfterLemmas.{is_past_after}
 use Rattle.kept_parts.proofs.CallLemmas.{concerns_low_key, reads_keep, reads_leave, AreCallsAfter, calls_answered, keyed_around}
 use Rattle.kept_parts.proofs.PartLemmas.{own_at_rest, IsKeptFirst, first_of, from_first, stand_after, IsKeptPast}
 use Rattle.kept_parts.proofs.AnswerLemmas.{Becomes, EachBecomes, one_becomes, all_become, IsFree, around, from_around, apart_around, own_still}

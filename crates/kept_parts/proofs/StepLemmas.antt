@@ -1,11 +1,12 @@
 -- Parts in another order (`parts_move`); pasts of a part that are dropped (`dead_pasts_are_lost`), or become others (`pasts_move_on`).
 use Rattle.kept_parts.proofs.Common.{◌≡◌, ℕ, ◌<◌, ◌≤◌, Bool, true, false, List, [], ◌∷◌, ◌++◌, map, Option, None, Some, inl, inr, refl, sym, ◌∙◌}
+use Rattle.kept_parts.proofs.DropLemmas.{dead_pasts_go}
 use Rattle.kept_parts.proofs.Common.{subst, ⊎_elim, false≢true, ◌⊎◌, is_some, AllPairs, Any, Contains, AllZip, All-nil, All-contains, AllPairs-map}
 use Rattle.kept_parts.proofs.Common.{Contains-from_map, All-from_contains, Operation, Response, low_key, may_change, value_at, IsLinearizable}
 use Rattle.kept_parts.proofs.Common.{KeyedCall, concerns_key, is_completed, keyed, place_of, Choice, Keys, Part, StandFor, KeptPast, IsNameKept}
-use Rattle.kept_parts.proofs.Common.{OpenReadsBeganAfter, dead_pasts_go, AreCallsBefore, IsOfCalls, IsOwn, IsKeptAs, AreKept, PartsMove}
+use Rattle.kept_parts.proofs.Common.{OpenReadsBeganAfter, AreCallsBefore, IsOfCalls, IsOwn, IsKeptAs, AreKept, PartsMove}
 use Rattle.kept_parts.proofs.Common.{DeadPastsAreLost, ReadsBeganAfter, PastsMoveOn}
-use Rattle.kept_pasts.specs.Leads.{Setting, IsMadeOf}
+use Rattle.kept_parts.specs.Leads.{Setting, IsMadeOf}
 use Rattle.kept_parts.proofs.CallLemmas.{own_key_of}
 use Rattle.kept_parts.proofs.PartLemmas.{IsKeptFirst, first_of, from_first, IsKeptPast, AreKeptPasts}
 use Rattle.kept_parts.proofs.AnswerLemmas.{Becomes, EachBecomes, one_becomes, all_become, zip_append}

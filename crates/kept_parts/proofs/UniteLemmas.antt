@@ -3,8 +3,8 @@ use Rattle.kept_parts.proofs.Common.{◌≡◌, ℕ, true, List, [], ◌∷◌, 
 use Rattle.kept_parts.proofs.Common.{or_right, or_cases, All-nil, All-cons, All-head, All-tail, All-append, All-contains, All-from_contains}
 use Rattle.kept_parts.proofs.Common.{Operation, low_key, may_change, value_at, keyed, Keys, AreApart, Part, StandFor, KeptPast, IsOfCalls, IsOwn}
 use Rattle.kept_parts.proofs.Common.{IsKeptAs, AreKept, KeptPartsUnite, KeptPartsFallApart}
-use Rattle.kept_pasts.specs.Unions.{both_keys, IsTogether, ArePairs, FallsApart}
-use Rattle.kept_pasts.proofs.UnionLemmas.{pasts_unite, pasts_fall_apart}
+use Rattle.kept_parts.specs.Unions.{both_keys, IsTogether, ArePairs, FallsApart}
+use Rattle.kept_parts.proofs.UnionLemmas.{pasts_unite, pasts_fall_apart}
 use Rattle.kept_parts.proofs.PartLemmas.{keys_in, IsKeptFirst, first_of, from_first, others_apart}
 use Rattle.kept_parts.proofs.AnswerLemmas.{own_fewer}
 

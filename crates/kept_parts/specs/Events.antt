@@ -6,11 +6,11 @@ use Rattle.events.specs.declared.operation.Response.{Response}
 use Rattle.events.specs.Keys.{low_key, high_key, may_change}
 use Rattle.map_object.specs.MapObject.{Contents, IsRising}
 use Rattle.orders.specs.Orders.{IsLegalCall}
-use Rattle.key_effects.specs.KeyedCalls.{IsNoEffect, is_refusal, effect_at}
-use Rattle.key_effects.specs.Forms.{HasForm}
-use Rattle.key_effects.specs.Cuts.{Keys}
+use Rattle.key_parts.specs.KeyedCalls.{IsNoEffect, is_refusal, effect_at}
+use Rattle.key_parts.specs.Forms.{HasForm}
+use Rattle.key_parts.specs.Cuts.{Keys}
 use Rattle.key_parts.specs.Left.{HasKeysIn, answered}
-use Rattle.kept_pasts.specs.Pasts.{FoundAt, KeptPast}
+use Rattle.kept_parts.specs.Pasts.{FoundAt, KeptPast}
 use Rattle.kept_parts.specs.KeptParts.{KeptPart, AreKept, at_rest}
 
 -- before any event all keys are one part, at rest

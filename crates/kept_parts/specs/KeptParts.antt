@@ -4,12 +4,12 @@ use Rattle.std.specs.List.{AllZip}
 use Rattle.events.specs.declared.operation.Operation.{Operation}
 use Rattle.events.specs.Keys.{low_key, may_change}
 use Rattle.map_object.specs.MapObject.{Contents, value_at}
-use Rattle.key_effects.specs.KeyedCalls.{keyed}
-use Rattle.key_effects.specs.Forms.{HaveForms}
-use Rattle.key_effects.specs.Growth.{HaveGrown}
-use Rattle.key_effects.specs.Cuts.{Keys}
+use Rattle.key_parts.specs.KeyedCalls.{keyed}
+use Rattle.key_parts.specs.Forms.{HaveForms}
+use Rattle.key_parts.specs.Growth.{HaveGrown}
+use Rattle.key_parts.specs.Cuts.{Keys}
 use Rattle.key_parts.specs.Parts.{Part, StandFor}
-use Rattle.kept_pasts.specs.Pasts.{FoundAt, KeptPast, ArePasts, IsLeftOrFound}
+use Rattle.kept_parts.specs.Pasts.{FoundAt, KeptPast, ArePasts, IsLeftOrFound}
 
 -- keys that have their pasts in common, and those pasts
 pub record KeptPart : Type 0 where

@@ -1,3 +1,8 @@
+pub mod Pasts
+pub mod Cuts
+pub mod PastEvents
+pub mod Unions
+pub mod Leads
 pub mod KeptParts
 pub mod Events
 pub mod Steps

@@ -4,9 +4,9 @@ use Rattle.events.specs.declared.operation.Operation.{Operation}
 use Rattle.events.specs.Precedence.{is_completed}
 use Rattle.map_object.specs.MapObject.{Contents, IsRising, value_at}
 use Rattle.orders.specs.Orders.{IsLegal, KeepsPrecedence, after_calls}
-use Rattle.key_effects.specs.Cuts.{Keys}
+use Rattle.key_parts.specs.Cuts.{Keys}
 use Rattle.key_parts.specs.Operations.{HasSomeKeyIn}
-use Rattle.kept_pasts.specs.Pasts.{FoundAt, KeptPast}
+use Rattle.kept_parts.specs.Pasts.{FoundAt, KeptPast}
 use Rattle.kept_parts.specs.KeptParts.{KeptPart, AreKept}
 
 -- in an order, a pending call found a value, or none

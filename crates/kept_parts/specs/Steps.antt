@@ -7,13 +7,13 @@ use Rattle.events.specs.Keys.{low_key, may_change}
 use Rattle.events.specs.Operations.{operations}
 use Rattle.map_object.specs.MapObject.{Contents, IsRising, value_at}
 use Rattle.orders.specs.Orders.{IsLinearizable}
-use Rattle.key_effects.specs.KeyedCalls.{concerns_key}
-use Rattle.key_effects.specs.Cuts.{Keys}
-use Rattle.key_effects.specs.Apart.{AreApart}
+use Rattle.key_parts.specs.KeyedCalls.{concerns_key}
+use Rattle.key_parts.specs.Cuts.{Keys}
+use Rattle.key_parts.specs.Apart.{AreApart}
 use Rattle.key_parts.specs.Left.{HasKeysIn}
-use Rattle.kept_pasts.specs.Pasts.{FoundAt, KeptPast}
-use Rattle.kept_pasts.specs.Unions.{both_keys, ArePairs, FallsApart}
-use Rattle.kept_pasts.specs.Leads.{Leads, IsMadeOf}
+use Rattle.kept_parts.specs.Pasts.{FoundAt, KeptPast}
+use Rattle.kept_parts.specs.Unions.{both_keys, ArePairs, FallsApart}
+use Rattle.kept_parts.specs.Leads.{Leads, IsMadeOf}
 use Rattle.kept_parts.specs.KeptParts.{KeptPart, AreKept}
 
 -- the order of parts does not matter

@@ -1,9 +1,12 @@
 -- What is left at some keys before any event; and as a call is answered that was not left, or is refused.
 use Rattle.key_parts.proofs.Common.{◌≡◌, ℕ, ◌<◌, true, false, List, ◌∷◌, ◌++◌, inl, inr, refl, sym, ap, ◌∙◌, subst, ⊎_elim, arith, ◌≢◌, ◌⊎◌, All}
+use Rattle.key_parts.proofs.DeadLemmas.{bool_cases}
+use Rattle.key_parts.proofs.EffectRestLemmas.{none_or}
+use Rattle.key_parts.proofs.GrowLemmas.{formed}
 use Rattle.key_parts.proofs.Common.{AllPairs, Contains, All-nil, All-cons, All-tail, All-append, All-contains, Contains-append_cases, AllPairs-cons}
 use Rattle.key_parts.proofs.Common.{AllPairs-weaker, AllPairs-nil, AllPairs-tail, AllPairs-append, AllPairs-front, AllPairs-back, AllPairs-across}
 use Rattle.key_parts.proofs.Common.{All-front, All-back, All-from_contains, Contains-nil, Contains-around, Operation, value_at, KeyedCall, IsNoEffect}
-use Rattle.key_parts.proofs.Common.{keyed, HasForm, HaveForms, Choice, at_first, Keys, bool_cases, formed, none_or, AgreesAt, left_at, IsNotTakenAt}
+use Rattle.key_parts.proofs.Common.{keyed, HasForm, HaveForms, Choice, at_first, Keys, AgreesAt, left_at, IsNotTakenAt}
 use Rattle.key_parts.proofs.Common.{answered, NothingIsLeft, AnsweredReadsAreLeft, RefusedCallsAreNotLeft}
 use Rattle.key_parts.proofs.PartLemmas.{none_left_out}
 use Rattle.key_parts.proofs.EventLemmas.{IsKnown, IsOf, left_instead, not_both, beside, middle, differ, own_alike, own_known}

@@ -1,10 +1,13 @@
 -- Orders in which a call comes first at some keys: it is put before all that is left there.
 use Rattle.key_parts.proofs.Common.{◌≡◌, ℕ, ◌<◌, ◌≤◌, Bool, true, false, not, ◌&&◌, ◌||◌, ◌==◌, cond, List, Option, Some, None, inl, inr, refl, sym}
+use Rattle.key_parts.proofs.CutLemmas.{outside_none, within_none}
+use Rattle.key_parts.proofs.DeadLemmas.{bool_cases}
+use Rattle.key_parts.proofs.EffectRestLemmas.{none_or, refused_none}
 use Rattle.key_parts.proofs.Common.{ap, ◌∙◌, subst, ⊎_elim, arith, ◌≢◌, ◌⊎◌, All, Contains, ltb-true, and_parts, and_from, or_left, or_right}
 use Rattle.key_parts.proofs.Common.{not_from_false, false_from_ne_true, eqb-true, eq-eqb, All-contains, KeyedCall, no_effect, IsNoEffect, IsFormed}
-use Rattle.key_parts.proofs.Common.{ends_before, IsLater, HaveGrown, Choice, rest_of, Agrees, Keys, IsWithin, IsOutside, other_keys, outside_none}
-use Rattle.key_parts.proofs.Common.{within_none, bool_cases, none_or, refused_none, IsAt, IsAfterCall, MayComeNext}
-use Rattle.key_effects.proofs.WalkLemmas.{within_later, outside_later}
+use Rattle.key_parts.proofs.Common.{ends_before, IsLater, HaveGrown, Choice, rest_of, Agrees, Keys, IsWithin, IsOutside, other_keys}
+use Rattle.key_parts.proofs.Common.{IsAt, IsAfterCall, MayComeNext}
+use Rattle.key_parts.proofs.WalkLemmas.{within_later, outside_later}
 use Rattle.key_parts.proofs.FirstLemmas.{none_outside, accepted_now}
 use Rattle.key_parts.proofs.MaskLemmas.{masked_by, rest_masked, masked_same}
 use Rattle.key_parts.proofs.NextLemmas.{taken_by, or_none, IsTaken, rest_leaves, taken_none}

@@ -1,9 +1,13 @@
 -- A part takes a step at some of its keys, though calls that are left there have other keys of the part: they are barred there.
 use Rattle.key_parts.proofs.Common.{◌≡◌, ℕ, ◌+◌, ◌<◌, true, false, not, ◌&&◌, List, ◌∷◌, ◌++◌, Some, sym, ap, ◌∙◌, subst, ⊎_elim, arith, ◌⊎◌}
+use Rattle.key_parts.proofs.CutLemmas.{outside_none}
+use Rattle.key_parts.proofs.DeadLemmas.{bool_cases}
+use Rattle.key_parts.proofs.EffectRestLemmas.{later_stands}
+use Rattle.key_parts.proofs.OrderLemmas.{ends_at, ends_sooner}
 use Rattle.key_parts.proofs.Common.{Contains, and_parts, and_from, not-true, not_from_false, All-head, All-contains, Contains-append_left}
 use Rattle.key_parts.proofs.Common.{Contains-append_right, Contains-append_cases, Contains-first, Contains-later, Contains-cases, KeyedCall, IsFormed}
-use Rattle.key_parts.proofs.Common.{ends_before, precedes, IsLater, HaveGrown, Choice, rest_of, GoesOn, Keys, IsWithin, outside_none, bool_cases}
-use Rattle.key_parts.proofs.Common.{ends_at, ends_sooner, later_stands, Part, IsAt, IsOneOf, ShareKeys, choices_of, left_at, IsLeftAt, NoneIsLeftAt}
+use Rattle.key_parts.proofs.Common.{ends_before, precedes, IsLater, HaveGrown, Choice, rest_of, GoesOn, Keys, IsWithin}
+use Rattle.key_parts.proofs.Common.{Part, IsAt, IsOneOf, ShareKeys, choices_of, left_at, IsLeftAt, NoneIsLeftAt}
 use Rattle.key_parts.proofs.Common.{MayComeNext, IsAfterCall, AreKnownAt, AreOwnOrBarred, UnbarredCallsComeNext}
 use Rattle.key_parts.proofs.CallLemmas.{first_fits, first_goes_on, begun_first, goes_before}
 use Rattle.key_parts.proofs.FewerLemmas.{AreAmong, but_for, after_fewer, steps_forth, at_few}

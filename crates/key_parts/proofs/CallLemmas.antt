@@ -1,9 +1,11 @@
 -- A part takes a step: one more call is taken at its keys.
 use Rattle.key_parts.proofs.Common.{◌≡◌, ℕ, ◌<◌, true, false, not, ◌&&◌, ◌==◌, List, [], ◌∷◌, ◌++◌, map, Option, inl, refl, sym, ap, ◌∙◌, subst}
+use Rattle.key_parts.proofs.AfterLemmas.{none_left}
+use Rattle.key_parts.proofs.TurnLemmas.{fit-back}
 use Rattle.key_parts.proofs.Common.{⊎_elim, ◌≢◌, Contains, and_parts, false_from_ne_true, eqb-true, All-head, All-contains, Contains-append_left}
 use Rattle.key_parts.proofs.Common.{Contains-append_right, Contains-append_cases, AllPairs-head, AllPairs-back, Contains-first, Contains-later}
 use Rattle.key_parts.proofs.Common.{Contains-cases, KeyedCall, IsNoEffect, ends_before, precedes, FitInTurn, AreDistinct, IsLater, HaveGrown, Choice}
-use Rattle.key_parts.proofs.Common.{rest_of, GoesOn, SomeGoesOn, Keys, none_left, fit-back, Part, IsAt, IsOneOf, ShareKeys, choices_of, IsLeftAt}
+use Rattle.key_parts.proofs.Common.{rest_of, GoesOn, SomeGoesOn, Keys, Part, IsAt, IsOneOf, ShareKeys, choices_of, IsLeftAt}
 use Rattle.key_parts.proofs.Common.{MayComeNext, IsAfterCall, ArePartedBefore, CallsComeNext, ReadsComeNext}
 use Rattle.key_parts.proofs.FewerLemmas.{AreAmong, AtSome, after_fewer, is_alone, steps_forth, steps_back, taken_then, takes_less, at_few}
 use Rattle.key_parts.proofs.FewerLemmas.{goes_on_before}

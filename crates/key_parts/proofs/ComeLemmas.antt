@@ -1,10 +1,15 @@
 -- Operations that may come next: what they do to a map is what their calls do at the keys.
 use Rattle.key_parts.proofs.Common.{◌≡◌, ℕ, ◌<◌, ◌==◌, Bool, true, false, nat_lt, not, ◌||◌, ◌&&◌, cond, List, Option, Some, None, inl, inr, refl}
+use Rattle.key_parts.proofs.BridgeLemmas.{same_precedes}
+use Rattle.key_parts.proofs.DeadLemmas.{bool_cases}
+use Rattle.key_parts.proofs.EffectLemmas.{step_of}
+use Rattle.key_parts.proofs.EffectRestLemmas.{none_none, none_or}
+use Rattle.key_parts.proofs.OrderLemmas.{same_call}
 use Rattle.key_parts.proofs.Common.{sym, ap, ◌∙◌, subst, ⊎_elim, arith, ◌⊎◌, All, Contains, ltb-true, ltb-false, eqb-true, eq-eqb, ne_eqb, not-true}
 use Rattle.key_parts.proofs.Common.{and_parts, or_cases, cases_eq, All-contains, AllPairs-filter, All-from_contains, Contains-filter}
 use Rattle.key_parts.proofs.Common.{Contains-from_filter, Operation, Contents, value_at, IsLegalCall, after_call, KeyedCall, Effect, IsFormed}
 use Rattle.key_parts.proofs.Common.{IsNoEffect, no_effect, ends_before, precedes, concerns_key, keyed, AreKeyedCalls, HasForm, Choice, rest_of, Keys}
-use Rattle.key_parts.proofs.Common.{IsWithin, IsAlikeAt, same_precedes, bool_cases, step_of, same_call, none_none, none_or, OperationsMayCome}
+use Rattle.key_parts.proofs.Common.{IsWithin, IsAlikeAt, OperationsMayCome}
 use Rattle.key_parts.proofs.Common.{OperationsComeNext, AreLeftCalls, AreOfLeftCalls, AreAllLeft, HasSomeKeyIn, OperationMayCome, without_call}
 use Rattle.key_parts.proofs.Common.{HasKeysIn, HaveTheirKeys, AgreesAt, left_at, IsLeftAt, NoneIsLeftAt, MayComeNext, IsAfterCall}
 use Rattle.quiet_cuts.proofs.ValueLemmas.{rising_kept}

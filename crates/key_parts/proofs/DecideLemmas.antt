@@ -1,12 +1,14 @@
 -- The parts decide: each has a past that goes on at its keys exactly if the calls have an order.
 use Rattle.key_parts.proofs.Common.{◌≡◌, ℕ, ◌<◌, Bool, true, false, not, ◌&&◌, cond, List, [], ◌∷◌, map, Option, inl, inr, refl, sym, ap, ◌∙◌, subst}
+use Rattle.key_parts.proofs.DeadLemmas.{bool_cases}
+use Rattle.key_parts.proofs.EffectRestLemmas.{none_none, none_or, refused_none}
 use Rattle.key_parts.proofs.Common.{⊎_elim, ◌⊎◌, ◌↔◌, All, AllPairs, Contains, filter, All-nil, All-cons, All-head, All-tail, All-contains, All-map}
 use Rattle.key_parts.proofs.Common.{AllPairs-filter, AllPairs-map, Contains-map, Contains-from_map, AllPairs-head, AllPairs-tail, All-from_contains}
 use Rattle.key_parts.proofs.Common.{Contains-nil, Contains-cases, Contains-from_filter, KeyedCall, Effect, IsNoEffect, IsFormed, no_effect}
 use Rattle.key_parts.proofs.Common.{AreKeyedCalls, HasKeyedOrder, HaveGrown, Choice, at_first, rest_of, Agrees, Keys, IsWithin, only, AreApart}
-use Rattle.key_parts.proofs.Common.{AreParts, Parts, bool_cases, none_none, none_or, refused_none, PartsDecide, Part, IsAt, IsOneOf, choices_of}
+use Rattle.key_parts.proofs.Common.{AreParts, Parts, PartsDecide, Part, IsAt, IsOneOf, choices_of}
 use Rattle.key_parts.proofs.Common.{ShareKeys, left_at, AgreesAt, GoesOnAt, SomePastGoesOn, IsOfOnePart, AreOfOnePart}
-use Rattle.key_effects.proofs.PartLemmas.{none_at, parts_judge}
+use Rattle.key_parts.proofs.EffectPartLemmas.{none_at, parts_judge}
 use Rattle.key_parts.proofs.PartLemmas.{all_keys, at_back, at_next, goes_on_there, instead, instead_here, instead_there, same_goes_on_there}
 use Rattle.key_parts.proofs.PartLemmas.{stand_below}
 use Rattle.key_parts.proofs.SomeLemmas.{keyed_left, keyed_some, some_decide}

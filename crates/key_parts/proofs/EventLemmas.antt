@@ -3,13 +3,17 @@
 -- `left_as_before`: nothing changes if the calls that change are idle at the keys. `left_instead`:
 -- one call replaces another.
 use Rattle.key_parts.proofs.Common.{◌≡◌, ℕ, ◌<◌, ◌≤◌, Bool, true, false, not, ◌&&◌, List, [], ◌∷◌, ◌++◌, Option, Some, None, inl, inr, refl, sym, ap}
+use Rattle.key_parts.proofs.CutLemmas.{outside_none}
+use Rattle.key_parts.proofs.DeadLemmas.{bool_cases}
+use Rattle.key_parts.proofs.EffectRestLemmas.{none_or}
+use Rattle.key_parts.proofs.GrowLemmas.{formed, open_fits}
 use Rattle.key_parts.proofs.Common.{◌∙◌, subst, ⊎_elim, arith, ◌≢◌, ◌⊎◌, All, AllPairs, Contains, All-nil, All-cons, All-head, All-tail, All-append}
 use Rattle.key_parts.proofs.Common.{All-contains, Contains-append_left, Contains-append_right, Contains-append_cases, AllPairs-cons, AllPairs-weaker}
 use Rattle.key_parts.proofs.Common.{AllPairs-nil, AllPairs-head, AllPairs-tail, AllPairs-append, AllPairs-front, AllPairs-back, AllPairs-across}
 use Rattle.key_parts.proofs.Common.{All-front, All-back, All-from_contains, Contains-nil, Contains-first, Contains-later, Contains-cases}
 use Rattle.key_parts.proofs.Common.{Contains-around, Call, Get, Insert, Remove, Scan, Replace, Operation, Contents, KeyedCall, IsNoEffect, IsFormed}
 use Rattle.key_parts.proofs.Common.{is_refused, is_refusal, concerns_key, effect_at, keyed, AreKeyedCalls, HasForm, HaveForms, Choice, rest_of, Keys}
-use Rattle.key_parts.proofs.Common.{IsRead, IsAlikeAt, outside_none, bool_cases, formed, open_fits, none_or, AgreesAt, left_at, IsLeftAt}
+use Rattle.key_parts.proofs.Common.{IsRead, IsAlikeAt, AgreesAt, left_at, IsLeftAt}
 use Rattle.key_parts.proofs.Common.{NoneIsLeftAt, AreOfLeftCalls, IsLeft, HasKeysIn, HasNoKeyIn, IsNotTakenAt, IsTakenAt, answered, BegunCallsAreLeft}
 use Rattle.key_parts.proofs.Common.{OtherCallsBegin, AnsweredCallsAreLeft, TakenCallsAreAnswered, OtherCallsAreAnswered}
 use Rattle.events.specs.declared.operation.Response.{Response}

@@ -1,8 +1,11 @@
 -- Steps at some of a part's keys: at its others nothing is left of the call, and they stay what they are.
 use Rattle.key_parts.proofs.Common.{◌≡◌, ℕ, ◌<◌, Bool, true, false, not, ◌||◌, ◌&&◌, ◌==◌, cond, List, [], ◌∷◌, inl, inr, refl, sym, ◌∙◌, subst}
+use Rattle.key_parts.proofs.CutLemmas.{outside_none}
+use Rattle.key_parts.proofs.DeadLemmas.{bool_cases}
+use Rattle.key_parts.proofs.EffectRestLemmas.{later_stands}
 use Rattle.key_parts.proofs.Common.{⊎_elim, ◌⊎◌, Contains, and_parts, and_from, or_left, or_right, not-true, eqb-true, eq-eqb, All-contains}
 use Rattle.key_parts.proofs.Common.{Contains-first, KeyedCall, IsFormed, IsNoEffect, IsLater, HaveGrown, Choice, rest_of, GoesOn, Agrees, Keys}
-use Rattle.key_parts.proofs.Common.{IsWithin, IsOutside, other_keys, outside_none, bool_cases, later_stands, Part, IsAt, ShareKeys, AreSomeOf}
+use Rattle.key_parts.proofs.Common.{IsWithin, IsOutside, other_keys, Part, IsAt, ShareKeys, AreSomeOf}
 use Rattle.key_parts.proofs.Common.{choices_of, NoneIsLeftAt, MayComeNext, IsAfterCall, ArePartedBefore}
 use Rattle.key_parts.proofs.FirstLemmas.{left_later}
 use Rattle.key_parts.proofs.InsertLemmas.{goes_back}

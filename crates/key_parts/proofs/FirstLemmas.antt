@@ -1,10 +1,14 @@
 -- The first call of an order that has something left at some keys.
 use Rattle.key_parts.proofs.Common.{◌≡◌, ℕ, ◌<◌, ◌≤◌, Bool, true, false, not, ◌&&◌, cond, List, [], ◌∷◌, ◌++◌, map, Option, Some, None, inl, inr}
+use Rattle.key_parts.proofs.CutLemmas.{outside_none}
+use Rattle.key_parts.proofs.DeadLemmas.{bool_cases, response_of}
+use Rattle.key_parts.proofs.EffectRestLemmas.{refused_none, later_stands}
+use Rattle.key_parts.proofs.OrderLemmas.{same_call, ends_at}
 use Rattle.key_parts.proofs.Common.{refl, sym, ap, subst, ⊎_elim, arith, ◌⊎◌, Contains, is_some, ltb-true, ltb-false, All-contains}
 use Rattle.key_parts.proofs.Common.{Contains-append_cases, Contains-map, Contains-from_map, AllPairs-head, AllPairs-tail, AllPairs-back, Contains-nil}
 use Rattle.key_parts.proofs.Common.{Contains-first, Contains-later, Contains-cases, KeyedCall, no_effect, IsNoEffect, IsFormed, ends_before, precedes}
-use Rattle.key_parts.proofs.Common.{is_completed, KeepPrecedence, IsKeyedOrder, IsLater, HaveGrown, Choice, rest_of, Keys, IsOutside, outside_none}
-use Rattle.key_parts.proofs.Common.{bool_cases, response_of, same_call, ends_at, refused_none, later_stands, IsAt, IsLeftAt, NoneIsLeftAt, AreKnownAt}
+use Rattle.key_parts.proofs.Common.{is_completed, KeepPrecedence, IsKeyedOrder, IsLater, HaveGrown, Choice, rest_of, Keys, IsOutside}
+use Rattle.key_parts.proofs.Common.{IsAt, IsLeftAt, NoneIsLeftAt, AreKnownAt}
 use Rattle.key_parts.proofs.Common.{MayComeNext}
 
 -- the first of one kind, if each up to some call is of that kind or of another

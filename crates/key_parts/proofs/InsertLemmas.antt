@@ -1,12 +1,15 @@
 -- The order that is made: what began before the call and has no effect at the keys, the call, what else began before it, and the others.
 use Rattle.key_parts.proofs.Common.{◌≡◌, ℕ, ◌<◌, ◌≤◌, Bool, true, false, not, ◌==◌, List, ◌∷◌, ◌++◌, map, Option, inl, inr, refl, sym, ap, ◌∙◌, subst}
+use Rattle.key_parts.proofs.AfterLemmas.{none_left}
+use Rattle.key_parts.proofs.DeadLemmas.{bool_cases}
+use Rattle.key_parts.proofs.OrderLemmas.{same_call, ends_sooner, IsSplitAt, split_at, ended_early}
+use Rattle.key_parts.proofs.TurnLemmas.{fit-front, fit-back, fit-append}
 use Rattle.key_parts.proofs.Common.{⊎_elim, arith, ◌≢◌, ◌⊎◌, All, Contains, filter, not-true, not-false, not_from_true, not_from_false}
 use Rattle.key_parts.proofs.Common.{false_from_ne_true, eqb-true, eq-eqb, All-contains, Contains-append_left, Contains-append_right}
 use Rattle.key_parts.proofs.Common.{Contains-append_cases, AllPairs-filter, Contains-map, Contains-from_map, All-from_contains, AllPairs-front}
 use Rattle.key_parts.proofs.Common.{AllPairs-back, AllPairs-across, Contains-first, Contains-later, Contains-cases, Contains-filter}
 use Rattle.key_parts.proofs.Common.{Contains-from_filter, KeyedCall, IsNoEffect, ends_before, precedes, is_completed, FitInTurn, left_by, AreDistinct}
-use Rattle.key_parts.proofs.Common.{KeepPrecedence, IsKeyedOrder, Choice, rest_of, Agrees, GoesOn, Keys, none_left, bool_cases, same_call}
-use Rattle.key_parts.proofs.Common.{ends_sooner, IsSplitAt, split_at, ended_early, fit-front, fit-back, fit-append}
+use Rattle.key_parts.proofs.Common.{KeepPrecedence, IsKeyedOrder, Choice, rest_of, Agrees, GoesOn, Keys}
 use Rattle.key_parts.proofs.BackLemmas.{AtBack, IsApartFrom, IsOpenWithin, none_elsewhere, fits_here, holds_here, none_back, rest_other, agrees_back}
 use Rattle.key_parts.proofs.BackLemmas.{early_cases}
 use Rattle.key_parts.proofs.PartLemmas.{fit_none}

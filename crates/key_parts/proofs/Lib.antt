@@ -1,4 +1,23 @@
 mod Common
+pub mod GrowthLemmas
+pub mod ChoiceLemmas
+pub mod TurnLemmas
+pub mod OrderLemmas
+pub mod EffectRestLemmas
+pub mod DeadLemmas
+pub mod CutLemmas
+pub mod WalkLemmas
+pub mod AfterLemmas
+pub mod MergeLemmas
+pub mod ApartLemmas
+pub mod EffectLemmas
+pub mod BridgeLemmas
+pub mod GrowLemmas
+pub mod WiderRuleLemmas
+pub mod NoneLemmas
+pub mod AlikeLemmas
+pub mod DisturbedLemmas
+pub mod EffectPartLemmas
 pub mod PartLemmas
 pub mod StepLemmas
 pub mod WiderLemmas
@@ -17,8 +36,8 @@ pub mod SomeLemmas
 pub mod OperationLemmas
 pub mod RestLemmas
 pub mod DecideLemmas
-pub mod ComeLemmas
 pub mod EventLemmas
 pub mod UniteLemmas
+pub mod ComeLemmas
 pub mod AnswerLemmas
 pub mod ReachLemmas

@@ -1,8 +1,10 @@
 -- What is left of calls if more is taken.
 use Rattle.key_parts.proofs.Common.{◌≡◌, ℕ, Bool, true, false, not, ◌&&◌, ◌||◌, cond, List, [], ◌∷◌, ◌++◌, map, Option, inl, inr, refl, sym, ap, ◌∙◌}
+use Rattle.key_parts.proofs.DeadLemmas.{bool_cases}
+use Rattle.key_parts.proofs.EffectRestLemmas.{none_or}
 use Rattle.key_parts.proofs.Common.{subst, ⊎_elim, ◌≢◌, ◌⊎◌, Contains, Contains-map, Contains-from_map, AllPairs-map, Contains-first, Contains-later}
 use Rattle.key_parts.proofs.Common.{KeyedCall, Effect, no_effect, IsNoEffect, precedes, is_completed, FitInTurn, IsKeyedOrder, Choice, rest_of}
-use Rattle.key_parts.proofs.Common.{IsQuiet, bool_cases, none_or}
+use Rattle.key_parts.proofs.Common.{IsQuiet}
 use mathlib.Core.Path.{fun_ext}
 
 -- what is left of a call if more is taken

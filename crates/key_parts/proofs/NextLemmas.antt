@@ -1,8 +1,11 @@
 -- Orders that go on by a call that is taken at some keys.
 use Rattle.key_parts.proofs.Common.{◌≡◌, ℕ, Bool, true, false, ◌&&◌, ◌||◌, ◌==◌, cond, List, map, Option, inl, inr, refl, sym, ap, ◌∙◌, subst, ◌⊎◌}
+use Rattle.key_parts.proofs.DeadLemmas.{bool_cases}
+use Rattle.key_parts.proofs.EffectRestLemmas.{none_none, later_stands}
+use Rattle.key_parts.proofs.OrderLemmas.{same_call}
 use Rattle.key_parts.proofs.Common.{Contains, and_parts, eqb-true, eq-eqb, All-contains, All-from_contains, KeyedCall, no_effect, IsNoEffect}
-use Rattle.key_parts.proofs.Common.{IsFormed, FitInTurn, IsLater, HaveGrown, Choice, rest_of, Agrees, GoesOn, Keys, bool_cases, same_call, none_none}
-use Rattle.key_parts.proofs.Common.{later_stands, IsAt, IsAfterCall}
+use Rattle.key_parts.proofs.Common.{IsFormed, FitInTurn, IsLater, HaveGrown, Choice, rest_of, Agrees, GoesOn, Keys}
+use Rattle.key_parts.proofs.Common.{IsAt, IsAfterCall}
 use Rattle.key_parts.proofs.MaskLemmas.{masked_by, order_masked, quiet_masked}
 use Rattle.key_parts.proofs.PartLemmas.{instead}
 

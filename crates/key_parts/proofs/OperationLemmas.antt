@@ -1,10 +1,13 @@
 -- What is left at some keys, as calls of a map that has only these keys.
 use Rattle.key_parts.proofs.Common.{◌≡◌, ℕ, ◌<◌, Bool, true, List, map, inl, inr, sym, ap, ◌∙◌, subst, ⊎_elim, arith, ◌≢◌, ◌⊎◌, ◌↔◌, AllPairs}
+use Rattle.key_parts.proofs.AfterLemmas.{named_in, from_named}
+use Rattle.key_parts.proofs.BridgeLemmas.{keyed_order, plain_order}
+use Rattle.key_parts.proofs.OrderLemmas.{same_call}
 use Rattle.key_parts.proofs.Common.{Contains, filter, AllPairs-map, AllPairs-weaker, Contains-map, Contains-from_map, Contains-filter}
 use Rattle.key_parts.proofs.Common.{Contains-from_filter, Operation, Contents, value_at, calls_at, KeyedCall, IsNoEffect, keyed, AreKeyedCalls}
-use Rattle.key_parts.proofs.Common.{HasKeyedOrder, Choice, Keys, has_call, IsAlikeAt, AreAlike, named_in, from_named, keyed_order, plain_order}
-use Rattle.key_parts.proofs.Common.{same_call, OperationsDecide, AreLeftCalls, left_at}
-use Rattle.key_effects.proofs.AlikeLemmas.{alike_decide}
+use Rattle.key_parts.proofs.Common.{HasKeyedOrder, Choice, Keys, has_call, IsAlikeAt, AreAlike}
+use Rattle.key_parts.proofs.Common.{OperationsDecide, AreLeftCalls, left_at}
+use Rattle.key_parts.proofs.AlikeLemmas.{alike_decide}
 use Rattle.key_parts.proofs.SomeLemmas.{keyed_left, keyed_some, some_decide}
 
 -- whether one of the operations is of this name

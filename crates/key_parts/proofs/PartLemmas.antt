@@ -4,14 +4,18 @@
 -- `with_instead`, `with_other`: a part with other pasts. `stand_below`: choices that are reached are below the calls. `few_are`, `few_grown`:
 -- the calls that some grew from. `part_steps`: parts represent the calls if one of them took a step.
 use Rattle.key_parts.proofs.Common.{◌≡◌, ℕ, ◌<◌, Bool, true, false, not, ◌||◌, ◌&&◌, cond, List, [], ◌∷◌, map, Option, inl, inr, refl, sym, ap, ◌∙◌}
+use Rattle.key_parts.proofs.AfterLemmas.{named_in, from_named}
+use Rattle.key_parts.proofs.DeadLemmas.{bool_cases}
+use Rattle.key_parts.proofs.EffectRestLemmas.{none_none}
+use Rattle.key_parts.proofs.OrderLemmas.{same_call}
 use Rattle.key_parts.proofs.Common.{subst, ⊎_elim, ◌≢◌, ◌⊎◌, Contains, filter, All-cons, All-tail, All-contains, AllPairs-cons, AllPairs-filter}
 use Rattle.key_parts.proofs.Common.{Contains-from_map, AllPairs-head, AllPairs-tail, All-from_contains, Contains-first, Contains-later}
 use Rattle.key_parts.proofs.Common.{Contains-cases, Contains-filter, Contains-from_filter, KeyedCall, Effect, no_effect, IsFormed, IsNoEffect}
 use Rattle.key_parts.proofs.Common.{precedes, AreDistinct, FitInTurn, HasKeyedOrder, HaveGrown, Choice, Agrees, rest_of, GoesOn, SomeGoesOn}
-use Rattle.key_parts.proofs.Common.{StandBelow, Keys, has_call, only, other_keys, AreApart, named_in, from_named, bool_cases, same_call, none_none}
+use Rattle.key_parts.proofs.Common.{StandBelow, Keys, has_call, only, other_keys, AreApart}
 use Rattle.key_parts.proofs.Common.{Part, IsAt, IsOneOf, choices_of, ShareKeys, AreSomeOf, StandFor, left_at, AgreesAt, GoesOnAt}
 use mathlib.Core.Path.{fun_ext}
-use Rattle.key_effects.proofs.ApartLemmas.{some_refute}
+use Rattle.key_parts.proofs.ApartLemmas.{some_refute}
 
 -- ---- choices that are the same at some keys
 

@@ -1,6 +1,11 @@
 -- Choices that are reached. A pending call that was taken is answered with what it found. After all calls there is a read of all keys that
 -- finds what these hold. The choice goes on to an order of these, so they have one.
 use Rattle.key_parts.proofs.Common.{◌≡◌, ℕ, suc, ◌<◌, ◌≤◌, Bool, true, false, not, ◌&&◌, nat_lt, cond, List, [], ◌∷◌, ◌++◌, map, Option, Some, None}
+use Rattle.key_parts.proofs.DeadLemmas.{bool_cases}
+use Rattle.key_parts.proofs.EffectLemmas.{same_values}
+use Rattle.key_parts.proofs.EffectRestLemmas.{none_none}
+use Rattle.key_parts.proofs.OrderLemmas.{same_call, ends_sooner}
+use Rattle.key_parts.proofs.TurnLemmas.{fit-back, fit-front}
 use Rattle.key_parts.proofs.Common.{inl, inr, refl, sym, ap, ◌∙◌, subst, ⊎_elim, arith, ◌≢◌, ◌⊎◌, All, Contains, ltb-true, lt-ltb, false_from_ne_true}
 use Rattle.key_parts.proofs.Common.{All-nil, All-cons, All-contains, Contains-append_left, Contains-append_right, Contains-append_cases}
 use Rattle.key_parts.proofs.Common.{AllPairs-cons, AllPairs-map, AllPairs-from_map, AllPairs-weaker, Contains-map, Contains-from_map, AllPairs-nil}
@@ -8,7 +13,7 @@ use Rattle.key_parts.proofs.Common.{AllPairs-head, AllPairs-back, AllPairs-front
 use Rattle.key_parts.proofs.Common.{Contains-first, Contains-later, Contains-cases, Contains-split, KeyedCall, Effect, IsFormed, IsNoEffect}
 use Rattle.key_parts.proofs.Common.{no_effect, read_of, is_same_value, is_completed, ends_before, precedes, FitInTurn, left_by, AreDistinct}
 use Rattle.key_parts.proofs.Common.{AreKeyedCalls, KeepPrecedence, IsKeyedOrder, HasKeyedOrder, HaveGrown, IsLater, Choice, Agrees, GoesOn, rest_of}
-use Rattle.key_parts.proofs.Common.{bool_cases, same_values, same_call, ends_sooner, none_none, fit-back, fit-front, AreSomeOf}
+use Rattle.key_parts.proofs.Common.{AreSomeOf}
 use Rattle.std.proofs.Common.{is_some}
 use mathlib.Core.Path.{fun_ext}
 use Rattle.key_parts.specs.Reached.{Lead, IsOpen, AreAllTaken, ChoicesAreReached}

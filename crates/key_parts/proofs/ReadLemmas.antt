@@ -1,9 +1,11 @@
 -- A read that was answered is taken out of an order: `read_comes`, if it fits what the keys hold. `read_fits` and `read_quiet`: what is left of
 -- it by a choice fits, and is quiet.
 use Rattle.key_parts.proofs.Common.{◌≡◌, ℕ, Bool, true, false, ◌&&◌, ◌==◌, cond, List, ◌∷◌, map, Option, inl, inr, refl, sym, ap, ◌∙◌, subst, ⊎_elim}
+use Rattle.key_parts.proofs.DeadLemmas.{bool_cases}
+use Rattle.key_parts.proofs.OrderLemmas.{same_call}
 use Rattle.key_parts.proofs.Common.{◌⊎◌, Contains, and_parts, eqb-true, All-head, Contains-from_map, Contains-first, Contains-later, Contains-cases}
 use Rattle.key_parts.proofs.Common.{KeyedCall, is_completed, no_effect, FitInTurn, HaveGrown, Choice, rest_of, GoesOn, SomeGoesOn, Keys, IsQuiet}
-use Rattle.key_parts.proofs.Common.{bool_cases, same_call, Part, IsAt, IsOneOf, ShareKeys, choices_of, IsAfterCall, IsReadAt}
+use Rattle.key_parts.proofs.Common.{Part, IsAt, IsOneOf, ShareKeys, choices_of, IsAfterCall, IsReadAt}
 use Rattle.key_parts.proofs.FirstLemmas.{completed_stays}
 use Rattle.key_parts.proofs.MaskLemmas.{masked_by, quiet_masked}
 use Rattle.key_parts.proofs.NextLemmas.{taken_by, IsTaken, rest_leaves, goes_on_next}

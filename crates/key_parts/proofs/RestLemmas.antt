@@ -1,13 +1,17 @@
 -- A read that was answered, taken at keys at rest, and a call without effect, taken at any time. `at_taken`: two choices that differ by it.
 -- `read_back`, `none_back`: a choice goes on if the other does, which has taken it.
 use Rattle.key_parts.proofs.Common.{◌≡◌, ℕ, ◌==◌, ◌<◌, Bool, true, false, not, ◌&&◌, ◌||◌, cond, List, [], ◌∷◌, ◌++◌, map, Option, inl, inr, refl}
+use Rattle.key_parts.proofs.AfterLemmas.{named_in, from_named}
+use Rattle.key_parts.proofs.DeadLemmas.{bool_cases, response_of}
+use Rattle.key_parts.proofs.EffectRestLemmas.{none_none, refused_none}
+use Rattle.key_parts.proofs.OrderLemmas.{same_call, ends_at}
 use Rattle.key_parts.proofs.Common.{sym, ap, ◌∙◌, subst, ⊎_elim, arith, ◌≢◌, ◌⊎◌, All, Contains, eqb-true, eq-eqb, and_parts, or_left, or_right}
 use Rattle.key_parts.proofs.Common.{All-head, All-contains, Contains-append_left, AllPairs-map, Contains-map, Contains-from_map, AllPairs-across}
 use Rattle.key_parts.proofs.Common.{AllPairs-back, AllPairs-head, All-from_contains, Contains-first, Contains-later, Contains-cases, Contains-split}
 use Rattle.key_parts.proofs.Common.{KeyedCall, Effect, IsNoEffect, IsFormed, no_effect, is_completed, ends_before, precedes, FitInTurn, AreDistinct}
 use Rattle.key_parts.proofs.Common.{KeepPrecedence, IsKeyedOrder, AreKeyedCalls, LeaveTheSame, IsAnsweredAs, IsLater, HaveGrown, Choice, rest_of}
-use Rattle.key_parts.proofs.Common.{Agrees, GoesOn, SomeGoesOn, Keys, has_call, other_keys, AreApart, IsQuiet, named_in, from_named, bool_cases}
-use Rattle.key_parts.proofs.Common.{response_of, same_call, ends_at, none_none, refused_none, ReadsAreTakenAtRest, CallsWithoutEffectAreTaken, Part}
+use Rattle.key_parts.proofs.Common.{Agrees, GoesOn, SomeGoesOn, Keys, has_call, other_keys, AreApart, IsQuiet}
+use Rattle.key_parts.proofs.Common.{ReadsAreTakenAtRest, CallsWithoutEffectAreTaken, Part}
 use Rattle.key_parts.proofs.Common.{IsAt, IsOneOf, AreSomeOf, choices_of, StandFor, IsAfterCall, IsReadAt, IsAtRest}
 use mathlib.Core.Path.{fun_ext}
 use Rattle.key_parts.proofs.PartLemmas.{at_back, instead, instead_here, instead_there, keys_shared, with_instead, with_other, TakesNoMore, part_steps}

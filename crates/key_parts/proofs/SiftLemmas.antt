@@ -1,8 +1,9 @@
 -- Calls, one after another, split into two lists, and with one more between them.
 use Rattle.key_parts.proofs.Common.{◌≡◌, ℕ, Bool, true, false, ◌==◌, cond, List, [], ◌∷◌, ◌++◌, Option, inl, inr, refl, sym, ap, ◌∙◌, subst, ⊎_elim}
+use Rattle.key_parts.proofs.DeadLemmas.{bool_cases}
 use Rattle.key_parts.proofs.Common.{◌≢◌, ◌⊎◌, All, AllPairs, Contains, filter, eqb-true, eq-eqb, All-contains, Contains-append_cases, AllPairs-cons}
 use Rattle.key_parts.proofs.Common.{All-from_contains, AllPairs-head, AllPairs-tail, AllPairs-append, Contains-nil, Contains-first, Contains-later}
-use Rattle.key_parts.proofs.Common.{Contains-cases, KeyedCall, IsNoEffect, FitInTurn, left_by, AreDistinct, bool_cases}
+use Rattle.key_parts.proofs.Common.{Contains-cases, KeyedCall, IsNoEffect, FitInTurn, left_by, AreDistinct}
 
 -- if each call is of one kind or of another, some test of its name says which
 pub choose : (P Q : KeyedCall → Type 0) (xs : List KeyedCall) → AreDistinct xs → ((x : KeyedCall) → Contains xs x → P x ⊎ Q x)

@@ -2,7 +2,7 @@
 use Rattle.key_parts.proofs.Common.{◌≡◌, ℕ, ◌<◌, Bool, true, false, List, map, Option, inl, inr, ⊎_elim, ◌≢◌, ◌⊎◌, ◌↔◌, AllPairs, Contains, filter}
 use Rattle.key_parts.proofs.Common.{All-contains, All-map, AllPairs-filter, AllPairs-map, All-from_contains, Contains-filter, Contains-from_filter}
 use Rattle.key_parts.proofs.Common.{KeyedCall, IsNoEffect, precedes, AreKeyedCalls, HasKeyedOrder, Choice, Keys, left_at}
-use Rattle.key_effects.proofs.NoneLemmas.{effects_decide}
+use Rattle.key_parts.proofs.NoneLemmas.{effects_decide}
 
 pub keyed_left : (keys : Keys) (w : Choice) (calls : List KeyedCall) → AreKeyedCalls calls → AreKeyedCalls (map (left_at keys w) calls)
 keyed_left keys w calls apart = record {

@@ -1,11 +1,12 @@
 -- Laws of parts that look at no order.
 use Rattle.key_parts.proofs.Common.{◌≡◌, ℕ, Bool, true, false, ◌||◌, List, [], ◌∷◌, refl, sym, ◌∙◌, subst, ⊎_elim, ◌⊎◌, AllPairs, Contains, All-nil}
+use Rattle.key_parts.proofs.DeadLemmas.{dead_stay_dead}
 use Rattle.key_parts.proofs.Common.{All-cons, All-head, All-tail, All-contains, AllPairs-cons, AllPairs-nil, AllPairs-head, AllPairs-tail}
 use Rattle.key_parts.proofs.Common.{All-from_contains, Contains-nil, Contains-first, Contains-later, Contains-cases, Choice, at_first, GoesOn, Keys}
-use Rattle.key_parts.proofs.Common.{AreApart, dead_stay_dead, Part, IsAt, IsOneOf, choices_of, ShareKeys, AreJoined, PartsBegin, PartsStay}
+use Rattle.key_parts.proofs.Common.{AreApart, Part, IsAt, IsOneOf, choices_of, ShareKeys, AreJoined, PartsBegin, PartsStay}
 use Rattle.key_parts.proofs.Common.{PartsInAnyOrder, PartsUnite, DeadPastsGo}
-use Rattle.key_effects.proofs.ChoiceLemmas.{begin}
-use Rattle.key_effects.proofs.GrowthLemmas.{growth_on}
+use Rattle.key_parts.proofs.ChoiceLemmas.{begin}
+use Rattle.key_parts.proofs.GrowthLemmas.{growth_on}
 use Rattle.key_parts.proofs.PartLemmas.{all_keys, at_self, at_back, at_next, at_fewer, at_both, or_cases, same_goes_on, goes_on_there, few_grown}
 use Rattle.key_parts.proofs.PartLemmas.{part_steps}
 

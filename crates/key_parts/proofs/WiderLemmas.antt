@@ -1,12 +1,16 @@
 -- Small calls that refute what goes further than the laws. Calls of keys 0 and 1, which hold nothing at first.
 use Rattle.key_parts.proofs.Common.{◌≡◌, ℕ, ◌<◌, ◌≤◌, ◌==◌, ◌&&◌, ◌||◌, Bool, true, false, not, cond, List, [], ◌∷◌, ◌++◌, map, Option, Some, None}
+use Rattle.key_parts.proofs.DeadLemmas.{bool_cases}
+use Rattle.key_parts.proofs.EffectLemmas.{same_values}
+use Rattle.key_parts.proofs.EffectRestLemmas.{none_none}
+use Rattle.key_parts.proofs.TurnLemmas.{fit-back}
 use Rattle.key_parts.proofs.Common.{inl, inr, refl, sym, ap, ◌∙◌, subst, ⊎_elim, arith, ◌≢◌, ◌⊎◌, All, AllPairs, Contains, eqb-true, All-nil}
 use Rattle.key_parts.proofs.Common.{All-cons, All-head, All-contains, Contains-append_cases, Contains-append_left, AllPairs-cons, Contains-map}
 use Rattle.key_parts.proofs.Common.{Contains-from_map, AllPairs-nil, AllPairs-head, AllPairs-back, AllPairs-across, All-from_contains, Contains-nil}
 use Rattle.key_parts.proofs.Common.{Contains-first, Contains-later, Contains-cases, Contains-split, KeyedCall, Effect, no_effect, IsNoEffect}
 use Rattle.key_parts.proofs.Common.{IsFormed, precedes, is_completed, is_same_value, read_of, FitInTurn, left_by, KeepPrecedence, HasKeyedOrder}
-use Rattle.key_parts.proofs.Common.{AreKeyedCalls, IsLater, HaveGrown, Choice, at_first, rest_of, Agrees, GoesOn, Keys, bool_cases, same_values}
-use Rattle.key_parts.proofs.Common.{none_none, fit-back, Part, IsAt, IsOneOf, choices_of, StandFor, left_at, AgreesAt, SomePastGoesOn, IsLeftAt}
+use Rattle.key_parts.proofs.Common.{AreKeyedCalls, IsLater, HaveGrown, Choice, at_first, rest_of, Agrees, GoesOn, Keys}
+use Rattle.key_parts.proofs.Common.{Part, IsAt, IsOneOf, choices_of, StandFor, left_at, AgreesAt, SomePastGoesOn, IsLeftAt}
 use Rattle.key_parts.proofs.Common.{NoneIsLeftAt, MayComeNext, IsAfterCall, PartsMayBeTied, PastsMayStay, TiedCallsMayWait, EarlyReadsGain}
 use Rattle.std.proofs.lemmas.Option.{none-some, same_Some}
 use Rattle.key_parts.proofs.PartLemmas.{all_keys, at_self, at_back, same_goes_on, fit_none, none_left_out, stand_below}

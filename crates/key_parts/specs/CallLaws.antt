@@ -3,12 +3,12 @@ use Rattle.std.specs.Prelude.{◌≡◌, ◌≢◌, ◌⊎◌, ℕ, ◌<◌, ◌
 use Rattle.events.specs.declared.operation.Operation.{Operation}
 use Rattle.events.specs.declared.operation.Response.{Response}
 use Rattle.map_object.specs.MapObject.{Contents, IsRising, value_at}
-use Rattle.key_effects.specs.KeyedCalls.{KeyedCall, IsNoEffect, is_completed, is_refusal, concerns_key, keyed}
-use Rattle.key_effects.specs.KeyedOrders.{AreKeyedCalls}
-use Rattle.key_effects.specs.Forms.{HasForm}
-use Rattle.key_effects.specs.Choices.{Choice, at_first, rest_of}
-use Rattle.key_effects.specs.Cuts.{Keys}
-use Rattle.key_effects.specs.Apart.{AreApart, IsRead}
+use Rattle.key_parts.specs.KeyedCalls.{KeyedCall, IsNoEffect, is_completed, is_refusal, concerns_key, keyed}
+use Rattle.key_parts.specs.KeyedOrders.{AreKeyedCalls}
+use Rattle.key_parts.specs.Forms.{HasForm}
+use Rattle.key_parts.specs.Choices.{Choice, at_first, rest_of}
+use Rattle.key_parts.specs.Cuts.{Keys}
+use Rattle.key_parts.specs.Apart.{AreApart, IsRead}
 use Rattle.key_parts.specs.Parts.{Part, IsAt, StandFor, AgreesAt}
 use Rattle.key_parts.specs.Steps.{IsAfterCall}
 use Rattle.key_parts.specs.Left.{IsLeft, HasKeysIn, HaveTheirKeys, HasNoKeyIn, IsNotTakenAt, IsTakenAt, answered, AreTogether, pairs_at}

@@ -3,12 +3,12 @@ use Rattle.std.specs.Prelude.{◌≡◌, ◌⊎◌, ◌↔◌, ℕ, ◌+◌, ◌
 use Rattle.events.specs.declared.operation.Operation.{Operation}
 use Rattle.map_object.specs.MapObject.{Contents}
 use Rattle.orders.specs.Orders.{IsLinearizable, after_call}
-use Rattle.key_effects.specs.KeyedCalls.{KeyedCall, IsFormed, is_completed, ends_before, keyed}
-use Rattle.key_effects.specs.KeyedOrders.{HasKeyedOrder, AreKeyedCalls}
-use Rattle.key_effects.specs.Growth.{HaveGrown}
-use Rattle.key_effects.specs.Choices.{Choice, at_first, rest_of}
-use Rattle.key_effects.specs.Cuts.{Keys, IsWithin}
-use Rattle.key_effects.specs.Apart.{AreApart, IsAlikeAt}
+use Rattle.key_parts.specs.KeyedCalls.{KeyedCall, IsFormed, is_completed, ends_before, keyed}
+use Rattle.key_parts.specs.KeyedOrders.{HasKeyedOrder, AreKeyedCalls}
+use Rattle.key_parts.specs.Growth.{HaveGrown}
+use Rattle.key_parts.specs.Choices.{Choice, at_first, rest_of}
+use Rattle.key_parts.specs.Cuts.{Keys, IsWithin}
+use Rattle.key_parts.specs.Apart.{AreApart, IsAlikeAt}
 use Rattle.key_parts.specs.Parts.{Part, IsOneOf, ShareKeys, StandFor, GoesOnAt, SomePastGoesOn, AreOfOnePart, AgreesAt, left_at}
 use Rattle.key_parts.specs.Steps.{IsLeftAt, NoneIsLeftAt, MayComeNext, IsAfterCall, AreKnownAt, ArePartedBefore, AreOwnOrBarred, IsReadAt, IsAtRest, AreJoined}
 use Rattle.key_parts.specs.Operations.{AreLeftCalls, AreOfLeftCalls, AreAllLeft, OperationMayCome, without_call}

@@ -3,9 +3,9 @@ use Rattle.std.specs.Prelude.{◌≡◌, ◌⊎◌, ℕ, ◌<◌, true, false, i
 use Rattle.events.specs.declared.operation.Operation.{Operation}
 use Rattle.events.specs.declared.operation.Response.{Response}
 use Rattle.map_object.specs.MapObject.{Contents, IsRising, value_at}
-use Rattle.key_effects.specs.KeyedCalls.{KeyedCall, concerns_key}
-use Rattle.key_effects.specs.Choices.{Choice}
-use Rattle.key_effects.specs.Cuts.{Keys}
+use Rattle.key_parts.specs.KeyedCalls.{KeyedCall, concerns_key}
+use Rattle.key_parts.specs.Choices.{Choice}
+use Rattle.key_parts.specs.Cuts.{Keys}
 use Rattle.key_parts.specs.Parts.{AgreesAt}
 use Rattle.key_parts.specs.Operations.{AreLeftCalls, AreOfLeftCalls, AreAllLeft, HasSomeKeyIn}
 

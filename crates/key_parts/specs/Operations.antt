@@ -4,11 +4,11 @@ use Rattle.events.specs.declared.operation.Operation.{Operation}
 use Rattle.events.specs.Precedence.{precedes}
 use Rattle.map_object.specs.MapObject.{Contents, IsRising, value_at}
 use Rattle.orders.specs.Orders.{IsLegalCall}
-use Rattle.key_effects.specs.KeyedCalls.{KeyedCall, IsNoEffect, concerns_key, keyed}
-use Rattle.key_effects.specs.Forms.{HaveForms}
-use Rattle.key_effects.specs.Choices.{Choice}
-use Rattle.key_effects.specs.Cuts.{Keys}
-use Rattle.key_effects.specs.Apart.{IsAlikeAt}
+use Rattle.key_parts.specs.KeyedCalls.{KeyedCall, IsNoEffect, concerns_key, keyed}
+use Rattle.key_parts.specs.Forms.{HaveForms}
+use Rattle.key_parts.specs.Choices.{Choice}
+use Rattle.key_parts.specs.Cuts.{Keys}
+use Rattle.key_parts.specs.Apart.{IsAlikeAt}
 use Rattle.key_parts.specs.Parts.{left_at}
 use Rattle.key_parts.specs.Steps.{IsLeftAt}
 

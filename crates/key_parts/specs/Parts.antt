@@ -1,12 +1,12 @@
 -- What is kept of the calls so far: parts, each of some keys with the pasts that these may have. A past is a choice, and only the part's keys
 -- count. So what is known of one part does not depend on what became of the others.
 use Rattle.std.specs.Prelude.{◌≡◌, ◌⊎◌, ℕ, true, false, List, map, All, AllPairs, Contains, Option}
-use Rattle.key_effects.specs.KeyedCalls.{KeyedCall, is_completed}
-use Rattle.key_effects.specs.KeyedOrders.{HasKeyedOrder, AreDistinct}
-use Rattle.key_effects.specs.Growth.{HaveGrown}
-use Rattle.key_effects.specs.Choices.{Choice, Choices, rest_of, GoesOn, StandAbove}
-use Rattle.key_effects.specs.Cuts.{Keys, IsWithin}
-use Rattle.key_effects.specs.Apart.{only, AreApart, IsRead}
+use Rattle.key_parts.specs.KeyedCalls.{KeyedCall, is_completed}
+use Rattle.key_parts.specs.KeyedOrders.{HasKeyedOrder, AreDistinct}
+use Rattle.key_parts.specs.Growth.{HaveGrown}
+use Rattle.key_parts.specs.Choices.{Choice, Choices, rest_of, GoesOn, StandAbove}
+use Rattle.key_parts.specs.Cuts.{Keys, IsWithin}
+use Rattle.key_parts.specs.Apart.{only, AreApart, IsRead}
 
 -- keys that have their pasts in common, and those pasts
 pub record Part : Type 0 where

@@ -1,9 +1,9 @@
 -- What it means that a past of all keys is reached.
 use Rattle.std.specs.Prelude.{◌≡◌, ℕ, ◌<◌, true, false, List, ◌∷◌, ◌++◌, Option, All, AllPairs, Contains}
-use Rattle.key_effects.specs.KeyedCalls.{KeyedCall, IsNoEffect, is_completed}
-use Rattle.key_effects.specs.KeyedOrders.{IsKeyedOrder, left_by}
-use Rattle.key_effects.specs.Growth.{HaveGrown}
-use Rattle.key_effects.specs.Choices.{Choice, Agrees, rest_of}
+use Rattle.key_parts.specs.KeyedCalls.{KeyedCall, IsNoEffect, is_completed}
+use Rattle.key_parts.specs.KeyedOrders.{IsKeyedOrder, left_by}
+use Rattle.key_parts.specs.Growth.{HaveGrown}
+use Rattle.key_parts.specs.Choices.{Choice, Agrees, rest_of}
 use Rattle.key_parts.specs.Parts.{Part, AreSomeOf, choices_of, StandFor}
 
 -- Some calls lead to a choice, from the values that the keys hold at first. They have an order with

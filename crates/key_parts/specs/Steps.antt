@@ -1,9 +1,9 @@
 -- Steps from a past at some keys: one more call is taken there.
 use Rattle.std.specs.Prelude.{◌≡◌, ◌⊎◌, ℕ, ◌==◌, ◌<◌, true, false, ◌||◌, ◌&&◌, List, Contains}
-use Rattle.key_effects.specs.KeyedCalls.{KeyedCall, precedes}
-use Rattle.key_effects.specs.Choices.{Choice, rest_of}
-use Rattle.key_effects.specs.Cuts.{Keys, IsWithin, IsOutside}
-use Rattle.key_effects.specs.Apart.{IsQuiet}
+use Rattle.key_parts.specs.KeyedCalls.{KeyedCall, precedes}
+use Rattle.key_parts.specs.Choices.{Choice, rest_of}
+use Rattle.key_parts.specs.Cuts.{Keys, IsWithin, IsOutside}
+use Rattle.key_parts.specs.Apart.{IsQuiet}
 use Rattle.key_parts.specs.Parts.{Part, IsAt, choices_of, left_at}
 
 -- something of a call is left at these keys

@@ -1,10 +1,10 @@
 -- Rules that go further than the laws, and are false.
 use Rattle.std.specs.Prelude.{◌≡◌, ℕ, ◌<◌, true, false, List, [], ◌∷◌, ◌++◌, Option, All, AllPairs, Contains}
-use Rattle.key_effects.specs.KeyedCalls.{KeyedCall, ends_before, is_completed}
-use Rattle.key_effects.specs.KeyedOrders.{HasKeyedOrder}
-use Rattle.key_effects.specs.Growth.{HaveGrown}
-use Rattle.key_effects.specs.Choices.{Choice, rest_of}
-use Rattle.key_effects.specs.Cuts.{Keys}
+use Rattle.key_parts.specs.KeyedCalls.{KeyedCall, ends_before, is_completed}
+use Rattle.key_parts.specs.KeyedOrders.{HasKeyedOrder}
+use Rattle.key_parts.specs.Growth.{HaveGrown}
+use Rattle.key_parts.specs.Choices.{Choice, rest_of}
+use Rattle.key_parts.specs.Cuts.{Keys}
 use Rattle.key_parts.specs.Parts.{Part, StandFor, SomePastGoesOn}
 use Rattle.key_parts.specs.Steps.{IsLeftAt, MayComeNext, IsAfterCall, AreKnownAt, ArePartedBefore, IsReadAt}
 

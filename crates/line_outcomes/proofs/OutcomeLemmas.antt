@@ -7,7 +7,7 @@ use Rattle.outcomes.specs.declared.outcome.RunOutcome.{RunOutcome}
 use Rattle.outcomes.specs.declared.outcome.RunOutcome.TheVariants.{Answered, Noted, Refused, Memory, Words, Failed}
 use Rattle.outcomes.specs.Ends.{Change, IsSound}
 use Rattle.outcomes.specs.Outcomes.{IsReadOutcome}
-use Rattle.answer_hints.specs.Outcomes.{IsHintedRead}
+use Rattle.outcomes.specs.HintedOutcomes.{IsHintedRead}
 use Rattle.line_outcomes.specs.Outcomes.{IsAskedOutcome, IsFaultOutcome, IsWordsOutcome}
 
 -- the outcome of a subcommand that reads a text

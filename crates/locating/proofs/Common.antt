@@ -20,15 +20,15 @@ pub use Rattle.events.specs.declared.operation.Operation.{Operation}
 pub use Rattle.explaining.specs.Explained.{IsExplained}
 pub use Rattle.history_text.specs.Texts.{list_data, number_data}
 pub use Rattle.judge.specs.Laws.{OneExactVerdict}
-pub use Rattle.list_laws.proofs.NumberLemmas.{IsSomeAnd-within, some_at}
-pub use Rattle.losses.specs.OwnParts.{OwnPart, own_part, part_of}
-pub use Rattle.losses.specs.declared.loss.Loss.{Loss}
+pub use Rattle.events.proofs.NumberLemmas.{IsSomeAnd-within, some_at}
+pub use Rattle.monitor.specs.OwnParts.{OwnPart, own_part, part_of}
+pub use Rattle.monitor.specs.declared.loss.Loss.{Loss}
 pub use Rattle.map_object.specs.MapObject.{Contents}
 pub use Rattle.monitor.specs.Following.{IsFollowing}
 pub use Rattle.monitor.specs.Outcomes.{IsAnswered, IsKeptWith, IsLost, IsSpent}
 pub use Rattle.orders.specs.Orders.{IsLinearizable, IsLinearizableHistory}
-pub use Rattle.prefixes.specs.Laws.{AnswersHaveOneCall, HistoriesHaveFewEvents, OneEventGoesWrong, PrefixesAreHistories}
-pub use Rattle.prefixes.specs.Prefixes.{GoesWrongAt, IsAnswerOf, prefix_of}
+pub use Rattle.monitor.specs.PrefixLaws.{AnswersHaveOneCall, HistoriesHaveFewEvents, OneEventGoesWrong, PrefixesAreHistories}
+pub use Rattle.monitor.specs.Prefixes.{GoesWrongAt, IsAnswerOf, prefix_of}
 pub use Rattle.serde_json.specs.View.{items_of, view}
 pub use Rattle.serde_json.specs.Written.{compact_text, has_float, items_have_float}
 pub use Rattle.locating.specs.Bisections.{IsBisected, IsJudged, IsJudgedWhole, IsLeftOpen, IsLostBetween, IsNo, IsRefutedWith, IsUndecided, IsYes}

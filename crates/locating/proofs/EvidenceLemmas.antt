@@ -1,7 +1,7 @@
 -- What shows a location.
 use Rattle.locating.proofs.Common.{◌≡◌, ℕ, ◌+◌, suc, List, [], ◌∷◌, ◌++◌, length, take, Some, subst, Event, Answer, HistoryView, Loss, OwnPart}
 use Rattle.locating.proofs.Common.{own_part, IsLostAt, IsLossEvidence, IsOwnEvidence, ShowsNoneUpTo}
-use Rattle.losses.specs.Laws.{IsOwnPartOf, OwnPartsHaveNoOrder}
+use Rattle.monitor.specs.LossLaws.{IsOwnPartOf, OwnPartsHaveNoOrder}
 use Rattle.locating.specs.declared.evidence.Evidence.{Evidence}
 use Rattle.locating.specs.declared.evidence.Evidence.TheVariants.{OfEvents, OfPart, Missing}
 use Rattle.locating.proofs.FormLemmas.{kept_of_own}

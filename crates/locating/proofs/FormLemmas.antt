@@ -2,7 +2,7 @@
 use Rattle.events.specs.declared.event.Reply.TheVariants as replies
 use Rattle.locating.proofs.Common.{◌≡◌, ℕ, ◌<◌, ◌≤◌, ⊎_elim, List, Some, All, ap, arith, sym, ◌∙◌, cases_lt, none-some, Call, Get, Insert, Remove}
 use Rattle.locating.proofs.Common.{Scan, Replace, Event, Reply, Contents, Loss, OwnPart, own_part, part_of, IsKeptWith, IsLost}
-use Rattle.key_effects.specs.Forms.{ArePairsOf, IsScanReply}
+use Rattle.key_parts.specs.Forms.{ArePairsOf, IsScanReply}
 use Rattle.part_pasts.specs.Pasts.{IsDead}
 use Rattle.parts.specs.Keeping.{pasts_of}
 use Rattle.monitor.specs.Calls.{MayReply}

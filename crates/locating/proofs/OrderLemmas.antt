@@ -4,7 +4,7 @@ use Rattle.locating.proofs.Common.{slice_get, same_Some, some_at, Event, Operati
 use Rattle.locating.proofs.Common.{OneEventGoesWrong, PrefixesAreHistories, IsAnswerOf, OneExactVerdict, found, spent, upper, lower, IsYes, IsJudged}
 use Rattle.locating.proofs.Common.{IsBisected, IsLeftOpen, OrdersAreFoundWhereJudged, IsDecidedByJudge, IsFoundAt, IsLocated, Location, Yes, No, Lost}
 use Rattle.locating.proofs.Common.{Undecided}
-use Rattle.list_laws.proofs.Lists.{All-at}
+use Rattle.events.proofs.Lists.{All-at}
 use Rattle.events.specs.declared.operation.Response.{Response}
 use Rattle.locating.specs.FirstOrders.{IsFoundBefore}
 use Rattle.locating.proofs.BisectionLemmas.{not_yes_and_undecided, open_but_yes, open_but_found}

@@ -5,7 +5,7 @@ use Rattle.events.specs.declared.operation.Response.{Response}
 use Rattle.events.specs.HistoryView.{HistoryView}
 use Rattle.events.specs.Operations.{operations}
 use Rattle.orders.specs.Orders.{IsLinearizableHistory}
-use Rattle.prefixes.specs.Prefixes.{prefix_of}
+use Rattle.monitor.specs.Prefixes.{prefix_of}
 use Rattle.judge.specs.declared.verdict.Verdict.{Verdict}
 use Rattle.judge.specs.declared.verdict.Verdict.TheVariants.{Yes, No, Undecided}
 use Rattle.judge.specs.Exact.{IsExactVerdict}

@@ -4,11 +4,11 @@ use Rattle.events.specs.HistoryView.{HistoryView}
 use Rattle.events.specs.Operations.{operations}
 use Rattle.map_object.specs.MapObject.{IsRising}
 use Rattle.orders.specs.Orders.{IsLinearizable}
-use Rattle.prefixes.specs.Prefixes.{prefix_of}
+use Rattle.monitor.specs.Prefixes.{prefix_of}
 use Rattle.explaining.specs.Explained.{IsExplained, IsExplanation}
 use Rattle.explaining.specs.declared.explanation.Explanation.{Explanation}
-use Rattle.losses.specs.declared.loss.Loss.{Loss}
-use Rattle.losses.specs.OwnParts.{own_part}
+use Rattle.monitor.specs.declared.loss.Loss.{Loss}
+use Rattle.monitor.specs.OwnParts.{own_part}
 use Rattle.locating.specs.declared.location.Location.{Location}
 use Rattle.locating.specs.declared.location.Location.TheVariants as locations
 use Rattle.locating.specs.declared.evidence.Evidence.{Evidence}

@@ -2,9 +2,9 @@
 use Rattle.std.specs.Prelude.{◌≡◌, ◌⊎◌, ℕ, true, List, length, Option, Some, None, is_some, option_map}
 use Rattle.events.specs.HistoryView.{HistoryView}
 use Rattle.events.specs.Operations.{operations}
-use Rattle.configurations.specs.Counts.{ReachesMoreThan}
+use Rattle.memo.specs.Counts.{ReachesMoreThan}
 use Rattle.orders.specs.Orders.{IsOrderOfHistory}
-use Rattle.prefixes.specs.Prefixes.{prefix_of}
+use Rattle.monitor.specs.Prefixes.{prefix_of}
 use Rattle.judge.specs.Exact.{IsExactYes}
 use Rattle.locating.specs.Bisections.{IsJudged, IsUndecided}
 use Rattle.locating.specs.Locations.{IsDecidedByJudge, IsLocated}

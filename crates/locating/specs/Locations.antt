@@ -4,8 +4,8 @@ use Rattle.events.specs.declared.event.Event.TheVariants.{Answer}
 use Rattle.events.specs.declared.event.Reply.{Reply}
 use Rattle.events.specs.HistoryView.{HistoryView}
 use Rattle.orders.specs.Orders.{IsLinearizableHistory}
-use Rattle.prefixes.specs.Prefixes.{prefix_of, IsAnswerOf, GoesWrongAt}
-use Rattle.losses.specs.declared.loss.Loss.{Loss}
+use Rattle.monitor.specs.Prefixes.{prefix_of, IsAnswerOf, GoesWrongAt}
+use Rattle.monitor.specs.declared.loss.Loss.{Loss}
 use Rattle.monitor.specs.Following.{IsFollowing}
 use Rattle.monitor.specs.MonitorView.{MonitorView}
 use Rattle.monitor.specs.Outcomes.{IsAnswered}

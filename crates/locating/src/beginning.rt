@@ -1,9 +1,9 @@
 // The history up to an event.
 ghost use Rattle.std.specs.Prelude.{◌≡◌, ◌+◌, take, IfOk};
-ghost use Rattle.prefixes.specs.Prefixes.{prefix_of};
+ghost use Rattle.monitor.specs.Prefixes.{prefix_of};
 
 use events::{Event, History, Memory};
-use prefixes::prefixes_are_histories;
+use monitor::prefixes_are_histories;
 use std::alloc::Global;
 
 /// Returns a copy of the history of the events up to this one, from the same starting pairs.

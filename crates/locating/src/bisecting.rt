@@ -4,13 +4,13 @@ ghost use Rattle.events.specs.Operations.{operations};
 ghost use Rattle.judge.specs.Exact.{IsExactVerdict};
 ghost use Rattle.judge.specs.Shown.{IsShown};
 ghost use Rattle.locating.specs.Bisections.{answers_at, IsBisected, IsLostBetween, LosesOrderAt};
-ghost use Rattle.prefixes.specs.Prefixes.{prefix_of, GoesWrongAt};
+ghost use Rattle.monitor.specs.Prefixes.{prefix_of, GoesWrongAt};
 ghost use Rattle.search.specs.Limits.{budget_limit};
 
 use crate::beginning::history_up_to;
 use events::{History, Memory, Operation};
 use judge::{Verdict, judge_alone};
-use prefixes::orders_are_lost_at_answers;
+use monitor::orders_are_lost_at_answers;
 use std::alloc::Global;
 
 /// Finds the event between `low` and `high` at which a history loses its orders. Its first `low`

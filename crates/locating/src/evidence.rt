@@ -1,6 +1,6 @@
 // What shows a location.
 use explaining::Explanation;
-use losses::OwnPart;
+use monitor::OwnPart;
 
 /// What shows that a history goes wrong at an event, or may.
 #[derive(Drop)]

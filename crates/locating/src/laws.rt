@@ -2,7 +2,7 @@
 ghost use Rattle.locating.specs.Laws.{LocationsAgree, OneLocationWhereJudged, OrdersAreFoundWhereJudged};
 
 use judge::one_exact_verdict;
-use prefixes::{answers_have_one_call, one_event_goes_wrong, prefixes_are_histories};
+use monitor::{answers_have_one_call, one_event_goes_wrong, prefixes_are_histories};
 
 /// The answers of `locate` to one history at any two budgets agree. If one names an event, the
 /// other names the same event and call, or is undecided at that event or before it.

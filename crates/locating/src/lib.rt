@@ -7,7 +7,7 @@
 //! a few of those left of a part of the keys that goes wrong on its own. Their map is then that of
 //! the pairs that these keys had before.
 //!
-//! The definitions of `prefixes` say when a history goes wrong at an event. Those in `specs/` say
+//! The definitions of `monitor` say when a history goes wrong at an event. Those in `specs/` say
 //! what a location means.
 #![tactic(auto)]
 

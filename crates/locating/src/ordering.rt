@@ -4,7 +4,7 @@ ghost use Rattle.events.specs.Histories.{IsHistory};
 ghost use Rattle.locating.specs.FirstOrders.{IsFirstFound, IsFoundBefore, IsOrderedLocation, IsSearched};
 ghost use Rattle.locating.specs.Locations.{IsLocated};
 ghost use Rattle.orders.specs.Orders.{IsLinearizableHistory};
-ghost use Rattle.prefixes.specs.Prefixes.{prefix_of};
+ghost use Rattle.monitor.specs.Prefixes.{prefix_of};
 ghost use Rattle.search.specs.Limits.{budget_limit};
 
 use crate::beginning::first_events;

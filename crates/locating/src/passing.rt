@@ -10,8 +10,7 @@ ghost use Rattle.monitor.specs.Following.{IsFollowing};
 
 use crate::location::Location;
 use events::{Call, Event, History, Memory, Reply};
-use monitor::{Answered, FollowFault, Monitor};
-use prefixes::histories_have_few_events;
+use monitor::{Answered, FollowFault, Monitor, histories_have_few_events};
 use std::alloc::Global;
 
 /// What an event makes of the pass.

@@ -6,7 +6,7 @@ ghost use Rattle.explaining.specs.Explained.{IsExplanation};
 ghost use Rattle.locating.specs.Locations.{IsLocated, IsLostAt};
 ghost use Rattle.map_object.specs.MapObject.{IsRising};
 ghost use Rattle.orders.specs.Orders.{IsLinearizable, IsLinearizableHistory};
-ghost use Rattle.prefixes.specs.Prefixes.{prefix_of};
+ghost use Rattle.monitor.specs.Prefixes.{prefix_of};
 ghost use Rattle.locating.specs.Evidences.{AreCallsOf, AreCallsUpTo, IsEvidenceOf, IsFoundEvidence, IsLossEvidence, IsOwnEvidence, IsDoubtEvidence, Refutes};
 
 use crate::beginning::history_up_to;
@@ -14,8 +14,8 @@ use crate::evidence::Evidence;
 use crate::location::Location;
 use events::{History, Memory};
 use explaining::{Explanation, explain_calls, explain_history};
-use losses::{Loss, OwnPart, own_part, own_parts_have_no_order};
 use map_object::SortedMap;
+use monitor::{Loss, OwnPart, own_part, own_parts_have_no_order};
 use std::alloc::Global;
 
 /// Finds a few calls that show a location. First it makes short searches of the last calls up to

@@ -27,18 +27,18 @@ pub use Rattle.art_core.specs.declared.item.Item.{Item}
 pub use Rattle.art_core.specs.declared.item.Item.TheVariants.{End, Turns, Until}
 pub use Rattle.art_core.specs.declared.process.Process.{Process}
 pub use Rattle.art_rows.specs.declared.table.Shape.{Shape}
-pub use Rattle.art_steps.specs.Steps.{Rest, access_of, reply_of}
-pub use Rattle.art_steps.specs.TreeCalls.{is_tree_call}
-pub use Rattle.art_steps.specs.declared.variant.Variant.{Variant}
+pub use Rattle.art_rows.specs.Steps.{Rest, access_of, reply_of}
+pub use Rattle.art_rows.specs.TreeCalls.{is_tree_call}
+pub use Rattle.art_rows.specs.declared.variant.Variant.{Variant}
 pub use Rattle.events.specs.Histories.{AreHistoryEvents}
 pub use Rattle.events.specs.HistoryView.{HistoryView}
 pub use Rattle.events.specs.Starts.{IsStart}
 pub use Rattle.events.specs.declared.event.Call.{Call}
 pub use Rattle.events.specs.declared.event.Call.TheVariants.{Insert}
 pub use Rattle.events.specs.declared.event.Reply.{Reply}
-pub use Rattle.list_laws.proofs.Lists.{All-at, All-from_contains}
-pub use Rattle.list_laws.proofs.NumberLemmas.{slice_get-below, some_at}
-pub use Rattle.logs.specs.Logs.{Stamped, events_by_stamp}
+pub use Rattle.events.proofs.Lists.{All-at, All-from_contains}
+pub use Rattle.events.proofs.NumberLemmas.{slice_get-below, some_at}
+pub use Rattle.events.specs.Logs.{Stamped, events_by_stamp}
 pub use Rattle.map_object.specs.MapObject.{Contents}
 pub use Rattle.plans.specs.declared.fault.MachineFault.{MachineFault}
 pub use Rattle.machine.specs.Fitting.{Advances, AreFor, FitsProcess, Moves, ShowsState}

@@ -2,7 +2,7 @@
 use Rattle.machine.proofs.Common.{◌≡◌, ◌≤◌, ℕ, [], length, refl, ap, sym, subst, ◌∙◌, arith, Option, Some, None, slice_get, slice_get_past, Call}
 use Rattle.machine.proofs.Common.{Reply, Idle, Going, Answered, Task, FitsDoing, rest_of, next-asks, access_of, Process, Plan, State, begun}
 use Rattle.machine.proofs.Common.{invocation, move_from, move_of, next_in, Machine, Runner, FitsProcess, Shows, HasNothingToDo}
-use Rattle.art_steps.specs.declared.access.Access.{Access as Accessed}
+use Rattle.art_rows.specs.declared.access.Access.{Access as Accessed}
 use Rattle.machine.specs.declared.next_steps.NextStep.{NextStep}
 use Rattle.machine.specs.declared.next_steps.NextStep.TheVariants.{Nothing, Stamp, Access}
 use Rattle.machine.specs.NextSteps.{next_step_of, step_by}

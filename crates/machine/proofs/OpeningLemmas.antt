@@ -5,7 +5,7 @@ use Rattle.machine.proofs.Common.{FitsProcess, AreFor, plan_of}
 use Rattle.std.specs.List.{AllZip}
 use Rattle.std.proofs.lemmas.List.Sums.{sum-map}
 use Rattle.std.proofs.lemmas.List.Folds.{sum_by-replicate}
-use Rattle.list_laws.proofs.ZipLemmas.{zip_right}
+use Rattle.events.proofs.ZipLemmas.{zip_right}
 use Rattle.machine.specs.Opening.{IsFresh}
 
 -- some of the runners are there, for the first of the scripts

@@ -6,7 +6,7 @@ use Rattle.machine.proofs.Common.{IsReached, Shows, start_of, IsUnderWay}
 use Rattle.events.specs.declared.event.Event.{Event}
 use Rattle.events.specs.Operations.{operations}
 use Rattle.orders.specs.Orders.{IsLegal, after_calls, IsLinearizableHistory}
-use Rattle.art_steps.specs.declared.variant.Variant.TheVariants.{Coupled, Optimistic}
+use Rattle.art_rows.specs.declared.variant.Variant.TheVariants.{Coupled, Optimistic}
 use Rattle.art_core.specs.Claims.{SerialIsMap, CoupledIsLinearizable, OptimisticIsLinearizable}
 use Rattle.art_core.specs.Meaning.{Means, AllUnlocked}
 use Rattle.machine.specs.Serial.{DoesTheMap}

@@ -4,7 +4,7 @@ use Rattle.machine.proofs.Common.{◌∙◌, arith, eqb-true, eq-eqb, ◌↔◌,
 use Rattle.machine.proofs.Common.{State, step, process_of_item, next_point, point_in, finished_count, WantsTurn, AreMade, Runner, Machine}
 use Rattle.machine.proofs.Common.{MachineFault, FitsProcess, Shows, turns_left, IsRefusedIn, HasMadeItem, HasMadeAll, HasStoppedIn, HasStoppedAt}
 use Rattle.std.proofs.Common.{Option, Some, None}
-use Rattle.art_steps.specs.declared.access.Point.{Point}
+use Rattle.art_rows.specs.declared.access.Point.{Point}
 use Rattle.art_core.proofs.NamedTurnLemmas.{made-more, whole-more}
 use Rattle.machine.proofs.MachineLemmas.{process-at}
 

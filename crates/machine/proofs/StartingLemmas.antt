@@ -5,7 +5,7 @@ use Rattle.machine.proofs.Common.{Contains-get_or, Contains-push_cases, some_at,
 use Rattle.machine.proofs.Common.{Turns, Process, Plan, State, answered, next_move, opened, AreMade, AreInsertedIn, inserts, start_plan, IsPlan}
 use Rattle.machine.proofs.Common.{run-lengths, Machine, MachineFault, HasMadeItem, HasStoppedIn, IsOpened}
 use Rattle.std.proofs.Common.{Some, None}
-use Rattle.list_laws.proofs.FilterLemmas.{Contains-filter_map, Contains-from_filter_map}
+use Rattle.events.proofs.FilterLemmas.{Contains-filter_map, Contains-from_filter_map}
 use Rattle.art_serial.specs.maps.Ends.{StartsEnd}
 use Rattle.art_core.proofs.StartLemmas.{run-steps}
 use Rattle.machine.specs.declared.starting.TheConstants.{START_TURNS}

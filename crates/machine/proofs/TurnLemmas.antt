@@ -5,9 +5,9 @@ use Rattle.machine.proofs.Common.{Invokes, Makes, Responds, begun, finished, inv
 use Rattle.machine.proofs.Common.{Going, Answered, Runner, Call, Reply, Shape, Variant, Rest, access_of, reply_of, FitsDoing, after_access, next-asks}
 use Rattle.machine.proofs.Common.{fits-after, Advances, FitsProcess, Moves}
 use Rattle.events.specs.declared.event.Event.TheVariants.{Invoke, Answer}
-use Rattle.art_steps.specs.declared.access.Access.{Access}
-use Rattle.art_steps.specs.Act.{act}
-use Rattle.art_steps.specs.Fits.{Fits}
+use Rattle.art_rows.specs.declared.access.Access.{Access}
+use Rattle.art_rows.specs.Act.{act}
+use Rattle.art_rows.specs.Fits.{Fits}
 use Rattle.art_core.specs.Accesses.{got_by, words_after}
 
 -- the task took what the access got: it goes on, or its call is answered

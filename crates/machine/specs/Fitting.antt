@@ -2,11 +2,11 @@
 use Rattle.std.specs.Prelude.{◌≡◌, ℕ, List, [], ◌∷◌, ◌++◌, length, slice_get, slice_index, slice_set, Option, Some}
 use Rattle.events.specs.declared.event.Call.{Call}
 use Rattle.art_rows.specs.declared.table.Shape.{Shape}
-use Rattle.art_steps.specs.declared.variant.Variant.{Variant}
-use Rattle.art_steps.specs.Steps.{Asks}
-use Rattle.art_steps.specs.Act.{act}
-use Rattle.art_steps.specs.declared.access.Access.{Access}
-use Rattle.art_steps.specs.declared.access.Point.{Point}
+use Rattle.art_rows.specs.declared.variant.Variant.{Variant}
+use Rattle.art_rows.specs.Steps.{Asks}
+use Rattle.art_rows.specs.Act.{act}
+use Rattle.art_rows.specs.declared.access.Access.{Access}
+use Rattle.art_rows.specs.declared.access.Point.{Point}
 use Rattle.art_core.specs.Accesses.{got_by, words_after}
 use Rattle.art_core.specs.declared.process.Process.{Process}
 use Rattle.art_core.specs.Core.{Plan, State, Move, begun, finished, next_move, word_of_move, new_word, after_move}

@@ -1,6 +1,6 @@
 -- What it means that the reads of a machine have their moments.
 use Rattle.std.specs.Prelude.{◌≡◌, ℕ, List}
-use Rattle.art_steps.specs.declared.variant.Variant.TheVariants.{Optimistic}
+use Rattle.art_rows.specs.declared.variant.Variant.TheVariants.{Optimistic}
 use Rattle.art_core.specs.Core.{Plan, State}
 use Rattle.art_core.specs.Plans.{IsRun}
 use Rattle.art_schedules.specs.moments.Reads.{AnsweredScansHaveMoments, AnsweredGetsHaveMoments}

@@ -3,7 +3,7 @@ use Rattle.std.specs.Prelude.{◌≡◌, ◌⊎◌}
 use Rattle.events.specs.HistoryView.{HistoryView}
 use Rattle.events.specs.Operations.{operations}
 use Rattle.orders.specs.Orders.{IsLegal, after_calls}
-use Rattle.art_steps.specs.declared.variant.Variant.TheVariants.{Coupled, Optimistic}
+use Rattle.art_rows.specs.declared.variant.Variant.TheVariants.{Coupled, Optimistic}
 use Rattle.art_core.specs.Plans.{IsSerial}
 use Rattle.art_core.specs.Meaning.{Means, AllUnlocked}
 use Rattle.machine.specs.declared.machines.Machine.{Machine}

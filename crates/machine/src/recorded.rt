@@ -6,8 +6,7 @@ use art_schedules::{
     optimistic_is_linearizable,
 };
 use art_serial::serial_is_map;
-use events::{Event, History, Memory};
-use logs::{append_log, history_by_stamp};
+use events::{Event, History, Memory, append_log, history_by_stamp};
 use std::alloc::Global;
 
 impl Machine {

@@ -3,7 +3,7 @@ ghost use Rattle.std.specs.Prelude.{◌≡◌, [], ◌∷◌, ◌↔◌, IsTrue,
 ghost use Rattle.events.specs.declared.event.Call.TheVariants.{Insert};
 ghost use Rattle.events.specs.declared.event.Reply.TheVariants as replies;
 ghost use Rattle.art_rows.specs.Table.{clock};
-ghost use Rattle.art_steps.specs.TreeCalls.{is_tree_call};
+ghost use Rattle.art_rows.specs.TreeCalls.{is_tree_call};
 ghost use Rattle.art_core.specs.declared.process.Process.{Process};
 ghost use Rattle.art_core.specs.Core.{Plan, State, answered, finished};
 ghost use Rattle.art_core.specs.Plans.{IsPlan};

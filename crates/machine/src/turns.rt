@@ -2,14 +2,14 @@
 ghost use Rattle.std.specs.Prelude.{◌≡◌, ◌≢◌, ◌<◌, ◌≤◌, ℕ, List, [], ◌∷◌, ◌++◌, length, slice_get, Some, None, is_some, OnOk, OnErr};
 ghost use Rattle.std.specs.Prelude.{vec_len, vec_capacity};
 ghost use Rattle.events.specs.declared.event.Event.TheVariants.{Answer};
-ghost use Rattle.art_steps.specs.Steps.{reply_of};
+ghost use Rattle.art_rows.specs.Steps.{reply_of};
 ghost use Rattle.events.specs.declared.event.Call.{Call};
 ghost use Rattle.art_core.specs.Core.{Plan};
 ghost use Rattle.art_core.specs.declared.process.Process.{Process};
 ghost use Rattle.art_rows.specs.declared.table.Shape.{Shape};
 ghost use Rattle.art_rows.specs.Table.{table_words};
-ghost use Rattle.art_steps.specs.declared.variant.Variant.{Variant};
-ghost use Rattle.art_steps.specs.Fits.{Fits};
+ghost use Rattle.art_rows.specs.declared.variant.Variant.{Variant};
+ghost use Rattle.art_rows.specs.Fits.{Fits};
 ghost use Rattle.art.specs.Tasks.{rest_of, shape_of, IsReady};
 ghost use Rattle.art.specs.Doings.{IsFor, IsAnswered, after_access};
 ghost use Rattle.machine.specs.Fitting.{Advances};

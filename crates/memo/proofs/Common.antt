@@ -22,12 +22,12 @@ pub use Rattle.std.specs.List.Sorted.{IsStrictlyIncreasing}
 pub use Rattle.std.specs.Prelude.{All, AllPairs, Contains, IfOk, IsSomeAnd, IsTrue, OnErr, bit_or, bit_xor, filter, if◌then◌else◌, is_some, nat_lt}
 pub use Rattle.std.specs.Prelude.{slice_get, ◌&&◌, ◌==◌, ◌↔◌, ◌≢◌, ◌⊎◌}
 pub use Rattle.std.specs.Vec.{vec_len}
-pub use Rattle.configurations.specs.Configurations.{Configuration}
-pub use Rattle.list_laws.proofs.Lists.{All-from_contains, AllPairs-append, AllPairs-nil, Contains-cases, Contains-filter, Contains-first}
-pub use Rattle.list_laws.proofs.Lists.{Contains-from_filter, Contains-later, Contains-nil, Contains-range}
+pub use Rattle.events.proofs.Lists.{All-from_contains, AllPairs-append, AllPairs-nil, Contains-cases, Contains-filter, Contains-first}
+pub use Rattle.events.proofs.Lists.{Contains-from_filter, Contains-later, Contains-nil, Contains-range}
 pub use Rattle.map_object.proofs.MapLemmas.{AreAbove-first, IsRising-insert, IsRising-remove, IsRising-rest, value_at_above}
 pub use Rattle.map_object.proofs.ValueLemmas.{first_value, later_value, same_pairs}
 pub use Rattle.map_object.specs.MapObject.{Contents, IsRising, above, after, after_reply, below, is_just, put, value_at}
+pub use Rattle.memo.specs.Configurations.{Configuration}
 pub use Rattle.memo.specs.Differences.{IsDifference, differs, put_all, value_from, value_gone, value_put, with_value}
 unfoldable pub use Rattle.memo.specs.Differences.{pairs_from}
 pub use Rattle.memo.specs.Digest.{HasDigest, digest_of, mix_pair, mix_place, mix_value}

@@ -5,10 +5,10 @@ use Rattle.memo.proofs.Common.{if◌then◌else◌, slice_get, All, AllPairs, Co
 use Rattle.memo.proofs.Common.{slice_get-map, slice_get_read, Contents, IsRising, value_at, Configuration, HasDigest, digest_of, mix_place, mix_pair}
 use Rattle.memo.proofs.Common.{mix_value, IsDifference, pairs_from, with_value, value_put, value_gone, value_from, AgreeBut, with_place, after_one}
 use Rattle.memo.proofs.Common.{Kept, kept_of, same_kept, configuration_from, IsKept, configurations_from}
-use Rattle.list_laws.proofs.NumberLemmas.{IsSomeAnd-within}
-use Rattle.list_laws.proofs.FilterLemmas.{Contains-map, Contains-from_map, AllPairs-map, AllPairs-weaker}
-use Rattle.configurations.specs.Counts.{AreDistinct}
-use Rattle.configurations.proofs.ConfigurationLemmas.{configuration_of, same_configuration}
+use Rattle.events.proofs.NumberLemmas.{IsSomeAnd-within}
+use Rattle.events.proofs.FilterLemmas.{Contains-map, Contains-from_map, AllPairs-map, AllPairs-weaker}
+use Rattle.memo.specs.Counts.{AreDistinct}
+use Rattle.memo.proofs.ConfigurationLemmas.{configuration_of, same_configuration}
 use Rattle.memo.proofs.DifferenceLemmas.{pairs_from-is, pairs_from-rises, value_at-from, same_put, same_gone, IsDifference-start, IsDifference-with}
 use Rattle.memo.proofs.DigestLemmas.{digest_after, digest_as_before, digest_anew, sum_changed, sum_by-with_place}
 

@@ -1,11 +1,13 @@
+pub mod FrontLemmas
+pub mod ConfigurationLemmas
 mod Common
-mod BitLemmas
+mod ValueLemmas
 mod DifferenceLemmas
 pub mod DigestLemmas
 mod KeptLemmas
 mod KeyLemmas
-mod PlacesLemmas
-mod ValueLemmas
 mod VisitedLemmas
 mod WordLemmas
+mod BitLemmas
 pub mod TakingLemmas
+mod PlacesLemmas

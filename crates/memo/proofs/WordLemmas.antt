@@ -4,7 +4,7 @@ use Rattle.memo.proofs.Common.{◌⊎◌, ◌↔◌, ◌==◌, ◌&&◌, nat_lt,
 use Rattle.memo.proofs.Common.{cases_lt, cases_eq, Decides-and, Decides-or, Decides-ltb, Decides-eqb, get_or_past, ext_get_or, All-contains}
 use Rattle.memo.proofs.Common.{IsStrictlyIncreasing-filter, bit_at-zero, bit_at-lt, same_from_bits_below, Contains-filter, Contains-from_filter}
 use Rattle.memo.proofs.Common.{Contains-range, Contains-nil, bit_of, is_among, places_of, IsTrimmed, AreWords, ArePlaces}
-use Rattle.list_laws.proofs.RisingLemmas.{rising_unique, IsStrictlyIncreasing-range}
+use Rattle.events.proofs.RisingLemmas.{rising_unique, IsStrictlyIncreasing-range}
 
 -- a number is below the least one that is not in the set, or its bit is set above that one
 abbrev pub IsAmong : ℕ → List ℕ → ℕ → Type 0

@@ -2,7 +2,7 @@
 -- by its own mixed number.
 use Rattle.std.specs.Prelude.{◌≡◌, ℕ, ◌+◌, ◌*◌, ◌/◌, ◌%◌, ◌^◌, bit_xor, List, Option, Some, None}
 use Rattle.std.specs.List.{sum_by}
-use Rattle.configurations.specs.Configurations.{Configuration}
+use Rattle.memo.specs.Configurations.{Configuration}
 
 -- a number times 11400714819323198485, with its upper half brought into the lower
 unfoldable pub mix : ℕ → ℕ

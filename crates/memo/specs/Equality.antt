@@ -5,9 +5,9 @@ use Rattle.std.specs.Cmp.{IsEquivalence, decided, unsigned_Decides}
 use Rattle.std.specs.Cmp.Lexicographic.{pointwise, pointwise_decides}
 use Rattle.std.proofs.Common.{ap, ap₂}
 use Rattle.std.proofs.lemmas.Bool.Decides.{Decides-and, Decides-like}
-use Rattle.configurations.specs.Configurations.{Configuration}
+use Rattle.memo.specs.Configurations.{Configuration}
 use Rattle.memo.specs.Digest.{digest_of}
-use Rattle.configurations.proofs.ConfigurationLemmas.{same_configuration}
+use Rattle.memo.proofs.ConfigurationLemmas.{same_configuration}
 
 -- two pairs have the same key and the same value
 abbrev pub is_same_pair : ℕ × ℕ → ℕ × ℕ → Bool

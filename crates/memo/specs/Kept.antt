@@ -6,7 +6,7 @@ use Rattle.std.specs.Cmp.Lexicographic.{pointwise, pointwise_decides}
 use Rattle.std.proofs.Common.{ap, ◌∙◌}
 use Rattle.std.proofs.lemmas.Bool.Decides.{Decides-and, Decides-like}
 use Rattle.map_object.specs.MapObject.{Contents}
-use Rattle.configurations.specs.Configurations.{Configuration}
+use Rattle.memo.specs.Configurations.{Configuration}
 use Rattle.memo.specs.Digest.{HasDigest}
 use Rattle.memo.specs.Differences.{IsDifference, pairs_from}
 use Rattle.memo.specs.Equality.{is_same_pair, Decides-is_same_pair}

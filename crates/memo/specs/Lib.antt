@@ -1,3 +1,6 @@
+pub mod Fronts
+pub mod Configurations
+pub mod Counts
 pub mod Bases
 pub mod Differences
 pub mod Digest

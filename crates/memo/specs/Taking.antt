@@ -3,7 +3,7 @@ use Rattle.std.specs.Prelude.{◌≡◌, ℕ, List, ◌∷◌, ◌++◌, nat_lt,
 use Rattle.events.specs.declared.operation.Operation.{Operation}
 use Rattle.map_object.specs.MapObject.{Contents}
 use Rattle.orders.specs.Orders.{after_call}
-use Rattle.configurations.specs.Configurations.{Configuration}
+use Rattle.memo.specs.Configurations.{Configuration}
 
 -- a rising list of places with one more place inserted: those below it, then it, then those above
 -- it

@@ -23,7 +23,7 @@ pub struct Config {
 }
 
 impl Model for Config {
-    ghost use Rattle.configurations.specs.Configurations.{Configuration};
+    ghost use Rattle.memo.specs.Configurations.{Configuration};
     ghost use Rattle.memo.specs.Kept.{configuration_from, IsKept};
 
     ghost Value = { Configuration };

@@ -1,7 +1,7 @@
 //! Configurations of a search, and the memo that finds whether one is new: Lowe 2017. Other
 //! searches use its sets of places and its digests too.
 //!
-//! The definitions of `configurations` say what a configuration is, and which are reachable.
+//! Fronts of a list of calls, and the configurations that they lead to, are defined here too.
 #![tactic(auto)]
 
 mod base;

@@ -1,7 +1,7 @@
 // The memo of a search.
 ghost use Rattle.std.specs.Prelude.{◌≡◌, ◌↔◌, ◌++◌, ◌∷◌, [], length, IsTrue, IsSomeAnd, slice_get, IfOk, IfErr, OnErr, ◌⊎◌, Contains};
 ghost use Rattle.std.specs.Prelude.{if◌then◌else◌};
-ghost use Rattle.configurations.specs.Counts.{AreDistinct};
+ghost use Rattle.memo.specs.Counts.{AreDistinct};
 ghost use Rattle.memo.specs.Keys.{key_changed};
 ghost use Rattle.memo.specs.Taking.{after_one, IsOneMore};
 
@@ -27,7 +27,7 @@ pub struct Memo {
 
 impl Model for Memo {
     ghost use Rattle.std.specs.Prelude.{List, All};
-    ghost use Rattle.configurations.specs.Configurations.{Configuration};
+    ghost use Rattle.memo.specs.Configurations.{Configuration};
     ghost use Rattle.memo.specs.Kept.{configuration_from, IsKept};
     ghost use Rattle.memo.specs.Visits.{configurations_from};
 

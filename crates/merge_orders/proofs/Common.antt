@@ -13,20 +13,20 @@ pub use Rattle.events.proofs.TimeLemmas.{inv_rises}
 pub use Rattle.events.specs.Operations.{operations}
 pub use Rattle.events.specs.Precedence.{precedes}
 pub use Rattle.events.specs.declared.operation.Operation.{Operation}
-pub use Rattle.list_laws.proofs.FilterLemmas.{AllPairs-weaker, AreRelatedAs, Contains-from_filter, filter_rest}
-pub use Rattle.list_laws.proofs.Lists.{All-from_contains, AllPairs-head, AllPairs-nil, AllPairs-tail, Contains-at, Contains-cases}
-pub use Rattle.list_laws.proofs.Lists.{Contains-first, Contains-later, Contains-nil, place_of-Contains}
-pub use Rattle.list_laws.proofs.NumberLemmas.{has_number-Contains, has_number-from_Contains, slice_get-below}
-pub use Rattle.list_laws.proofs.ZipLemmas.{zip_right}
-pub use Rattle.list_laws.specs.Lists.{greatest, has_number}
+pub use Rattle.events.proofs.FilterLemmas.{AllPairs-weaker, AreRelatedAs, Contains-from_filter, filter_rest}
+pub use Rattle.events.proofs.Lists.{All-from_contains, AllPairs-head, AllPairs-nil, AllPairs-tail, Contains-at, Contains-cases}
+pub use Rattle.events.proofs.Lists.{Contains-first, Contains-later, Contains-nil, place_of-Contains}
+pub use Rattle.events.proofs.NumberLemmas.{has_number-Contains, has_number-from_Contains, slice_get-below}
+pub use Rattle.events.proofs.ZipLemmas.{zip_right}
+pub use Rattle.events.specs.Lists.{greatest, has_number}
 pub use Rattle.map_object.specs.MapObject.{Contents}
 pub use Rattle.merge_orders.specs.Merge.{IsMergedOrder, point_in, point_of}
 pub use Rattle.merge_orders.specs.OrdersOfSegments.{NameCallsOnce}
 pub use Rattle.merge_orders.specs.Points.{at_point, at_point_in}
 pub use Rattle.merge_orders.specs.declared.points.CallAtPoint.{CallAtPoint}
 pub use Rattle.orders.specs.Orders.{IsOrder, KeepsPrecedence, calls_at}
-pub use Rattle.segments.proofs.LocalityLemmas.{IsOrderByNumber-from_order}
-pub use Rattle.segments.proofs.SegmentLemmas.{IsInside-segment}
-pub use Rattle.segments.specs.SegmentOrders.{IsOrderOf}
-pub use Rattle.segments.specs.SegmentView.{SegmentView}
-pub use Rattle.segments.specs.Segments.{AreSegments, IsSegment}
+pub use Rattle.orders.proofs.LocalityLemmas.{IsOrderByNumber-from_order}
+pub use Rattle.orders.proofs.SegmentLemmas.{IsInside-segment}
+pub use Rattle.orders.specs.SegmentOrders.{IsOrderOf}
+pub use Rattle.orders.specs.SegmentView.{SegmentView}
+pub use Rattle.orders.specs.Segments.{AreSegments, IsSegment}

@@ -11,9 +11,9 @@ use Rattle.std.proofs.lemmas.List.Elements.{filter-append}
 use Rattle.std.proofs.lemmas.List.Sorted.{sum_by-IsPermutation}
 use Rattle.std.proofs.lemmas.List.Sums.{sum_by-cons, sum_by-append}
 use Rattle.events.specs.Keys.{low_key, high_key}
-use Rattle.list_laws.proofs.Lists.{filter_all, filter_none}
-use Rattle.list_laws.proofs.FilterLemmas.{AllPairs-at}
-use Rattle.segments.proofs.SegmentLemmas.{known-IsSegment}
+use Rattle.events.proofs.Lists.{filter_all, filter_none}
+use Rattle.events.proofs.FilterLemmas.{AllPairs-at}
+use Rattle.orders.proofs.SegmentLemmas.{known-IsSegment}
 use Rattle.merge_orders.proofs.PointLemmas.{point_of-is}
 use Rattle.merge_orders.proofs.MergeLemmas.{Contains-from_concat}
 

@@ -13,14 +13,14 @@ use Rattle.std.proofs.lemmas.List.Elements.{Contains-append_left, Contains-appen
 use Rattle.events.specs.Precedence.{is_completed, belongs}
 use Rattle.orders.specs.Orders.{IsLegal, IsCompletedAt}
 use Rattle.events.specs.Keys.{may_change}
-use Rattle.segments.specs.Cuts.{BelongsAt}
-use Rattle.list_laws.proofs.FilterLemmas.{AllPairs-from_filter, AllPairs-filter_map}
-use Rattle.segments.proofs.RangeLemmas.{IsInside, IsOutside}
-use Rattle.segments.proofs.PartLemmas.{GoesByKeys, IsLegal-from_parts}
-use Rattle.segments.proofs.SegmentLemmas.{IsOutside-other}
-use Rattle.segments.proofs.LocalityLemmas.{start_of, IsOrderByNumber}
+use Rattle.orders.specs.Cuts.{BelongsAt}
+use Rattle.events.proofs.FilterLemmas.{AllPairs-from_filter, AllPairs-filter_map}
+use Rattle.orders.proofs.RangeLemmas.{IsInside, IsOutside}
+use Rattle.orders.proofs.PartLemmas.{GoesByKeys, IsLegal-from_parts}
+use Rattle.orders.proofs.SegmentLemmas.{IsOutside-other}
+use Rattle.orders.proofs.LocalityLemmas.{start_of, IsOrderByNumber}
 use Rattle.merge_orders.proofs.PointLemmas.{IsOrderAt, point_of-is, point_of-precedes}
-use Rattle.list_laws.proofs.ZipLemmas.{zip_left}
+use Rattle.events.proofs.ZipLemmas.{zip_left}
 
 -- a number that is in one of some lists is in the lists together
 pub Contains-concat : (orders : List (List ℕ)) (order : List ℕ) (n : ℕ) → Contains orders order → Contains order n

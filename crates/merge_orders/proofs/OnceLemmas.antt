@@ -4,7 +4,7 @@ use Rattle.events.specs.declared.event.Event.{Event}
 use Rattle.events.specs.Histories.{AreHistoryEvents}
 use Rattle.merge_orders.proofs.DisjointLemmas.{AreDisjoint-from_segments}
 use Rattle.merge_orders.proofs.MergeLemmas.{known-orders, distinct-orders}
-use Rattle.segments.proofs.SegmentViewLemmas.{keys_in_order-operations}
+use Rattle.orders.proofs.SegmentViewLemmas.{keys_in_order-operations}
 use Rattle.merge_orders.specs.OrdersOfSegments.{AreOrdersOfSegments}
 
 -- orders of the segments of a history name its calls once

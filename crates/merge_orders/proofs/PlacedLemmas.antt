@@ -6,7 +6,7 @@ use Rattle.std.proofs.Common.{max}
 use Rattle.std.proofs.lemmas.List.{take_more, map_more, map-append, append_assoc}
 use Rattle.std.proofs.lemmas.List.Folds.{concat-append}
 use Rattle.std.proofs.lemmas.Option.{slice_get_within, get_or_from_slice_get}
-use Rattle.list_laws.proofs.NumberLemmas.{greatest-push}
+use Rattle.events.proofs.NumberLemmas.{greatest-push}
 use Rattle.orders.proofs.OrderLemmas.{calls_at-more}
 use Rattle.merge_orders.proofs.PointLemmas.{point_in-at}
 use Rattle.merge_orders.proofs.DisjointLemmas.{AreDisjoint, point_of-in}

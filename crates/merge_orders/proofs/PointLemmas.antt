@@ -13,8 +13,8 @@ use Rattle.std.proofs.lemmas.Option.{none-some}
 use Rattle.events.specs.declared.operation.Response.{Response}
 use Rattle.events.specs.Precedence.{is_before}
 use Rattle.merge_orders.specs.Merge.{up_to}
-use Rattle.list_laws.proofs.NumberLemmas.{greatest_bound, greatest_is}
-use Rattle.list_laws.proofs.FilterLemmas.{Contains-filter_map, Contains-from_filter_map, AllPairs-from_filter_map}
+use Rattle.events.proofs.NumberLemmas.{greatest_bound, greatest_is}
+use Rattle.events.proofs.FilterLemmas.{Contains-filter_map, Contains-from_filter_map, AllPairs-from_filter_map}
 
 -- what comes up to a number's place is in the list
 pub Contains-from_up_to : (n : ℕ) (order : List ℕ) (k : ℕ) → Contains (up_to n order) k → Contains order k

@@ -7,8 +7,8 @@ use Rattle.std.specs.List.Sorted.{IsSortedByKey, IsStableByKey}
 use Rattle.std.specs.Ordering.{nat_cmp, is_lt}
 use Rattle.std.proofs.lemmas.List.Elements.{All-map}
 use Rattle.std.proofs.lemmas.List.Sorted.{IsPermutation-map, All-permutation, IsNonDecreasingBy-from_sort}
-use Rattle.list_laws.proofs.FilterLemmas.{AllPairs-map}
-use Rattle.list_laws.proofs.NumberLemmas.{tie_is_same}
+use Rattle.events.proofs.FilterLemmas.{AllPairs-map}
+use Rattle.events.proofs.NumberLemmas.{tie_is_same}
 use Rattle.merge_orders.proofs.SortedMergeLemmas.{IsMergedOrder-from_sort}
 
 -- a filter keeps of a mapped list what its test passes there

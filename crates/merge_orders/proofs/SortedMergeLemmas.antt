@@ -4,7 +4,7 @@ use Rattle.merge_orders.proofs.Common.{AllPairs, Contains, IsPermutation, concat
 use Rattle.merge_orders.proofs.Common.{point_in, point_of, IsMergedOrder, AllPairs-head, AllPairs-tail, Contains-first, Contains-cases}
 use Rattle.merge_orders.proofs.Common.{All-from_contains, filter_rest, Contains-from_filter, AllPairs-weaker}
 use Rattle.std.proofs.lemmas.List.Kept.{AllPairs-filter}
-use Rattle.list_laws.proofs.FilterLemmas.{filter_comm, filter_yes}
+use Rattle.events.proofs.FilterLemmas.{filter_comm, filter_yes}
 use Rattle.merge_orders.proofs.PointLemmas.{point_in-rises}
 use Rattle.merge_orders.proofs.DisjointLemmas.{AreDisjoint, point_of-in, filter-concat}
 

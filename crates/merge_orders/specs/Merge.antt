@@ -3,7 +3,7 @@ use Rattle.std.specs.Prelude.{◌≡◌, ℕ, ◌≤◌, ◌==◌, if◌then◌e
 use Rattle.std.specs.List.{concat}
 use Rattle.events.specs.declared.operation.Operation.{Operation}
 use Rattle.orders.specs.Orders.{calls_at}
-use Rattle.list_laws.specs.Lists.{greatest, has_number}
+use Rattle.events.specs.Lists.{greatest, has_number}
 
 -- the numbers up to a number's place in a list
 abbrev pub up_to : ℕ → List ℕ → List ℕ

@@ -3,9 +3,9 @@ use Rattle.std.specs.Prelude.{◌≢◌, ℕ, ◌<◌, List, length, All, AllPai
 use Rattle.std.specs.List.{AllZip}
 use Rattle.events.specs.declared.operation.Operation.{Operation}
 use Rattle.map_object.specs.MapObject.{Contents}
-use Rattle.segments.specs.SegmentView.{SegmentView}
-use Rattle.segments.specs.Segments.{AreSegments}
-use Rattle.segments.specs.SegmentOrders.{IsOrderOf}
+use Rattle.orders.specs.SegmentView.{SegmentView}
+use Rattle.orders.specs.Segments.{AreSegments}
+use Rattle.orders.specs.SegmentOrders.{IsOrderOf}
 
 -- one order for each segment of the calls, by rising key; no order if there is no segment
 abbrev pub AreOrdersOfSegments : Contents → List Operation → List (List ℕ) → Type 0

@@ -8,7 +8,7 @@ use Rattle.monitor.proofs.Common.{MayReply, event_limit, IsFollowing, IsLossAt, 
 use Rattle.monitor.proofs.Common.{ArePutsOf, BecomeWithAnswer, OpenCall}
 use Rattle.std.specs.Prelude.{◌≢◌}
 use Rattle.kept_parts.specs.Reached.{HasPasts, IsReached, KeptPastsAreReached}
-use Rattle.losses.specs.declared.loss.Loss.{Loss}
+use Rattle.monitor.specs.declared.loss.Loss.{Loss}
 use Rattle.part_cuts.specs.PartCuts.{kept_of}
 use Rattle.part_cuts.specs.declared.past.Past.{Past}
 use Rattle.monitor.specs.Outcomes.{IsKeptWith, IsLost, IsOfAnswer, IsSpent}

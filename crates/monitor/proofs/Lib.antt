@@ -1,15 +1,26 @@
 mod Common
+pub mod LawLemmas
+pub mod AnyLemmas
+pub mod LossPairLemmas
+pub mod NameLemmas
+pub mod WriterLemmas
+pub mod OriginLemmas
+pub mod LossLemmas
+pub mod LossReachLemmas
+mod EventLemmas
+mod CutLemmas
+mod PrefixLemmas
 mod CallLemmas
-mod FaultLemmas
-mod FollowLemmas
-mod JudgeLemmas
-mod JudgedLemmas
 mod KeptLemmas
+mod OpenLemmas
+mod FaultLemmas
 mod MissLemmas
 mod NextLemmas
-mod OpenLemmas
-mod OpenPutLemmas
+mod JudgeLemmas
+mod FollowLemmas
 mod PairLemmas
 mod PutLemmas
+mod JudgedLemmas
+mod OpenPutLemmas
 mod ReachLemmas
 mod StartLemmas

@@ -1,9 +1,10 @@
 -- Nothing is missed in the pasts of a part that is kept: a get that begins and is answered is left in each of them, and the parts decide.
 use Rattle.monitor.proofs.Common.{◌≡◌, ℕ, suc, ◌<◌, true, false, List, [], ◌∷◌, ◌++◌, map, length, Some, append-nil, refl, sym, ap, ◌∙◌, subst, arith}
+use Rattle.monitor.proofs.AnyLemmas.{any_from_map}
 use Rattle.monitor.proofs.Common.{All, Contains, AllZip, eq-eqb, ne_eqb, append_assoc, length_push, All-nil, All-head, All-tail, All-contains}
 use Rattle.monitor.proofs.Common.{All-from_contains, Get, Event, Answer, Invoke, Reply, Operation, IsWellFormed, has_open_call, operations}
 use Rattle.monitor.proofs.Common.{IsWellFormed-push, Contents, IsRising, IsLinearizable, begun_at, answered_at, invoked_before, operations-invoke}
-use Rattle.monitor.proofs.Common.{is_refusal, HasKeysIn, KeptPast, IsWithRead, KeptPart, AreKept, IsOwn, GoesOn, any_from_map, IsOpenCall, read_after}
+use Rattle.monitor.proofs.Common.{is_refusal, HasKeysIn, KeptPast, IsWithRead, KeptPart, AreKept, IsOwn, GoesOn, IsOpenCall, read_after}
 use Rattle.monitor.proofs.Common.{NothingIsMissed}
 use Rattle.std.proofs.Common.{eqb-true}
 use Rattle.kept_parts.proofs.AnswerLemmas.{reads_are_answered}

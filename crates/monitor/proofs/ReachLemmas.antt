@@ -1,12 +1,13 @@
 -- What is said where a stream goes wrong may be so.
 use Rattle.monitor.proofs.Common.{◌≡◌, ℕ, suc, true, List, [], ◌∷◌, ◌++◌, length, None, Some, sym, subst, All, Any, eq-eqb, All-append, All-weaker}
+use Rattle.monitor.proofs.AnyLemmas.{any_of, any_weaker}
 use Rattle.monitor.proofs.Common.{none-some, same_Some, All-from_contains, Call, Get, Insert, Remove, Scan, Replace, Answer, Operation, operations}
-use Rattle.monitor.proofs.Common.{concerns_key, Event, Reply, Contents, IsRising, HasKeysIn, begun, covered, pasts_of, IsPutOf, Put, any_of}
-use Rattle.monitor.proofs.Common.{any_weaker, DoubtsAreReached, LossesAreReached, MayBeSo, ArePutsOf, IsAnsweredPut}
-use Rattle.losses.specs.declared.loss.Loss.{Loss}
-use Rattle.losses.specs.declared.lost_keys.KeyLoss.{KeyLoss}
-use Rattle.losses.specs.KeyLosses.{AreKeyLosses, key_of}
-use Rattle.losses.specs.Laws.{ValuesAreReached}
+use Rattle.monitor.proofs.Common.{concerns_key, Event, Reply, Contents, IsRising, HasKeysIn, begun, covered, pasts_of, IsPutOf, Put}
+use Rattle.monitor.proofs.Common.{DoubtsAreReached, LossesAreReached, MayBeSo, ArePutsOf, IsAnsweredPut}
+use Rattle.monitor.specs.declared.loss.Loss.{Loss}
+use Rattle.monitor.specs.declared.lost_keys.KeyLoss.{KeyLoss}
+use Rattle.monitor.specs.KeyLosses.{AreKeyLosses, key_of}
+use Rattle.monitor.specs.LossLaws.{ValuesAreReached}
 use Rattle.monitor.specs.Outcomes.{IsKeptWith, IsOfAnswer}
 
 -- the only key of a call

@@ -10,14 +10,14 @@ use Rattle.events.specs.HistoryFaults.{has_open_call}
 use Rattle.events.specs.Operations.{operations}
 use Rattle.map_object.specs.MapObject.{Contents, IsRising}
 use Rattle.orders.specs.Orders.{IsLinearizable}
-use Rattle.key_effects.specs.KeyedCalls.{is_refusal}
+use Rattle.key_parts.specs.KeyedCalls.{is_refusal}
 use Rattle.kept_parts.specs.KeptParts.{KeptPart, AreKept}
 use Rattle.part_pasts.specs.Ranges.{covered}
 use Rattle.parts.specs.Keeping.{pasts_of}
-use Rattle.losses.specs.KeyLosses.{AreKeyLosses}
-use Rattle.losses.specs.Laws.{MayHave}
-use Rattle.losses.specs.declared.loss.Loss.{Loss}
-use Rattle.losses.specs.declared.lost_keys.KeyLoss.{KeyLoss}
+use Rattle.monitor.specs.KeyLosses.{AreKeyLosses}
+use Rattle.monitor.specs.LossLaws.{MayHave}
+use Rattle.monitor.specs.declared.loss.Loss.{Loss}
+use Rattle.monitor.specs.declared.lost_keys.KeyLoss.{KeyLoss}
 use Rattle.monitor.specs.Calls.{MayReply}
 use Rattle.monitor.specs.Outcomes.{IsLost, IsSpent}
 

@@ -1,3 +1,10 @@
+pub mod CallPuts
+pub mod KeyLosses
+pub mod OwnParts
+pub mod LossLaws
+pub mod Collecting
+pub mod Prefixes
+pub mod PrefixLaws
 pub mod Faults
 pub mod Calls
 pub mod Puts

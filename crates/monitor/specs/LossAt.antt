@@ -1,7 +1,7 @@
 -- What is put together where a stream goes wrong.
 use Rattle.std.specs.Prelude.{◌≡◌, ℕ, List}
-use Rattle.losses.specs.declared.loss.Loss.{Loss}
-use Rattle.losses.specs.declared.puts.Put.{Put}
+use Rattle.monitor.specs.declared.loss.Loss.{Loss}
+use Rattle.monitor.specs.declared.puts.Put.{Put}
 use Rattle.parts.specs.declared.state.EndedPart.{EndedPart}
 use Rattle.monitor.specs.OpenPuts.{AreAllPuts}
 use Rattle.monitor.specs.declared.open_calls.OpenCall.{OpenCall}

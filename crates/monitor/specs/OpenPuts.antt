@@ -1,7 +1,7 @@
 -- The puts of the open calls that a monitor knows.
 use Rattle.std.specs.Prelude.{◌≡◌, ◌≢◌, ◌↔◌, ℕ, ◌<◌, List, ◌++◌, Some, AllPairs, Any, Contains}
-use Rattle.losses.specs.Puts.{IsPutOf}
-use Rattle.losses.specs.declared.puts.Put.{Put}
+use Rattle.monitor.specs.CallPuts.{IsPutOf}
+use Rattle.monitor.specs.declared.puts.Put.{Put}
 use Rattle.parts.specs.Keeping.{begun}
 use Rattle.monitor.specs.MonitorView.{known_call}
 use Rattle.monitor.specs.declared.open_calls.OpenCall.{OpenCall}

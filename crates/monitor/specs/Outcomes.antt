@@ -7,8 +7,8 @@ use Rattle.events.specs.Keys.{may_change}
 use Rattle.events.specs.Operations.{operations}
 use Rattle.map_object.specs.MapObject.{Contents}
 use Rattle.orders.specs.Orders.{IsLinearizable}
-use Rattle.losses.specs.declared.loss.Loss.{Loss}
-use Rattle.prefixes.specs.Prefixes.{GoesWrongAt, IsAnswerOf}
+use Rattle.monitor.specs.declared.loss.Loss.{Loss}
+use Rattle.monitor.specs.Prefixes.{GoesWrongAt, IsAnswerOf}
 use Rattle.kept_parts.specs.Reached.{IsReached}
 use Rattle.part_pasts.specs.Pasts.{IsDead, AreDoubtful}
 use Rattle.part_pasts.specs.Ranges.{covered}

@@ -4,8 +4,8 @@ use Rattle.events.specs.declared.event.Call.{Call}
 use Rattle.events.specs.declared.event.Reply.{Reply}
 use Rattle.events.specs.declared.operation.Operation.{Operation}
 use Rattle.events.specs.declared.operation.Response.{Response}
-use Rattle.losses.specs.Puts.{IsPutOf}
-use Rattle.losses.specs.declared.puts.Put.{Put}
+use Rattle.monitor.specs.CallPuts.{IsPutOf}
+use Rattle.monitor.specs.declared.puts.Put.{Put}
 use Rattle.parts.specs.Keeping.{begun, is_reported}
 
 -- how many are known at most of those that were answered

@@ -1,7 +1,7 @@
 // What an answer makes of a stream.
 use crate::fault::FollowFault;
+use crate::loss::Loss;
 use crate::monitor::Monitor;
-use losses::Loss;
 
 /// What an answer makes of a stream.
 #[derive(Drop)]

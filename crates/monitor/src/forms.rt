@@ -1,6 +1,6 @@
 // Which replies some map gives to a call.
 ghost use Rattle.std.specs.Prelude.{◌↔◌, IsTrue, Some};
-ghost use Rattle.key_effects.specs.Forms.{ArePairsOf, IsScanReply};
+ghost use Rattle.key_parts.specs.Forms.{ArePairsOf, IsScanReply};
 ghost use Rattle.monitor.specs.Calls.{MayReply};
 
 use events::{Call, Reply, is_above};

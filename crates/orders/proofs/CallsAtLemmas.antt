@@ -5,7 +5,7 @@ use Rattle.std.proofs.lemmas.List.Elements.{All-head, All-tail}
 use Rattle.std.proofs.lemmas.Option.{none-some, same_Some, slice_get_within}
 use Rattle.events.specs.declared.operation.Operation.{Operation}
 use Rattle.orders.specs.Orders.{calls_at}
-use Rattle.list_laws.proofs.NumberLemmas.{slice_get-below}
+use Rattle.events.proofs.NumberLemmas.{slice_get-below}
 
 -- at each place of some numbers is the call of that number
 pub slice_get-calls_at : (calls : List Operation) (numbers : List ℕ) (i n : ℕ) → All (λ n. n < length calls) numbers

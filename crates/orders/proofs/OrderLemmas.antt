@@ -8,7 +8,7 @@ use Rattle.events.specs.declared.operation.Operation.{Operation}
 use Rattle.events.specs.Precedence.{is_completed}
 use Rattle.map_object.specs.MapObject.{Contents}
 use Rattle.orders.specs.Orders.{after_call, after_calls, IsLegal, calls_at, IsCompletedAt}
-use Rattle.list_laws.proofs.NumberLemmas.{IsSomeAnd-within}
+use Rattle.events.proofs.NumberLemmas.{IsSomeAnd-within}
 
 -- the pairs after two lists of calls are the pairs after the second, from those after the first
 pub after_calls-append : (m : Contents) (xs ys : List Operation) → after_calls m (xs ++ ys) ≡ after_calls (after_calls m xs) ys

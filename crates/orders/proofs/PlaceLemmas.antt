@@ -10,10 +10,10 @@ use Rattle.events.specs.declared.operation.Operation.{Operation}
 use Rattle.events.specs.Precedence.{is_completed}
 use Rattle.map_object.specs.MapObject.{Contents}
 use Rattle.orders.specs.Orders.{KeepsPrecedence, IsLegal, calls_at, IsLegalOrder, IsCompletedAt}
-use Rattle.list_laws.proofs.Lists.{All-from_contains}
-use Rattle.list_laws.proofs.NumberLemmas.{slice_get-below}
+use Rattle.events.proofs.Lists.{All-from_contains}
+use Rattle.events.proofs.NumberLemmas.{slice_get-below}
 use Rattle.orders.proofs.OrderLemmas.{IsCompletedAt-below}
-use Rattle.list_laws.proofs.FilterLemmas.{AllPairs-weaker, AllPairs-map, AllPairs-from_map, Contains-from_map}
+use Rattle.events.proofs.FilterLemmas.{AllPairs-weaker, AllPairs-map, AllPairs-from_map, Contains-from_map}
 use Rattle.orders.proofs.CallsAtLemmas.{length-calls_at}
 
 -- the numbers at some places

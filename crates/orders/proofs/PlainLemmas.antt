@@ -18,8 +18,8 @@ use Rattle.events.specs.Operations.{response_from, operation_of, operations_from
 use Rattle.events.specs.Told.{is_told}
 use Rattle.map_object.specs.MapObject.{Contents, reply_to, after, after_reply, TellsOf}
 use Rattle.map_object.proofs.TellLemmas.{after_reply-answer, tells_all, tells_answers, whole_from_tells}
-use Rattle.list_laws.proofs.Lists.{All-from_contains, Contains-at}
-use Rattle.list_laws.proofs.FilterLemmas.{Contains-from_filter_map}
+use Rattle.events.proofs.Lists.{All-from_contains, Contains-at}
+use Rattle.events.proofs.FilterLemmas.{Contains-from_filter_map}
 use Rattle.orders.specs.Orders.{after_call, IsLegalCall, IsLegal, calls_at, IsOrder}
 use Rattle.orders.specs.PlainOrders.{DoesPlain, DoesPlainCall, AreDonePlainly, IsPlainOrder}
 use Rattle.orders.specs.Laws.{PlainHistoriesHavePlainOrders}

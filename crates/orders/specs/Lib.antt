@@ -1,4 +1,9 @@
-pub mod Laws
 pub mod Leads
 pub mod Orders
 pub mod PlainOrders
+pub mod Laws
+pub mod Cuts
+pub mod SegmentView
+pub mod SegmentOrders
+pub mod Segments
+pub mod WholeSegments

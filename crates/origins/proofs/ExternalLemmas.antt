@@ -3,7 +3,7 @@ use Rattle.std.proofs.Common.{◌≡◌, ℕ, Bool, true, false, not, List, refl
 use Rattle.std.specs.Prelude.{◌↔◌, AllPairs, Contains}
 use Rattle.std.proofs.lemmas.List.Kept.{AllPairs-filter}
 use Rattle.events.specs.declared.operation.Operation.{Operation}
-use Rattle.list_laws.proofs.Lists.{Contains-filter, Contains-from_filter}
+use Rattle.events.proofs.Lists.{Contains-filter, Contains-from_filter}
 use Rattle.map_object.specs.MapObject.{Contents}
 use Rattle.origins.specs.Told.{all_told}
 use Rattle.origins.specs.External.{is_internal, IsBelow, AreExternal}

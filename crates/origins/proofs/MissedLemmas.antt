@@ -17,7 +17,7 @@ use Rattle.events.specs.Keys.{low_key, high_key}
 use Rattle.events.specs.PlainHistories.{is_replace}
 use Rattle.events.specs.Precedence.{is_completed, precedes}
 use Rattle.events.specs.Told.{is_told}
-use Rattle.list_laws.proofs.Lists.{AllPairs-head, AllPairs-tail, Contains-cases, Contains-first, Contains-later, Contains-nil}
+use Rattle.events.proofs.Lists.{AllPairs-head, AllPairs-tail, Contains-cases, Contains-first, Contains-later, Contains-nil}
 use Rattle.map_object.specs.MapObject.{Contents, IsRising, value_at, is_just, value_reply, put, after, reply_to}
 use Rattle.map_object.specs.MapObject.{TellsOf}
 use Rattle.map_object.proofs.TellLemmas.{after_reply-answer, whole_from_tells}

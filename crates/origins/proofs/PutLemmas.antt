@@ -15,9 +15,9 @@ use Rattle.events.specs.declared.operation.Operation.{Operation}
 use Rattle.events.specs.declared.operation.Response.{Response}
 use Rattle.events.specs.Precedence.{is_completed}
 use Rattle.events.specs.Keys.{low_key, high_key}
-use Rattle.list_laws.proofs.FilterLemmas.{Contains-filter_map, Contains-from_filter_map}
-use Rattle.list_laws.proofs.Lists.{AllPairs-head, AllPairs-tail, Contains-at, Contains-cases, Contains-first, Contains-from_filter, Contains-later}
-use Rattle.list_laws.proofs.Lists.{Contains-around, Contains-nil, place_of-Contains}
+use Rattle.events.proofs.FilterLemmas.{Contains-filter_map, Contains-from_filter_map}
+use Rattle.events.proofs.Lists.{AllPairs-head, AllPairs-tail, Contains-at, Contains-cases, Contains-first, Contains-from_filter, Contains-later}
+use Rattle.events.proofs.Lists.{Contains-around, Contains-nil, place_of-Contains}
 use Rattle.map_object.specs.MapObject.{Contents, IsRising, value_at, is_just, is_value, is_none_or_other, below, above, put, value_reply}
 use Rattle.map_object.specs.MapObject.{after, after_reply, IsLegalReply}
 use Rattle.orders.specs.Orders.{IsLegal, IsLegalCall, after_call, calls_at}

@@ -1,3 +1,5 @@
 pub mod ReadText
 pub mod Reading
 pub mod WholeText
+pub mod OverlapLemmas
+pub mod HintedText

@@ -7,3 +7,7 @@ pub mod Outcomes
 pub mod FaultOutcomes
 pub mod Runs
 pub mod Reads
+pub mod Overlaps
+pub mod Averages
+pub mod Hints
+pub mod HintedOutcomes

@@ -16,10 +16,10 @@ pub use Rattle.std.specs.Option.{IsSome}
 pub use Rattle.std.specs.Ordering.{nat_cmp, ordering_index}
 pub use Rattle.std.specs.Prelude.{All, AllPairs, Contains, IsTrue, if◌then◌else◌, nat_le, nat_lt, slice_get, ◌↔◌}
 pub use Rattle.std.specs.declared.cmp.Ordering.TheVariants.{Equal, Greater, Less}
-pub use Rattle.list_laws.proofs.Lists.{All-back, All-front, AllPairs-across, AllPairs-append, AllPairs-back, AllPairs-front, AllPairs-head}
-pub use Rattle.list_laws.proofs.Lists.{AllPairs-tail, Contains-cases, Contains-filter, Contains-first, Contains-from_filter, Contains-later}
-pub use Rattle.list_laws.proofs.Lists.{Contains-nil, filter_none}
-pub use Rattle.list_laws.proofs.Places.{parts_at}
+pub use Rattle.events.proofs.Lists.{All-back, All-front, AllPairs-across, AllPairs-append, AllPairs-back, AllPairs-front, AllPairs-head}
+pub use Rattle.events.proofs.Lists.{AllPairs-tail, Contains-cases, Contains-filter, Contains-first, Contains-from_filter, Contains-later}
+pub use Rattle.events.proofs.Lists.{Contains-nil, filter_none}
+pub use Rattle.events.proofs.Places.{parts_at}
 pub use Rattle.packed_map.specs.Edits.{IsEdit}
 pub use Rattle.packed_map.specs.Entries.{KeysRise, entry_if, value_at}
 pub use Rattle.packed_map.specs.Leaves.{AreLeaves, IsBefore, IsFromLeast, IsLeafOf, StartsAtZero, entries_of}

@@ -6,7 +6,7 @@ use Rattle.packed_map.proofs.Common.{cases_lt, cond_both, eq-eqb, eqb-true, fals
 use Rattle.packed_map.proofs.Common.{All-weaker, filter-append, AllPairs-filter, Contains-cases, Contains-filter, Contains-first}
 use Rattle.packed_map.proofs.Common.{Contains-from_filter, Contains-later, Contains-nil, filter_none, KeysRise, value_at, AreLeaves, IsFromLeast}
 use Rattle.packed_map.proofs.Common.{IsLeafOf, entries_of, is_between, keys_between, Leaf}
-use Rattle.list_laws.proofs.FilterLemmas.{AllPairs-map, Contains-from_map, Contains-map}
+use Rattle.events.proofs.FilterLemmas.{AllPairs-map, Contains-from_map, Contains-map}
 use Rattle.packed_map.proofs.LeafLemmas.{All-entries}
 use Rattle.packed_map.proofs.SearchLemmas.{All-drop_within}
 

@@ -8,7 +8,7 @@ use Rattle.outcomes.specs.declared.outcome.RunOutcome.TheVariants.{Answered, Not
 use Rattle.outcomes.specs.Outcomes.{IsTextOutcome}
 use Rattle.history_engines.specs.Answers.{IsHistoryRefusal, IsJudgeAnswer}
 use Rattle.page_engines.specs.Answers.{IsExplainedText, IsLocatedText, IsOrderedText, IsPageAnswer, printed}
-use Rattle.location_engines.specs.Answers.{IsFoundAnswer}
+use Rattle.explain_engines.specs.LocationAnswers.{IsFoundAnswer}
 use Rattle.page_text.specs.Pages.{page_text}
 
 -- what was read as UTF-8 is as it was

@@ -4,7 +4,7 @@ use Rattle.outcomes.specs.declared.outcome.Answer.{Answer}
 use Rattle.outcomes.specs.declared.outcome.RunOutcome.{RunOutcome}
 use Rattle.outcomes.specs.declared.outcome.RunOutcome.TheVariants.{Answered, Noted, Refused, Memory, Words, Failed}
 use Rattle.history_engines.specs.Answers.{IsJudgeAnswer}
-use Rattle.location_engines.specs.Answers.{IsLocateAnswer, IsOrderAnswer}
+use Rattle.explain_engines.specs.LocationAnswers.{IsLocateAnswer, IsOrderAnswer}
 use Rattle.explain_engines.specs.Answers.{IsExplainAnswer}
 use Rattle.page_text.specs.Pages.{page_text}
 

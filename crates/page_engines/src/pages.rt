@@ -7,16 +7,15 @@ ghost use Rattle.outcomes.specs.Outcomes.{IsTextOutcome};
 ghost use Rattle.outcomes.specs.Reads.{IsTextRead};
 ghost use Rattle.outcomes.specs.Runs.{IsRun};
 ghost use Rattle.search.specs.Limits.{budget_limit};
-ghost use Rattle.location_engines.specs.Answers.{IsFoundAnswer};
+ghost use Rattle.explain_engines.specs.LocationAnswers.{IsFoundAnswer};
 ghost use Rattle.outcomes.specs.declared.outcome.Answer.{Answer};
 ghost use Rattle.page_engines.specs.Answers.{IsLocatedText, IsExplainedText, IsOrderedText, IsPageAnswer, printed};
 ghost use Rattle.page_engines.specs.Outcomes.{IsPageOutcome};
 
-use explain_engines::explain_outcome;
+use explain_engines::{explain_outcome, locate_order_outcome, locate_outcome};
 use history_engines::judge_outcome;
 use history_text::MAX_TEXT;
 use judge::Judge;
-use location_engines::{locate_order_outcome, locate_outcome};
 use outcomes::{Answer, RunOutcome, run_text};
 use page_text::{PageTexts, page_of};
 use std::alloc::Global;

@@ -17,18 +17,18 @@ pub use Rattle.events.specs.declared.event.Call.{Call}
 pub use Rattle.events.specs.declared.event.Call.TheVariants.{Get, Insert, Remove, Replace, Scan}
 pub use Rattle.events.specs.declared.operation.Operation.{Operation}
 pub use Rattle.events.specs.declared.operation.Response.{Response}
-pub use Rattle.kept_pasts.specs.Leads.{IsMadeOf, Leads, Setting, Stand}
-pub use Rattle.kept_pasts.specs.Pasts.{AreKeptAlike, ArePasts, FoundAt, HasInvocation, IsNameKept, IsPast, IsPastAfter, KeptPast, OpenReadsBeganAfter}
-pub use Rattle.kept_pasts.specs.Pasts.{found_by}
-pub use Rattle.key_effects.specs.Choices.{Choice}
-pub use Rattle.key_effects.specs.KeyedCalls.{KeyedCall, concerns_key, effect_at, effect_of_key, is_answer, is_completed, keyed, no_effect, place_of}
-pub use Rattle.key_effects.specs.KeyedCalls.{point_effect, read_of, told_effect}
+pub use Rattle.kept_parts.specs.Leads.{IsMadeOf, Leads, Setting, Stand}
+pub use Rattle.kept_parts.specs.Pasts.{AreKeptAlike, ArePasts, FoundAt, HasInvocation, IsNameKept, IsPast, IsPastAfter, KeptPast, OpenReadsBeganAfter}
+pub use Rattle.kept_parts.specs.Pasts.{found_by}
+pub use Rattle.key_parts.specs.Choices.{Choice}
+pub use Rattle.key_parts.specs.KeyedCalls.{KeyedCall, concerns_key, effect_at, effect_of_key, is_answer, is_completed, keyed, no_effect, place_of}
+pub use Rattle.key_parts.specs.KeyedCalls.{point_effect, read_of, told_effect}
 pub use Rattle.key_parts.specs.Operations.{HasSomeKeyIn, OperationMayCome, without_call}
 pub use Rattle.key_parts.specs.Parts.{StandFor}
-pub use Rattle.list_laws.proofs.FilterLemmas.{Contains-from_map, Contains-map}
-pub use Rattle.list_laws.proofs.Lists.{All-at, All-from_contains, AllPairs-at, AllPairs-head, AllPairs-nil, AllPairs-tail, Any-first, Contains-at}
-pub use Rattle.list_laws.proofs.Lists.{Contains-cases, Contains-filter, Contains-first, Contains-from_filter, Contains-later, Contains-nil}
-pub use Rattle.list_laws.proofs.Lists.{filter_all, place_of-Contains}
+pub use Rattle.events.proofs.FilterLemmas.{Contains-from_map, Contains-map}
+pub use Rattle.events.proofs.Lists.{All-at, All-from_contains, AllPairs-at, AllPairs-head, AllPairs-nil, AllPairs-tail, Any-first, Contains-at}
+pub use Rattle.events.proofs.Lists.{Contains-cases, Contains-filter, Contains-first, Contains-from_filter, Contains-later, Contains-nil}
+pub use Rattle.events.proofs.Lists.{filter_all, place_of-Contains}
 pub use Rattle.map_object.specs.MapObject.{Contents, is_just, is_none_or_other, value_at, value_reply}
 pub use Rattle.orders.specs.Orders.{IsLegalCall, after_call}
 pub use Rattle.quiet_cuts.specs.Replies.{IsRead, says_unchanged}

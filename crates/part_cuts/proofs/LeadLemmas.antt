@@ -3,9 +3,9 @@ use Rattle.part_cuts.proofs.Common.{ℕ, List, [], ◌∷◌, ◌++◌, refl, sy
 use Rattle.part_cuts.proofs.Common.{Contains-append_left, Contains-append_right, Contains-append_cases, All-from_contains, Contains-first}
 use Rattle.part_cuts.proofs.Common.{Contains-later, Contains-nil, Contains-cases, Contains-at, place_of-Contains, Choice, StandFor, KeptPast, IsPast}
 use Rattle.part_cuts.proofs.Common.{ArePasts, AreKeptAlike, OpenReadsBeganAfter, Setting, Stand, Leads, Becomes, AreEnough}
-use Rattle.list_laws.proofs.ZipLemmas.{zip_left, zip_right}
-use Rattle.kept_pasts.proofs.AlikeLemmas.{alike_pasts_go}
-use Rattle.kept_pasts.proofs.DropLemmas.{pasts_in_any_order}
+use Rattle.events.proofs.ZipLemmas.{zip_left, zip_right}
+use Rattle.kept_parts.proofs.AlikeLemmas.{alike_pasts_go}
+use Rattle.kept_parts.proofs.DropLemmas.{pasts_in_any_order}
 
 -- ---- kept alike
 

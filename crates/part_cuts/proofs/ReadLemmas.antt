@@ -7,7 +7,7 @@ use Rattle.part_cuts.proofs.Common.{effect_at, effect_of_key, read_of, keyed}
 use Rattle.events.specs.declared.event.Reply.{Reply}
 use Rattle.quiet_cuts.specs.Replies.{IsRead as IsQuietCall}
 use Rattle.quiet_cuts.specs.Values.{value_behind, value_behind_reply}
-use Rattle.key_effects.specs.Apart.{IsRead}
+use Rattle.key_parts.specs.Apart.{IsRead}
 
 just_is : (value : Option ℕ) (told : ℕ) → is_just value told ≡ true → value ≡ Some told
 just_is None told h = absurd (false≢true h)

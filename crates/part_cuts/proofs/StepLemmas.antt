@@ -10,14 +10,14 @@ use Rattle.part_cuts.proofs.Common.{AreBranchKeys, IsBranching, IsNextAt, AreNex
 use Rattle.part_cuts.proofs.Common.{low_key, high_key, value_at}
 use Rattle.std.specs.List.{AllZip}
 use Rattle.quiet_cuts.proofs.ReplyLemmas.{read_completed}
-use Rattle.key_effects.specs.Cuts.{Keys}
+use Rattle.key_parts.specs.Cuts.{Keys}
 use Rattle.key_parts.specs.Left.{HasKeysIn}
-use Rattle.kept_pasts.specs.Cuts.{AreOwnOrBarredBy}
-use Rattle.kept_pasts.proofs.BarredLemmas.{unbarred_pasts_come_next}
-use Rattle.kept_pasts.proofs.NextLemmas.{reads_of_pasts_come_next}
+use Rattle.kept_parts.specs.Cuts.{AreOwnOrBarredBy}
+use Rattle.kept_parts.proofs.BarredLemmas.{unbarred_pasts_come_next}
+use Rattle.kept_parts.proofs.NextLemmas.{reads_of_pasts_come_next}
 use Rattle.part_cuts.proofs.ReadLemmas.{quiet_read}
-use Rattle.key_effects.specs.KeyedOrders.{AreKeyedCalls}
-use Rattle.key_effects.proofs.OrderLemmas.{same_call}
+use Rattle.key_parts.specs.KeyedOrders.{AreKeyedCalls}
+use Rattle.key_parts.proofs.OrderLemmas.{same_call}
 
 -- ---- answers before a place
 

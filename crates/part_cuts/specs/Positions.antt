@@ -5,9 +5,9 @@ use Rattle.map_object.specs.MapObject.{Contents, value_at}
 use Rattle.events.specs.Precedence.{is_before}
 use Rattle.orders.specs.Orders.{IsLegalCall, after_call}
 use Rattle.quiet_cuts.specs.Replies.{IsRead}
-use Rattle.key_effects.specs.KeyedCalls.{concerns_key, effect_at, place_of}
-use Rattle.kept_pasts.specs.Pasts.{KeptPast, IsPastAfter, found_by}
-use Rattle.kept_pasts.specs.Leads.{IsMadeOf}
+use Rattle.key_parts.specs.KeyedCalls.{concerns_key, effect_at, place_of}
+use Rattle.kept_parts.specs.Pasts.{KeptPast, IsPastAfter, found_by}
+use Rattle.kept_parts.specs.Leads.{IsMadeOf}
 use Rattle.part_cuts.specs.PartCuts.{found_at, kept_of, AreShaped, Becomes, AreEnough, IsCutAt}
 use Rattle.part_cuts.specs.declared.cut.Cut.{Cut}
 use Rattle.part_cuts.specs.declared.cut.Cut.TheVariants.{Pasts, Spent}

@@ -2,8 +2,8 @@
 ghost use Rattle.std.specs.Prelude.{◌≡◌, ◌↔◌, ◌<◌, ◌≤◌, ℕ, false, length, List, All, AllPairs, IfSome, Some, IsTrue, MatchOption, OnOk};
 ghost use Rattle.events.specs.declared.operation.Operation.{Operation as Done};
 ghost use Rattle.events.specs.Precedence.{NonePrecedesItself, is_before};
-ghost use Rattle.key_effects.specs.KeyedCalls.{place_of};
-ghost use Rattle.kept_pasts.specs.Pasts.{KeptPast};
+ghost use Rattle.key_parts.specs.KeyedCalls.{place_of};
+ghost use Rattle.kept_parts.specs.Pasts.{KeptPast};
 ghost use Rattle.part_cuts.specs.PartCuts.{AreShaped};
 ghost use Rattle.part_cuts.specs.Positions.{AreAdded, AreNexts, BecomesAfter, IsBranchAt, IsFirstEnded, IsFirstEndedIn, IsFrom, IsLeftAt, IsReadAt, MayComeAt, kept_in};
 

@@ -8,7 +8,7 @@ use Rattle.part_pasts.proofs.Common.{Contains-from_filter, place_of-Contains, Co
 use Rattle.part_pasts.proofs.Common.{may_change, Contents, is_refused, effect_at, KeptPast, FoundAt, IsAfterAnswer, AreAfterAnswer, IsKnownIn}
 use Rattle.part_pasts.proofs.Common.{found_at, Found, IsAnswerOf}
 use Rattle.std.proofs.Common.{eq-eqb}
-use Rattle.list_laws.proofs.Places.{parts_at}
+use Rattle.events.proofs.Places.{parts_at}
 
 -- a past, as a past of the laws
 abbrev kept : Contents → List Operation → List Found → KeptPast

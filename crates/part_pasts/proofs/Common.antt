@@ -34,17 +34,17 @@ pub use Rattle.kept_orders.specs.declared.kept.Kept.TheVariants.{NoOrder, Order,
 pub use Rattle.kept_parts.specs.Events.{AreAfterAnswer, IsAfterAnswer}
 pub use Rattle.kept_parts.specs.KeptParts.{AreKept, IsKeptAs, KeptPart, at_rest}
 pub use Rattle.kept_parts.specs.Steps.{IsKnownIn, IsWithinKeys}
-pub use Rattle.kept_pasts.specs.Pasts.{FoundAt, KeptPast}
-pub use Rattle.key_effects.specs.Cuts.{Keys}
-pub use Rattle.key_effects.specs.KeyedCalls.{concerns_key, effect_at, is_answer, is_refused, is_same_value, no_effect, point_effect}
+pub use Rattle.kept_parts.specs.Pasts.{FoundAt, KeptPast}
+pub use Rattle.key_parts.specs.Cuts.{Keys}
+pub use Rattle.key_parts.specs.KeyedCalls.{concerns_key, effect_at, is_answer, is_refused, is_same_value, no_effect, point_effect}
 pub use Rattle.key_parts.specs.Left.{HasKeysIn, pairs_at}
-pub use Rattle.list_laws.proofs.FilterLemmas.{AllPairs-from_map, Contains-from_map, Contains-map}
-pub use Rattle.list_laws.proofs.Lists.{All-at, All-back, All-from_contains, All-front, AllPairs-across, AllPairs-append, AllPairs-at, AllPairs-back}
-pub use Rattle.list_laws.proofs.Lists.{AllPairs-front, AllPairs-head, AllPairs-nil, AllPairs-tail, Any-first, Any-later, Contains-at, Contains-cases}
-pub use Rattle.list_laws.proofs.Lists.{Contains-filter, Contains-first, Contains-from_filter, Contains-later, Contains-nil, place_before-Contains}
-pub use Rattle.list_laws.proofs.Lists.{place_of-Contains}
-pub use Rattle.list_laws.proofs.NumberLemmas.{has_number-Contains, has_number-from_Contains, has_number-push, slice_get-below, some_at}
-pub use Rattle.list_laws.specs.Lists.{has_number}
+pub use Rattle.events.proofs.FilterLemmas.{AllPairs-from_map, Contains-from_map, Contains-map}
+pub use Rattle.events.proofs.Lists.{All-at, All-back, All-from_contains, All-front, AllPairs-across, AllPairs-append, AllPairs-at, AllPairs-back}
+pub use Rattle.events.proofs.Lists.{AllPairs-front, AllPairs-head, AllPairs-nil, AllPairs-tail, Any-first, Any-later, Contains-at, Contains-cases}
+pub use Rattle.events.proofs.Lists.{Contains-filter, Contains-first, Contains-from_filter, Contains-later, Contains-nil, place_before-Contains}
+pub use Rattle.events.proofs.Lists.{place_of-Contains}
+pub use Rattle.events.proofs.NumberLemmas.{has_number-Contains, has_number-from_Contains, has_number-push, slice_get-below, some_at}
+pub use Rattle.events.specs.Lists.{has_number}
 pub use Rattle.map_object.proofs.MapLemmas.{AreAbove-above, AreAbove-first, AreBelow-below, IsRising-insert, IsRising-rest, value_at_above}
 pub use Rattle.map_object.proofs.MapLemmas.{value_at_found}
 pub use Rattle.map_object.proofs.ValueLemmas.{same_pairs}

@@ -9,9 +9,9 @@ use Rattle.part_pasts.proofs.Common.{FoundAt, KeptPast, KeptPart, IsKeptAs, AreK
 use Rattle.part_pasts.proofs.Common.{or_else, kept_part, ArePairsOf, IsTakenFrom, AreOne, AreAllPairs, IsTogetherWith, IsIn, resting, outside, Become}
 use Rattle.part_pasts.proofs.Common.{Part, Range, United}
 use Rattle.std.proofs.Common.{◌&&◌}
-use Rattle.key_effects.specs.Apart.{AreApart}
+use Rattle.key_parts.specs.Apart.{AreApart}
 use Rattle.key_parts.specs.Parts.{Part as ChosenPart}
-use Rattle.kept_pasts.specs.Unions.{both_keys, IsTogether, ArePairs, FallsApart}
+use Rattle.kept_parts.specs.Unions.{both_keys, IsTogether, ArePairs, FallsApart}
 use Rattle.kept_parts.proofs.PartLemmas.{IsKeptFirst, first_of, others_apart}
 use Rattle.kept_parts.proofs.PastLemmas.{zip_back, kept_pasts_are_within}
 use Rattle.kept_parts.proofs.StepLemmas.{any_to, parts_move}

@@ -4,8 +4,8 @@ use Rattle.std.specs.List.{AllZip, list_any}
 use Rattle.events.specs.declared.operation.Operation.{Operation}
 use Rattle.events.specs.Keys.{low_key, high_key}
 use Rattle.map_object.specs.MapObject.{Contents, value_at}
-use Rattle.key_effects.specs.KeyedCalls.{concerns_key}
-use Rattle.key_effects.specs.Cuts.{Keys}
+use Rattle.key_parts.specs.KeyedCalls.{concerns_key}
+use Rattle.key_parts.specs.Cuts.{Keys}
 use Rattle.key_parts.specs.Left.{pairs_at}
 use Rattle.part_cuts.specs.declared.past.Found.{Found}
 use Rattle.part_cuts.specs.declared.past.Past.{Past}

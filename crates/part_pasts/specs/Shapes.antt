@@ -2,7 +2,7 @@
 use Rattle.std.specs.Prelude.{◌≢◌, ◌<◌, List, All, AllPairs}
 use Rattle.events.specs.Precedence.{NonePrecedesItself}
 use Rattle.kept_orders.specs.Views.{IsKeptOrder}
-use Rattle.kept_pasts.specs.Pasts.{KeptPast}
+use Rattle.kept_parts.specs.Pasts.{KeptPast}
 use Rattle.part_pasts.specs.Views.{kept_part}
 use Rattle.part_pasts.specs.declared.part.Part.{Part}
 

@@ -3,9 +3,9 @@ use Rattle.std.specs.Prelude.{◌≡◌, ◌⊎◌, ◌↔◌, ℕ, ◌<◌, ◌
 use Rattle.std.specs.List.{AllZip}
 use Rattle.events.specs.declared.operation.Operation.{Operation}
 use Rattle.map_object.specs.MapObject.{Contents, IsRising, value_at}
-use Rattle.key_effects.specs.Cuts.{Keys}
+use Rattle.key_parts.specs.Cuts.{Keys}
 use Rattle.key_parts.specs.Left.{pairs_at}
-use Rattle.kept_pasts.specs.Pasts.{KeptPast}
+use Rattle.kept_parts.specs.Pasts.{KeptPast}
 use Rattle.kept_parts.specs.KeptParts.{KeptPart, AreKept, at_rest}
 use Rattle.part_cuts.specs.PartCuts.{kept_of}
 use Rattle.part_cuts.specs.declared.past.Past.{Past}

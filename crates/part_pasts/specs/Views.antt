@@ -1,7 +1,7 @@
 -- What contracts see of a part.
 use Rattle.std.specs.Prelude.{List, ◌∷◌, map}
 use Rattle.kept_orders.specs.Views.{KeptOrderView}
-use Rattle.kept_pasts.specs.Pasts.{KeptPast}
+use Rattle.kept_parts.specs.Pasts.{KeptPast}
 use Rattle.kept_parts.specs.KeptParts.{KeptPart}
 use Rattle.part_cuts.specs.PartCuts.{found_at, kept_of}
 use Rattle.part_cuts.specs.declared.past.Found.{Found}

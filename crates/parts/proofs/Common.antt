@@ -36,19 +36,19 @@ pub use Rattle.kept_parts.specs.Events.{AreAfterAnswer, IsAfterAnswer, IsWithRea
 pub use Rattle.kept_parts.specs.KeptParts.{AreKept, KeptPart, at_rest}
 pub use Rattle.kept_parts.specs.Reached.{HasPasts}
 pub use Rattle.kept_parts.specs.Steps.{GoesOn, IsKnownIn, IsWithinKeys, ReadsBeganAfter}
-pub use Rattle.kept_pasts.specs.Pasts.{FoundAt, IsPast, KeptPast}
-pub use Rattle.kept_pasts.specs.Unions.{FallsApart, IsTogether, both_keys}
-pub use Rattle.key_effects.specs.Apart.{AreApart}
-pub use Rattle.key_effects.specs.Cuts.{Keys}
-pub use Rattle.key_effects.specs.Forms.{HasForm}
-pub use Rattle.key_effects.specs.KeyedCalls.{IsNoEffect, concerns_key, effect_at, is_refused, keyed}
+pub use Rattle.kept_parts.specs.Pasts.{FoundAt, IsPast, KeptPast}
+pub use Rattle.kept_parts.specs.Unions.{FallsApart, IsTogether, both_keys}
+pub use Rattle.key_parts.specs.Apart.{AreApart}
+pub use Rattle.key_parts.specs.Cuts.{Keys}
+pub use Rattle.key_parts.specs.Forms.{HasForm}
+pub use Rattle.key_parts.specs.KeyedCalls.{IsNoEffect, concerns_key, effect_at, is_refused, keyed}
 pub use Rattle.key_parts.specs.Left.{HasKeysIn, answered, pairs_at}
-pub use Rattle.list_laws.proofs.FilterLemmas.{Contains-from_map, Contains-map}
-pub use Rattle.list_laws.proofs.Lists.{All-at, All-back, All-from_contains, All-front, AllPairs-across, AllPairs-append, AllPairs-back}
-pub use Rattle.list_laws.proofs.Lists.{AllPairs-front, AllPairs-head, AllPairs-nil, AllPairs-tail, Any-first, Any-later, Contains-around}
-pub use Rattle.list_laws.proofs.Lists.{Contains-cases, Contains-first, Contains-later, Contains-nil, filter_all, slice_get-middle}
-pub use Rattle.list_laws.proofs.NumberLemmas.{IsSomeAnd-within, some_at}
-pub use Rattle.list_laws.proofs.Places.{parts_at}
+pub use Rattle.events.proofs.FilterLemmas.{Contains-from_map, Contains-map}
+pub use Rattle.events.proofs.Lists.{All-at, All-back, All-from_contains, All-front, AllPairs-across, AllPairs-append, AllPairs-back}
+pub use Rattle.events.proofs.Lists.{AllPairs-front, AllPairs-head, AllPairs-nil, AllPairs-tail, Any-first, Any-later, Contains-around}
+pub use Rattle.events.proofs.Lists.{Contains-cases, Contains-first, Contains-later, Contains-nil, filter_all, slice_get-middle}
+pub use Rattle.events.proofs.NumberLemmas.{IsSomeAnd-within, some_at}
+pub use Rattle.events.proofs.Places.{parts_at}
 pub use Rattle.map_object.proofs.ValueLemmas.{same_pairs}
 pub use Rattle.map_object.specs.MapObject.{Contents, IsRising, value_at}
 pub use Rattle.orders.specs.Orders.{IsLegalCall, IsLinearizable}

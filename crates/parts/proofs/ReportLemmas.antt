@@ -10,7 +10,7 @@ use Rattle.parts.proofs.Common.{reads_are_answered, reads_at_rest_are_taken, any
 use Rattle.parts.proofs.Common.{IsPartShaped, IsPastShaped, Become, outside, resting, kept_part, Part, Range, OpenRead, same_keys, HasOwnPlace}
 use Rattle.parts.proofs.Common.{MayBeLeft, MayStand, kept_with, IsCallBefore, IsPartBefore, IsPastBefore, IsShaped, MayComeTo, AreMet, AreParted}
 use Rattle.parts.proofs.Common.{IsReportedAt, PartsView, is_at_rest, kept_parts, kept_rest}
-use Rattle.segments.proofs.RangeLemmas.{IsLegalCall-within}
+use Rattle.orders.proofs.RangeLemmas.{IsLegalCall-within}
 use Rattle.parts.proofs.BegunLemmas.{part_later}
 use Rattle.parts.proofs.MetLemmas.{all_left, all_out, pairs_left, pairs_out, pairs_across, parted_kept, parted_out, met_cover, met_rest, none_met}
 use Rattle.parts.proofs.MetLemmas.{none_out}

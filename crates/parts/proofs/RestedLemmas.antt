@@ -10,15 +10,15 @@ use Rattle.parts.proofs.Common.{Vec, Global, Part, OpenRead, AreBegunAfter, Move
 use Rattle.parts.proofs.MovedLemmas.{reads_began}
 use Rattle.std.proofs.lemmas.Bool.{ltb-true}
 use Rattle.orders.specs.Orders.{after_call}
-use Rattle.key_effects.specs.Choices.{Choice}
-use Rattle.key_effects.specs.Growth.{HaveGrown}
-use Rattle.key_effects.specs.KeyedCalls.{KeyedCall, is_completed, place_of}
-use Rattle.key_effects.proofs.OrderLemmas.{same_call}
+use Rattle.key_parts.specs.Choices.{Choice}
+use Rattle.key_parts.specs.Growth.{HaveGrown}
+use Rattle.key_parts.specs.KeyedCalls.{KeyedCall, is_completed, place_of}
+use Rattle.key_parts.proofs.OrderLemmas.{same_call}
 use Rattle.key_parts.specs.Operations.{HasSomeKeyIn, OperationMayCome, without_call}
 use Rattle.key_parts.specs.Parts.{StandFor}
-use Rattle.kept_pasts.specs.Leads.{IsMadeOf, Leads, Setting, Stand}
-use Rattle.kept_pasts.specs.Pasts.{IsNameKept, IsPastAfter, OpenReadsBeganAfter, found_by}
-use Rattle.kept_pasts.proofs.NextLemmas.{pasts_come_next}
+use Rattle.kept_parts.specs.Leads.{IsMadeOf, Leads, Setting, Stand}
+use Rattle.kept_parts.specs.Pasts.{IsNameKept, IsPastAfter, OpenReadsBeganAfter, found_by}
+use Rattle.kept_parts.proofs.NextLemmas.{pasts_come_next}
 use Rattle.parts.specs.Settled.{AreAtRestThen}
 
 -- a list of one element

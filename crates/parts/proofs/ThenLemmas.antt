@@ -7,7 +7,7 @@ use Rattle.parts.proofs.Common.{Contents, Keys, pairs_at, IsKeptOrder, KeptPast,
 use Rattle.parts.proofs.Common.{AreCut, AreShaped, kept_of, Past, covered, kept_part, IsPastShaped, AreBusy, AreOnly, AreResting, IsOnly, resting}
 use Rattle.parts.proofs.Common.{outside, AreBegunAfter, Part, Range, OpenRead, IsCallBefore, IsPastBefore, IsBesideReads, IsPartBefore, AreThen}
 use Rattle.parts.proofs.Common.{AreThoseAlive, IsPartFrom, IsParted, MovesOn, AreOfLeft, kept_moved, Moved}
-use Rattle.kept_pasts.specs.Leads.{IsMadeOf}
+use Rattle.kept_parts.specs.Leads.{IsMadeOf}
 use Rattle.parts.proofs.MovedLemmas.{alive_in, alive_stand, all_rest, busy_own, from_shape, front_goes, reads_began, shape_of, two_parts}
 
 -- an item of a list, as some item

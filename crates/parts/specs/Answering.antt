@@ -3,7 +3,7 @@ use Rattle.std.specs.Prelude.{◌≡◌, ℕ, List, [], ◌∷◌, map, Any, ⊤
 use Rattle.events.specs.declared.operation.Operation.{Operation}
 use Rattle.events.specs.declared.operation.Response.{Response}
 use Rattle.kept_orders.specs.Answers.{IsAnswer}
-use Rattle.kept_pasts.specs.Pasts.{KeptPast}
+use Rattle.kept_parts.specs.Pasts.{KeptPast}
 use Rattle.kept_parts.specs.Events.{IsAfterAnswer, AreAfterAnswer}
 use Rattle.part_cuts.specs.PartCuts.{found_at}
 use Rattle.part_cuts.specs.declared.past.Found.{Found}

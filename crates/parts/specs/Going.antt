@@ -2,8 +2,8 @@
 use Rattle.std.specs.Prelude.{◌≡◌, ◌≢◌, ◌<◌, false, List, ◌∷◌, map, All, AllPairs, ⊤}
 use Rattle.events.specs.declared.operation.Operation.{Operation}
 use Rattle.events.specs.Precedence.{precedes}
-use Rattle.key_effects.specs.Cuts.{Keys}
-use Rattle.kept_pasts.specs.Pasts.{KeptPast}
+use Rattle.key_parts.specs.Cuts.{Keys}
+use Rattle.kept_parts.specs.Pasts.{KeptPast}
 use Rattle.kept_parts.specs.KeptParts.{KeptPart}
 use Rattle.part_pasts.specs.Views.{kept_part}
 use Rattle.part_pasts.specs.Uniting.{resting, outside}

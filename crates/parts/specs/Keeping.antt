@@ -11,7 +11,7 @@ use Rattle.key_parts.specs.Left.{HasKeysIn, answered}
 use Rattle.kept_parts.specs.Events.{AreAfterAnswer, IsWithRead}
 use Rattle.kept_parts.specs.KeptParts.{KeptPart, AreKept}
 use Rattle.kept_parts.specs.Reached.{HasPasts}
-use Rattle.kept_pasts.specs.Pasts.{KeptPast}
+use Rattle.kept_parts.specs.Pasts.{KeptPast}
 use Rattle.part_cuts.specs.PartCuts.{kept_of}
 use Rattle.part_pasts.specs.Pasts.{IsDead, AreDoubtful}
 use Rattle.part_pasts.specs.Ranges.{covered}

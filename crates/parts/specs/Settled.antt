@@ -2,8 +2,8 @@
 use Rattle.std.specs.Prelude.{◌≡◌, ◌⊎◌, ℕ, true, List, [], ◌∷◌, ◌++◌, map, Option, None, Some, IfSome, All, Any, Contains}
 use Rattle.events.specs.declared.operation.Operation.{Operation}
 use Rattle.map_object.specs.MapObject.{Contents, IsRising, value_at}
-use Rattle.key_effects.specs.Cuts.{Keys}
-use Rattle.kept_pasts.specs.Pasts.{KeptPast}
+use Rattle.key_parts.specs.Cuts.{Keys}
+use Rattle.kept_parts.specs.Pasts.{KeptPast}
 use Rattle.kept_parts.specs.KeptParts.{KeptPart, AreKept}
 use Rattle.kept_parts.specs.Steps.{ReadsBeganAfter}
 use Rattle.kept_orders.specs.Views.{IsKeptOrder}

@@ -5,7 +5,7 @@ use Rattle.events.specs.declared.operation.Response.{Response}
 use Rattle.events.specs.Precedence.{NonePrecedesItself}
 use Rattle.map_object.specs.MapObject.{IsRising}
 use Rattle.kept_orders.specs.Views.{IsKeptOrder}
-use Rattle.kept_pasts.specs.Pasts.{KeptPast}
+use Rattle.kept_parts.specs.Pasts.{KeptPast}
 use Rattle.part_pasts.specs.Views.{kept_part}
 use Rattle.part_pasts.specs.declared.part.Part.{Part}
 use Rattle.part_pasts.specs.declared.moments.OpenRead.{OpenRead}

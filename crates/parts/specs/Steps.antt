@@ -5,11 +5,11 @@ use Rattle.events.specs.declared.operation.Operation.{Operation}
 use Rattle.events.specs.declared.operation.Response.{Response}
 use Rattle.events.specs.Keys.{low_key, high_key}
 use Rattle.map_object.specs.MapObject.{Contents, IsRising, value_at}
-use Rattle.key_effects.specs.KeyedCalls.{IsNoEffect, effect_at}
+use Rattle.key_parts.specs.KeyedCalls.{IsNoEffect, effect_at}
 use Rattle.kept_orders.specs.Views.{KeptOrderView, IsKeptOrder}
 use Rattle.kept_orders.specs.Answers.{IsAnswer}
 use Rattle.kept_orders.specs.declared.kept.Kept.{Kept}
-use Rattle.kept_pasts.specs.Pasts.{KeptPast}
+use Rattle.kept_parts.specs.Pasts.{KeptPast}
 use Rattle.kept_parts.specs.Events.{with_begun, IsWithRead}
 use Rattle.part_pasts.specs.Ranges.{covered}
 use Rattle.part_pasts.specs.Views.{kept_part}

@@ -2,7 +2,7 @@
 use Rattle.std.specs.Prelude.{ℕ, not, List, [], ◌∷◌, map}
 use Rattle.std.specs.List.{list_any}
 use Rattle.map_object.specs.MapObject.{Contents}
-use Rattle.key_effects.specs.Cuts.{Keys}
+use Rattle.key_parts.specs.Cuts.{Keys}
 use Rattle.kept_parts.specs.KeptParts.{KeptPart, at_rest}
 use Rattle.part_pasts.specs.Ranges.{covered}
 use Rattle.part_pasts.specs.declared.part.Part.{Part}

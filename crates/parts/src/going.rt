@@ -2,7 +2,7 @@
 ghost use Rattle.std.specs.Prelude.{◌≡◌, ℕ, suc, List, All, IfOk};
 ghost use Rattle.events.specs.declared.operation.Operation.{Operation as Done};
 ghost use Rattle.map_object.specs.MapObject.{Contents};
-ghost use Rattle.kept_pasts.specs.Pasts.{KeptPast};
+ghost use Rattle.kept_parts.specs.Pasts.{KeptPast};
 ghost use Rattle.kept_parts.specs.KeptParts.{AreKept};
 ghost use Rattle.part_pasts.specs.Ranges.{covered};
 ghost use Rattle.part_pasts.specs.Pasts.{AreGoneOn, lefts_of};

@@ -3,7 +3,7 @@ ghost use Rattle.std.specs.Prelude.{◌≡◌, ◌+◌, ◌<◌, ◌≤◌, ◌^
 ghost use Rattle.events.specs.declared.operation.Operation.{Operation as Done};
 ghost use Rattle.events.specs.Keys.{low_key, high_key};
 ghost use Rattle.map_object.specs.MapObject.{Contents, IsRising};
-ghost use Rattle.key_effects.specs.Forms.{HasForm};
+ghost use Rattle.key_parts.specs.Forms.{HasForm};
 ghost use Rattle.kept_parts.specs.Steps.{GoesOn};
 ghost use Rattle.parts.specs.Shapes.{IsShaped};
 ghost use Rattle.parts.specs.Views.{kept_parts};

@@ -1,7 +1,7 @@
 // Streams of a few events, worked by hand.
 ghost use Rattle.std.specs.Prelude.{ℕ, ◌≤◌};
 ghost use Rattle.events.specs.Keys.{low_key, high_key};
-ghost use Rattle.key_effects.specs.Forms.{HasForm};
+ghost use Rattle.key_parts.specs.Forms.{HasForm};
 ghost use Rattle.parts.specs.Keeping.{reported};
 
 use crate::state::{Answered, Parts};

@@ -13,9 +13,9 @@ use Rattle.locating.specs.declared.location.Location.{Location}
 use Rattle.locating.specs.declared.evidence.Evidence.{Evidence}
 use Rattle.locating.specs.declared.evidence.Evidence.TheVariants.{OfEvents, OfPart, Missing}
 use Rattle.locating.specs.Evidences.{IsEvidenceOf}
-use Rattle.losses.specs.OwnParts.{AreOwnLosses, OwnPart}
-use Rattle.losses.specs.declared.lost_keys.KeyLoss.{KeyLoss}
-use Rattle.losses.specs.declared.lost_keys.Origin.{Origin}
+use Rattle.monitor.specs.OwnParts.{AreOwnLosses, OwnPart}
+use Rattle.monitor.specs.declared.lost_keys.KeyLoss.{KeyLoss}
+use Rattle.monitor.specs.declared.lost_keys.Origin.{Origin}
 use Rattle.explaining.specs.declared.explanation.Explanation.{Explanation}
 use Rattle.explaining.specs.Explained.{IsExplanation}
 use Rattle.origins.specs.External.{AreExternal}

@@ -3,7 +3,7 @@ ghost use Rattle.std.specs.Prelude.{◌≡◌, ℕ, ◌++◌, List, length, map,
 ghost use Rattle.events.specs.Operations.{operations};
 ghost use Rattle.judge.specs.Shown.{IsShown};
 ghost use Rattle.map_object.specs.MapObject.{IsRising};
-ghost use Rattle.segments.specs.SegmentOrders.{HasNoOrder};
+ghost use Rattle.orders.specs.SegmentOrders.{HasNoOrder};
 ghost use Rattle.locating.specs.Evidences.{Refutes};
 ghost use Rattle.locating.specs.Locations.{IsLocated};
 ghost use Rattle.origins.specs.External.{AreExternal};
@@ -19,11 +19,11 @@ use events::{History, MAX_CALLS, Memory, Operation};
 use explaining::{Explanation, explain_calls};
 use judge::Verdict;
 use locating::{Evidence, Location, evidence_of};
-use losses::{KeyLoss, Origin, OwnPart, own_losses};
 use map_object::SortedMap;
+use monitor::{KeyLoss, Origin, OwnPart, own_losses};
+use orders::Segment;
 use origins::{Missed, external_pairs, missed_by, writers_of};
 use pictures::View;
-use segments::Segment;
 use std::alloc::Global;
 
 /// Returns what is shown of a verdict and of a location. If the view asks for a part, it is that

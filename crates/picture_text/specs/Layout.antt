@@ -1,6 +1,6 @@
 -- Positions in the picture, in the units of the text, for a width of a column.
 use Rattle.std.specs.Prelude.{ℕ, ◌+◌, ◌-◌, ◌*◌, ◌/◌, ◌≤◌, nat_le, if◌then◌else◌, max, min, List, length, map, Option, Some, None, option_map, string_bytes}
-use Rattle.list_laws.specs.Lists.{greatest}
+use Rattle.events.specs.Lists.{greatest}
 use Rattle.pictures.specs.declared.picture.Bar.{Bar}
 use Rattle.pictures.specs.declared.picture.PicturePart.{PicturePart}
 

@@ -20,10 +20,10 @@ pub use Rattle.events.specs.declared.event.Event.TheVariants.{Answer, Invoke}
 pub use Rattle.events.specs.declared.operation.Operation.{Operation}
 pub use Rattle.events.specs.declared.operation.Response.{Response}
 pub use Rattle.judge.specs.declared.verdict.Verdict.{Verdict}
-pub use Rattle.list_laws.proofs.FilterLemmas.{AllPairs-map, Contains-from_map}
-pub use Rattle.list_laws.proofs.Lists.{All-at, All-from_contains, AllPairs-at, AllPairs-from_at, AllPairs-head, AllPairs-tail, Contains-at}
-pub use Rattle.list_laws.proofs.Lists.{Contains-cases, Contains-filter, Contains-first, Contains-from_filter, Contains-later, Contains-nil}
-pub use Rattle.list_laws.proofs.Lists.{Contains-range, filter_none, length-distinct, place-push, slice_get-middle}
+pub use Rattle.events.proofs.FilterLemmas.{AllPairs-map, Contains-from_map}
+pub use Rattle.events.proofs.Lists.{All-at, All-from_contains, AllPairs-at, AllPairs-from_at, AllPairs-head, AllPairs-tail, Contains-at}
+pub use Rattle.events.proofs.Lists.{Contains-cases, Contains-filter, Contains-first, Contains-from_filter, Contains-later, Contains-nil}
+pub use Rattle.events.proofs.Lists.{Contains-range, filter_none, length-distinct, place-push, slice_get-middle}
 pub use Rattle.merge_orders.proofs.PlacedLemmas.{latest, latest-more}
 pub use Rattle.merge_orders.proofs.PointLemmas.{not_before_point, point_in-at, point_in-invocation, point_in-is, point_in-rises}
 pub use Rattle.merge_orders.specs.Merge.{point_in}

@@ -7,7 +7,7 @@ use Rattle.pictures.proofs.Common.{length-distinct, Bar, Mark, is_of_named, name
 use Rattle.pictures.proofs.Common.{columns_of, end_of, start_of}
 use Rattle.std.proofs.Common.{length-append}
 use Rattle.std.proofs.lemmas.List.Kept.{AllPairs-filter}
-use Rattle.list_laws.specs.Lists.{has_number}
+use Rattle.events.specs.Lists.{has_number}
 
 -- at most one column more, of a bar that is not pale
 one_more : (named : Bool) (column : Option ℕ) (bar : Bar) (columns : List ℕ) (bars : List Bar) → length columns ≤ length bars

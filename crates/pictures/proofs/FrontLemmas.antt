@@ -5,10 +5,10 @@ use Rattle.std.specs.Prelude.{◌<◌, length}
 use Rattle.map_object.specs.MapObject.{Contents}
 use Rattle.orders.specs.Orders.{IsLegalOrder, calls_at}
 use Rattle.orders.proofs.PlaceLemmas.{IsLegalOrder-numbers}
-use Rattle.configurations.proofs.FrontLemmas.{IsLegalOrder-from_front}
-use Rattle.segments.specs.SegmentView.{SegmentView}
-use Rattle.segments.specs.Segments.{IsSegment, AreSegments}
-use Rattle.segments.proofs.BelongingLemmas.{BelongsAt-below}
+use Rattle.memo.proofs.FrontLemmas.{IsLegalOrder-from_front}
+use Rattle.orders.specs.SegmentView.{SegmentView}
+use Rattle.orders.specs.Segments.{IsSegment, AreSegments}
+use Rattle.orders.proofs.BelongingLemmas.{BelongsAt-below}
 use Rattle.search.specs.LongestFront.{IsFrontOf}
 use Rattle.judge.specs.declared.verdict.Verdict.TheVariants.{Yes, No, Undecided}
 use Rattle.judge.specs.Shown.{IsShown}

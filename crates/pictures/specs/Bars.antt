@@ -6,7 +6,7 @@ use Rattle.events.specs.declared.operation.Operation.{Operation}
 use Rattle.events.specs.declared.operation.Response.{Response}
 use Rattle.events.specs.Keys.{low_key, high_key}
 use Rattle.events.specs.Operations.{operations}
-use Rattle.list_laws.specs.Lists.{has_number}
+use Rattle.events.specs.Lists.{has_number}
 use Rattle.judge.specs.declared.verdict.Verdict.{Verdict}
 use Rattle.judge.specs.declared.verdict.Verdict.TheVariants.{Yes, No, Undecided}
 use Rattle.pictures.specs.declared.picture.Bar.{Bar}

@@ -3,7 +3,7 @@
 use Rattle.std.specs.Prelude.{◌≡◌, ◌≢◌, ℕ, ◌==◌, ◌*◌, ◌≤◌, ◌&&◌, Bool, true, not, List, map, filter, count_by, Option, AllPairs}
 use Rattle.std.specs.List.{list_any}
 use Rattle.events.specs.declared.operation.Operation.{Operation}
-use Rattle.list_laws.specs.Lists.{has_number}
+use Rattle.events.specs.Lists.{has_number}
 use Rattle.pictures.specs.declared.picture.Bar.{Bar}
 use Rattle.pictures.specs.declared.picture.Mark.{Mark}
 use Rattle.pictures.specs.declared.picture.Picture.{Picture}

@@ -6,7 +6,7 @@ ghost use Rattle.events.specs.Histories.{IsHistory};
 ghost use Rattle.pictures.specs.Bars.{speaks_of, is_response, IsBarOf, AreBarsOf};
 ghost use Rattle.pictures.specs.Lanes.{lanes};
 ghost use Rattle.pictures.specs.Columns.{event_column};
-ghost use Rattle.list_laws.specs.Lists.{has_number};
+ghost use Rattle.events.specs.Lists.{has_number};
 ghost use Rattle.pictures.specs.Words.{call_words, reply_words};
 
 use crate::columns::event_column;

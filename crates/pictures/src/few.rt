@@ -1,6 +1,6 @@
 // The picture of only a few calls.
 ghost use Rattle.std.specs.Prelude.{◌≡◌, map, IfOk};
-ghost use Rattle.list_laws.specs.Lists.{has_number};
+ghost use Rattle.events.specs.Lists.{has_number};
 ghost use Rattle.pictures.specs.Few.{named_bar, is_of_named, named_marks, IsNarrowedTo, IsFewOf};
 
 use crate::picture::{Bar, Mark, Picture};

@@ -16,7 +16,7 @@ use Rattle.outcomes.specs.Ends.{Change, IsSound}
 use Rattle.outcomes.specs.Outcomes.{IsTextOutcome, IsUnread, IsReadOutcome}
 use Rattle.outcomes.specs.Runs.{Leaves, IsRun}
 use Rattle.outcomes.specs.Statuses.{answer_status}
-use Rattle.answer_hints.specs.Outcomes.{IsHintedOutcome, IsHintedRead}
+use Rattle.outcomes.specs.HintedOutcomes.{IsHintedOutcome, IsHintedRead}
 use Rattle.history_engines.specs.Answers.{IsHintedJudgeAnswer, IsHistoryRefusal, answer_of}
 use Rattle.judge.specs.declared.verdict.Verdict.TheVariants as verdicts
 

@@ -13,7 +13,7 @@ use Rattle.plan_text.specs.PlanTexts.{SpellsPlan}
 use Rattle.plan_text.specs.PlanTextFaults.{IsPlanTextFault}
 use Rattle.drives.specs.Drives.{IsDrivable, IsDriveOf}
 use Rattle.art_rows.specs.declared.table.Shape.{Shape}
-use Rattle.art_steps.specs.declared.variant.Variant.{Variant}
+use Rattle.art_rows.specs.declared.variant.Variant.{Variant}
 use Rattle.drives.specs.ArenaDrives.{IsArenaDriveOf}
 use Rattle.outcomes.specs.declared.outcome.Answer.{Answer}
 use Rattle.outcomes.specs.declared.outcome.Answer.TheVariants.{Yes}

@@ -1,7 +1,7 @@
 -- The answers of `judge` to what `replay` and `drive` write of the full trees, from bytes to bytes.
 use Rattle.std.specs.Prelude.{◌≡◌, ℕ, List, Some}
 use Rattle.art_rows.specs.declared.table.Shape.{Shape}
-use Rattle.art_steps.specs.declared.variant.Variant.{Variant}
+use Rattle.art_rows.specs.declared.variant.Variant.{Variant}
 use Rattle.outcomes.specs.declared.outcome.RunOutcome.{RunOutcome}
 use Rattle.outcomes.specs.Ends.{Change, IsSound}
 use Rattle.outcomes.specs.Outcomes.{IsTextOutcome}

@@ -7,7 +7,7 @@ use Rattle.history_text.specs.Limits.{text_limit}
 use Rattle.history_text.specs.Texts.{history_data, Spells}
 use Rattle.serde_json.specs.Written.{compact_text}
 use Rattle.art_rows.specs.declared.table.Shape.{Shape}
-use Rattle.art_steps.specs.declared.variant.Variant.{Variant}
+use Rattle.art_rows.specs.declared.variant.Variant.{Variant}
 use Rattle.workload.specs.declared.mix.Mix.{Mix}
 use Rattle.outcomes.specs.declared.outcome.RunOutcome.{RunOutcome}
 use Rattle.outcomes.specs.declared.outcome.RunOutcome.TheVariants.{Answered, Refused, Memory}

@@ -5,7 +5,7 @@ use Rattle.events.specs.Operations.{operations}
 use Rattle.history_text.specs.Texts.{Spells}
 use Rattle.map_object.specs.MapObject.{Contents}
 use Rattle.orders.specs.Orders.{IsLinearizableHistory}
-use Rattle.art_steps.specs.declared.variant.Variant.TheVariants.{Coupled, Optimistic}
+use Rattle.art_rows.specs.declared.variant.Variant.TheVariants.{Coupled, Optimistic}
 use Rattle.art_core.specs.Core.{Plan, State, history_of}
 use Rattle.art_core.specs.Plans.{IsRun}
 use Rattle.judge.specs.declared.verdict.Verdict.{Verdict}

@@ -1,7 +1,7 @@
 -- What an engine writes of the run of a full tree, and the answers that it never gets.
 use Rattle.std.specs.Prelude.{◌≡◌, ◌≢◌, ◌⊎◌, ℕ, List, [], ◌++◌, Some, string_bytes}
-use Rattle.art_steps.specs.declared.variant.Variant.{Variant}
-use Rattle.art_steps.specs.declared.variant.Variant.TheVariants.{Coupled, Optimistic}
+use Rattle.art_rows.specs.declared.variant.Variant.{Variant}
+use Rattle.art_rows.specs.declared.variant.Variant.TheVariants.{Coupled, Optimistic}
 use Rattle.plan_text.specs.Replays.{ReplayView}
 use Rattle.plan_text.specs.ReplayTexts.{SpellsReplay}
 use Rattle.outcomes.specs.declared.outcome.Answer.{Answer}

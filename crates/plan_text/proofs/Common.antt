@@ -15,11 +15,11 @@ pub use Rattle.art_core.specs.Starts.{inserts}
 pub use Rattle.art_core.specs.declared.item.Item.{Item}
 pub use Rattle.art_core.specs.declared.item.Item.TheVariants.{End, Turns, Until}
 pub use Rattle.art_rows.specs.declared.table.Shape.{Shape}
-pub use Rattle.art_steps.specs.TreeCalls.{is_tree_call}
-pub use Rattle.art_steps.specs.declared.access.Point.{Point}
-pub use Rattle.art_steps.specs.declared.access.Point.TheVariants.{Answer, Check, Child, LockRoot, LockRow, Unlock}
-pub use Rattle.art_steps.specs.declared.variant.Variant.{Variant}
-pub use Rattle.art_steps.specs.declared.variant.Variant.TheVariants.{Coupled, EarlyRelease, LockUnchecked, Optimistic, ReadUnchecked, ScanUnvalidated}
+pub use Rattle.art_rows.specs.TreeCalls.{is_tree_call}
+pub use Rattle.art_rows.specs.declared.access.Point.{Point}
+pub use Rattle.art_rows.specs.declared.access.Point.TheVariants.{Answer, Check, Child, LockRoot, LockRow, Unlock}
+pub use Rattle.art_rows.specs.declared.variant.Variant.{Variant}
+pub use Rattle.art_rows.specs.declared.variant.Variant.TheVariants.{Coupled, EarlyRelease, LockUnchecked, Optimistic, ReadUnchecked, ScanUnvalidated}
 pub use Rattle.events.specs.PlainHistories.{has_no_pairs, is_replace}
 pub use Rattle.events.specs.declared.event.Call.{Call}
 pub use Rattle.events.specs.declared.event.Call.TheVariants.{Get, Insert, Remove, Replace, Scan}

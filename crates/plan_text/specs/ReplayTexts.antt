@@ -4,11 +4,11 @@ use Rattle.serde_json.specs.Data.{Data, string, Members, object, no_members, mem
 use Rattle.map_object.specs.MapObject.{Contents}
 use Rattle.history_text.specs.Texts.{number_data, list_data, pair_data, IsJson}
 use Rattle.art_rows.specs.declared.table.Shape.{Shape}
-use Rattle.art_steps.specs.declared.access.Point.{Point}
-use Rattle.art_steps.specs.declared.access.Point.TheVariants.{Child, Check, LockRoot, LockRow, Unlock, Answer}
-use Rattle.art_steps.specs.declared.variant.Variant.{Variant}
-use Rattle.art_steps.specs.declared.variant.Variant.TheVariants.{Coupled, Optimistic, ReadUnchecked, ScanUnvalidated, LockUnchecked}
-use Rattle.art_steps.specs.declared.variant.Variant.TheVariants.{EarlyRelease}
+use Rattle.art_rows.specs.declared.access.Point.{Point}
+use Rattle.art_rows.specs.declared.access.Point.TheVariants.{Child, Check, LockRoot, LockRow, Unlock, Answer}
+use Rattle.art_rows.specs.declared.variant.Variant.{Variant}
+use Rattle.art_rows.specs.declared.variant.Variant.TheVariants.{Coupled, Optimistic, ReadUnchecked, ScanUnvalidated, LockUnchecked}
+use Rattle.art_rows.specs.declared.variant.Variant.TheVariants.{EarlyRelease}
 use Rattle.art_core.specs.declared.item.Item.{Item}
 use Rattle.art_core.specs.declared.item.Item.TheVariants.{Turns, End, Until}
 use Rattle.plan_text.specs.Scripts.{SpellsScripts}

@@ -5,7 +5,7 @@ use Rattle.serde_json.specs.Data.{Data}
 use Rattle.events.specs.declared.event.Call.{Call}
 use Rattle.events.specs.PlainHistories.{is_replace}
 use Rattle.history_text.specs.Texts.{list_data, call_data}
-use Rattle.art_steps.specs.TreeCalls.{is_tree_call}
+use Rattle.art_rows.specs.TreeCalls.{is_tree_call}
 
 -- ---- the values that JSON gives them
 

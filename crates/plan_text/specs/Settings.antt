@@ -4,7 +4,7 @@ use Rattle.serde_json.specs.Data.{Data, string}
 use Rattle.history_text.specs.Texts.{number_data}
 use Rattle.art_rows.specs.declared.table.Shape.{Shape}
 use Rattle.art_rows.specs.Table.{IsWithinLimits}
-use Rattle.art_steps.specs.declared.variant.Variant.{Variant}
+use Rattle.art_rows.specs.declared.variant.Variant.{Variant}
 use Rattle.plan_text.specs.Replays.{turn_limit}
 use Rattle.plan_text.specs.ReplayTexts.{rows_data, variant_name}
 

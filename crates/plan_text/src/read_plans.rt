@@ -9,7 +9,7 @@ ghost use Rattle.plan_text.specs.PlanTexts.{SpellsPlanAs, SpellsPlan};
 ghost use Rattle.plan_text.specs.PlanTextFaults.{SpellsNoPlan, IsPlanFormFault, IsPlanTextFault};
 
 use crate::read_scripts::scripts_of;
-use art_steps::TreeCall;
+use art_rows::TreeCall;
 use events::Memory;
 use history_text::{JsonFault, json_of, two_members};
 use plans::{Plan, PlanFault};

@@ -5,7 +5,7 @@ ghost use Rattle.events.specs.declared.event.Call.{Call};
 ghost use Rattle.history_text.specs.Texts.{call_data};
 ghost use Rattle.plan_text.specs.Scripts.{script_data, is_script_call, is_script, are_scripts, SpellsScripts};
 
-use art_steps::TreeCall;
+use art_rows::TreeCall;
 use events::{Call, Memory};
 use history_text::call_of;
 use serde_json::Value;

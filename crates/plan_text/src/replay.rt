@@ -3,8 +3,7 @@ ghost use Rattle.std.specs.Prelude.{map};
 ghost use Rattle.plan_text.specs.Replays.{IsReplay};
 
 use art_core::Item;
-use art_rows::Shape;
-use art_steps::{TreeCall, Variant};
+use art_rows::{Shape, TreeCall, Variant};
 
 /// What is run, and by which schedule. All of it is within the limits, as opening a machine asks.
 #[derive(Drop)]

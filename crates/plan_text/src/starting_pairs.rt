@@ -5,10 +5,10 @@ ghost use Rattle.serde_json.specs.View.{view};
 ghost use Rattle.events.specs.declared.event.Call.TheVariants.{Insert};
 ghost use Rattle.map_object.specs.MapObject.{IsRising};
 ghost use Rattle.history_text.specs.Texts.{list_data, pair_data};
-ghost use Rattle.art_steps.specs.TreeCalls.{is_tree_call};
+ghost use Rattle.art_rows.specs.TreeCalls.{is_tree_call};
 ghost use Rattle.art_core.specs.Starts.{inserts};
 
-use art_steps::TreeCall;
+use art_rows::TreeCall;
 use events::{Call, Memory};
 use history_text::pairs_of;
 use serde_json::Value;

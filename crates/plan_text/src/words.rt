@@ -5,14 +5,13 @@ ghost use Rattle.serde_json.specs.View.{view};
 ghost use Rattle.history_text.specs.Texts.{number_data, list_data};
 ghost use Rattle.art_rows.specs.declared.table.Shape.{Shape};
 ghost use Rattle.art_rows.specs.Table.{IsWithinLimits};
-ghost use Rattle.art_steps.specs.declared.access.Point.{Point};
-ghost use Rattle.art_steps.specs.declared.variant.Variant.{Variant};
+ghost use Rattle.art_rows.specs.declared.access.Point.{Point};
+ghost use Rattle.art_rows.specs.declared.variant.Variant.{Variant};
 ghost use Rattle.plan_text.specs.Replays.{turn_limit};
 ghost use Rattle.plan_text.specs.ReplayTexts.{variant_name, point_name, rows_data};
 
 use crate::MAX_TURNS;
-use art_rows::Shape;
-use art_steps::{Point, Variant};
+use art_rows::{Point, Shape, Variant};
 use history_text::items_of;
 use serde_json::Value;
 

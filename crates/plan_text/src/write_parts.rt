@@ -6,8 +6,7 @@ ghost use Rattle.history_text.specs.Texts.{number_data, list_data};
 ghost use Rattle.plan_text.specs.ReplayTexts.{item_data, point_name, rows_data, variant_name};
 
 use art_core::Item;
-use art_rows::Shape;
-use art_steps::{Point, Variant};
+use art_rows::{Point, Shape, Variant};
 use serde_json::{Value, push};
 use std::alloc::{AllocError, Global};
 

@@ -9,7 +9,7 @@ ghost use Rattle.plans.specs.Plans.{AreScripts};
 ghost use Rattle.plan_text.specs.Scripts.{script_data, scripts_data};
 ghost use Rattle.plan_text.specs.PlanTexts.{version_of, is_plain_script, are_plain_scripts, written_data, SpellsPlan};
 
-use art_steps::TreeCall;
+use art_rows::TreeCall;
 use events::{Call, Memory};
 use history_text::call_value;
 use plans::Plan;

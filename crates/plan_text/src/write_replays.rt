@@ -13,7 +13,7 @@ ghost use Rattle.plan_text.specs.WrittenReplays.{AreHeld, is_plain, written_data
 use crate::replay::Replay;
 use crate::write_parts::{rows_value, schedule_value, variant_value};
 use crate::write_plans::{are_plain_scripts, scripts_value};
-use art_steps::Variant;
+use art_rows::Variant;
 use events::Memory;
 use history_text::pairs_value;
 use serde_json::{Map, Value, put};

@@ -2,7 +2,7 @@
 use Rattle.std.specs.Prelude.{◌≤◌, IsTrue, List, length, map, sum, All}
 use Rattle.events.specs.declared.event.Call.{Call}
 use Rattle.events.specs.Limits.{process_limit, call_limit}
-use Rattle.art_steps.specs.TreeCalls.{is_tree_call}
+use Rattle.art_rows.specs.TreeCalls.{is_tree_call}
 
 -- no more scripts and calls than a plan may have
 pub record AreFew (scripts : List (List Call)) : Type 0 where

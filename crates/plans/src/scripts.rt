@@ -3,7 +3,7 @@ ghost use Rattle.std.specs.Prelude.{◌≡◌, ◌↔◌, ◌≤◌, IsTrue, IfO
 ghost use Rattle.plans.specs.Plans.{AreFew};
 
 use crate::fault::PlanFault;
-use art_steps::TreeCall;
+use art_rows::TreeCall;
 use events::{MAX_CALLS, PROCESSES};
 use std::marker::Model;
 

@@ -11,7 +11,7 @@ pub use Rattle.std.specs.Vec.Iter.{into_iter_items}
 pub use Rattle.search.specs.Exact.{IsExactAnswer}
 pub use Rattle.search.specs.Found.{IsSoundAnswer}
 pub use Rattle.search.specs.declared.found.Found.{Found}
-pub use Rattle.segments.specs.SegmentView.{SegmentView}
+pub use Rattle.orders.specs.SegmentView.{SegmentView}
 pub use Rattle.tickets.specs.Hands.{counter, counter_of, left_of}
 pub use Rattle.pool.specs.Answers.{AnswersOneOf}
 pub use Rattle.pool.specs.Known.{IsExactIfKnown, WerePassedIfKnown, with_answer}

@@ -6,18 +6,18 @@ use Rattle.std.proofs.lemmas.Bool.{both_ways}
 use Rattle.std.proofs.lemmas.List.Elements.{All-nil, All-cons, All-head}
 use Rattle.std.proofs.lemmas.List.Kept.{AllPairs-cons}
 use Rattle.std.proofs.lemmas.Option.{same_Some, slice_get_within}
-use Rattle.list_laws.proofs.Lists.{AllPairs-nil, Contains-cases, Contains-first, Contains-later, Contains-nil}
+use Rattle.events.proofs.Lists.{AllPairs-nil, Contains-cases, Contains-first, Contains-later, Contains-nil}
 use Rattle.events.specs.declared.operation.Operation.{Operation}
 use Rattle.events.specs.Precedence.{NonePrecedesItself, is_completed, precedes}
 use Rattle.map_object.specs.MapObject.{Contents}
 use Rattle.orders.specs.Orders.{IsCompletedAt, IsLegalCall, IsLinearizable, IsOrder}
 use Rattle.orders.proofs.OrderLemmas.{IsCompletedAt-below}
-use Rattle.configurations.specs.Configurations.{Configuration, LeadsTo}
-use Rattle.configurations.specs.Fronts.{IsFront, PrecedesAt}
-use Rattle.configurations.proofs.ConfigurationLemmas.{LeadsTo-exists, LeadsTo-nil, configuration_of, configuration_unique}
-use Rattle.configurations.proofs.FrontLemmas.{IsFront-from_order, IsFront-nil, IsFront-push, IsOrder-from_front, length-front_le}
-use Rattle.segments.specs.SegmentView.{IsSegmentView}
-use Rattle.segments.specs.SegmentOrders.{HasNoOrder}
+use Rattle.memo.specs.Configurations.{Configuration, LeadsTo}
+use Rattle.memo.specs.Fronts.{IsFront, PrecedesAt}
+use Rattle.memo.proofs.ConfigurationLemmas.{LeadsTo-exists, LeadsTo-nil, configuration_of, configuration_unique}
+use Rattle.memo.proofs.FrontLemmas.{IsFront-from_order, IsFront-nil, IsFront-push, IsOrder-from_front, length-front_le}
+use Rattle.orders.specs.SegmentView.{IsSegmentView}
+use Rattle.orders.specs.SegmentOrders.{HasNoOrder}
 use Rattle.search.specs.LeastCounts.{HasCount, IsCounted}
 use Rattle.search.specs.LeastOrder.{IsLeastOrder, is_at_or_before}
 use Rattle.search.specs.Exact.{IsLeastOrderOf, CountIsWithinOf}

@@ -1,7 +1,7 @@
 -- What a worker's answer says.
 use Rattle.std.specs.Prelude.{ℕ, ◌<◌, List, length}
 use Rattle.std.specs.List.{HoldsAt}
-use Rattle.segments.specs.SegmentView.{SegmentView}
+use Rattle.orders.specs.SegmentView.{SegmentView}
 use Rattle.search.specs.Exact.{IsExactAnswer}
 use Rattle.pool.specs.declared.worker.SegmentAnswer.{SegmentAnswer}
 

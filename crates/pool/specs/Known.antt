@@ -1,6 +1,6 @@
 -- The answers that are known so far, at the places of their segments.
 use Rattle.std.specs.Prelude.{ℕ, suc, ⊤, List, [], ◌∷◌, Option, Some, IfSome, OnSome, slice_set}
-use Rattle.segments.specs.SegmentView.{SegmentView}
+use Rattle.orders.specs.SegmentView.{SegmentView}
 use Rattle.search.specs.declared.found.Found.{Found}
 use Rattle.search.specs.Exact.{IsExactAnswer}
 use Rattle.pool.specs.declared.worker.SegmentAnswer.{SegmentAnswer}

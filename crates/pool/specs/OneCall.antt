@@ -2,7 +2,7 @@
 use Rattle.std.specs.Prelude.{◌≡◌, ℕ, ◌≤◌, List, length}
 use Rattle.events.specs.declared.operation.Operation.{Operation}
 use Rattle.orders.specs.Orders.{IsCompletedAt}
-use Rattle.segments.specs.SegmentView.{SegmentView}
+use Rattle.orders.specs.SegmentView.{SegmentView}
 use Rattle.search.specs.Exact.{IsExactAnswer}
 use Rattle.search.specs.declared.found.Found.{Found}
 

@@ -9,8 +9,8 @@ ghost use Rattle.search.specs.Limits.{budget_limit};
 use crate::gate::Gate;
 use crate::worker::{SegmentAnswer, enter_and_search};
 use events::Memory;
+use orders::Segment;
 use search::Found;
-use segments::Segment;
 use std::alloc::Global;
 
 /// Returns the answers at their segments' places, and none at the other places.

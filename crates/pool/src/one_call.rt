@@ -7,9 +7,8 @@ ghost use Rattle.pool.specs.OneCall.{IsOneCompletedCall, IsExactFromTwo};
 
 use events::{Memory, Operation};
 use map_object::SortedMap;
-use orders::may_come_next;
+use orders::{Segment, may_come_next};
 use search::{Found, search};
-use segments::Segment;
 use std::alloc::Global;
 
 /// Returns what a search of the segment finds. A segment of one completed call is not searched: the

@@ -9,8 +9,8 @@ ghost use Rattle.search.specs.Limits.{budget_limit};
 use crate::gate::Gate;
 use crate::one_call::find_order;
 use events::Memory;
+use orders::Segment;
 use search::Found;
-use segments::Segment;
 use std::alloc::Global;
 use tickets::{Hand, Tickets};
 

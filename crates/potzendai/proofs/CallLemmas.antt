@@ -4,7 +4,7 @@ use Rattle.potzendai.proofs.Common.{RunOutcome, Answered, Noted, Refused, Memory
 use Rattle.judge.specs.declared.verdict.Verdict.{Verdict}
 use Rattle.judge.specs.Shown.{IsShown}
 use Rattle.outcomes.specs.Outcomes.{IsTextOutcome}
-use Rattle.answer_hints.specs.Outcomes.{IsHintedOutcome}
+use Rattle.outcomes.specs.HintedOutcomes.{IsHintedOutcome}
 use Rattle.history_engines.specs.Answers.{answer_of, IsHistoryRefusal, IsHintedJudgeAnswer, IsJudgeAnswer}
 use Rattle.explain_engines.specs.Answers.{IsExplainAnswer}
 use Rattle.potzendai.specs.Verdicts.{SpellsLinearizable, SpellsUnlinearizable}

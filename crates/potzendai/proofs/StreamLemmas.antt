@@ -3,7 +3,7 @@ use Rattle.potzendai.proofs.Common.{◌≡◌, ℕ, List, [], ◌∷◌, ◌++�
 use Rattle.potzendai.proofs.Common.{Undecided, RunOutcome, Answered, Noted, Refused, Memory, Words, Failed, lines_of, status_of, SpellLinearizable}
 use Rattle.potzendai.proofs.Common.{BeginUnlinearizable}
 use Rattle.events.specs.declared.event.Event.{Event}
-use Rattle.losses.specs.declared.loss.Loss.{Loss}
+use Rattle.monitor.specs.declared.loss.Loss.{Loss}
 use Rattle.stream_engines.specs.Answers.{GoesWrongHere}
 use Rattle.stream_engines.specs.Outcomes.{IsStreamOutcome}
 use Rattle.stream_engines.proofs.StreamLemmas.{SpellStream-push}

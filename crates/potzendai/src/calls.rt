@@ -2,17 +2,16 @@
 ghost use Rattle.std.specs.Prelude.{◌≡◌, Some};
 ghost use Rattle.explain_engines.specs.Answers.{IsExplainAnswer};
 ghost use Rattle.history_engines.specs.Answers.{IsHistoryRefusal, IsJudgeAnswer};
-ghost use Rattle.location_engines.specs.Answers.{IsLocateAnswer};
+ghost use Rattle.explain_engines.specs.LocationAnswers.{IsLocateAnswer};
 ghost use Rattle.outcomes.specs.Outcomes.{IsTextOutcome};
 ghost use Rattle.picture_engines.specs.Drawings.{IsDrawAnswer};
 ghost use Rattle.potzendai.specs.Calls.{IsCall};
 ghost use Rattle.potzendai.specs.Verdicts.{SpellsLinearizable, SpellsUnlinearizable};
 
 use crate::reports::{is_budget, report, report_budget};
-use explain_engines::explain_outcome;
+use explain_engines::{explain_outcome, locate_outcome};
 use history_engines::judge_outcome;
 use judge::OneThread;
-use location_engines::locate_outcome;
 use picture_engines::{draw_outcome, whole_view};
 use std::alloc::Global;
 

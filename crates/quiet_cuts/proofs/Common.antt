@@ -18,15 +18,15 @@ pub use Rattle.events.specs.declared.event.Event.TheVariants.{Answer, Invoke}
 pub use Rattle.events.specs.declared.event.Reply.{Reply}
 pub use Rattle.events.specs.declared.operation.Operation.{Operation}
 pub use Rattle.events.specs.declared.operation.Response.{Response}
-pub use Rattle.list_laws.proofs.FilterLemmas.{AllPairs-filter_map, AllPairs-from_filter_map, AllPairs-weaker, AreRelatedAs, Contains-filter_map}
-pub use Rattle.list_laws.proofs.FilterLemmas.{Contains-from_filter_map, filter_excluded}
-pub use Rattle.list_laws.proofs.Lists.{All-at, All-back, All-from_contains, All-front, AllPairs-across, AllPairs-append, AllPairs-back}
-pub use Rattle.list_laws.proofs.Lists.{AllPairs-front, AllPairs-head, AllPairs-tail, Contains-at, Contains-cases, Contains-first, Contains-later}
-pub use Rattle.list_laws.proofs.Lists.{Contains-nil, place_of-Contains}
-pub use Rattle.list_laws.proofs.NumberLemmas.{slice_get-below, some_at}
+pub use Rattle.events.proofs.FilterLemmas.{AllPairs-filter_map, AllPairs-from_filter_map, AllPairs-weaker, AreRelatedAs, Contains-filter_map}
+pub use Rattle.events.proofs.FilterLemmas.{Contains-from_filter_map, filter_excluded}
+pub use Rattle.events.proofs.Lists.{All-at, All-back, All-from_contains, All-front, AllPairs-across, AllPairs-append, AllPairs-back}
+pub use Rattle.events.proofs.Lists.{AllPairs-front, AllPairs-head, AllPairs-tail, Contains-at, Contains-cases, Contains-first, Contains-later}
+pub use Rattle.events.proofs.Lists.{Contains-nil, place_of-Contains}
+pub use Rattle.events.proofs.NumberLemmas.{slice_get-below, some_at}
 pub use Rattle.map_object.proofs.MapLemmas.{AreAbove-above, AreBelow-below, IsRising-insert, IsRising-remove, value_at_found, value_at_gap}
 pub use Rattle.map_object.specs.MapObject.{Contents, IsLegalReply, IsRising, above, after, after_reply, below, is_just, is_none_or_other, misses, put}
 pub use Rattle.map_object.specs.MapObject.{reply_to, value_at, value_reply, within}
 pub use Rattle.orders.specs.Orders.{IsLegal, IsLegalCall, IsLegalOrder, IsLinearizable, IsOrder, KeepsPrecedence, after_call, after_calls, calls_at}
-pub use Rattle.segments.proofs.RangeLemmas.{IsInside, IsLegalCall-within, bounds, in_range, value_at-within, within-after_call, within_left_call}
+pub use Rattle.orders.proofs.RangeLemmas.{IsInside, IsLegalCall-within, bounds, in_range, value_at-within, within-after_call, within_left_call}
 pub use Rattle.quiet_cuts.specs.KeptCalls.{answered_at, begun_at}

@@ -6,7 +6,7 @@ use Rattle.events.specs.declared.operation.Response.{Response}
 use Rattle.events.specs.Precedence.{precedes}
 use Rattle.map_object.specs.MapObject.{Contents, within}
 use Rattle.orders.specs.Orders.{IsOrder}
-use Rattle.segments.specs.SegmentView.{NamesKeysWithin}
+use Rattle.orders.specs.SegmentView.{NamesKeysWithin}
 
 -- the orders of calls within a range are those from the pairs of the range
 abbrev pub RangesSuffice : Type 0

@@ -7,7 +7,7 @@ use Rattle.recorder.proofs.Common.{AllPairs-from_map, AreHistoryEvents, Pass, pr
 use Rattle.recorder.proofs.Common.{IsPassOf, HasProcesses, AreAll, history_of, HasOwnEvents}
 use Rattle.std.proofs.lemmas.Option.{get_or_from_slice_get, slice_get_within}
 use Rattle.std.proofs.lemmas.List.FromFn.{length-range_with_len, get_or-range_with_len}
-use Rattle.list_laws.proofs.Places.{parts_at}
+use Rattle.events.proofs.Places.{parts_at}
 use Rattle.recorder.specs.declared.recorders.Recorder.{Recorder}
 use Rattle.recorder.proofs.PassLemmas.{draws-are}
 use Rattle.recorder.proofs.MergeLemmas.{AreApart, AreHistoryEvents-apart, AreHistoryEvents-nothing, own-apart, own-nothing}

@@ -14,10 +14,10 @@ pub use Rattle.std.specs.Vec.Iter.{into_iter_items}
 pub use Rattle.events.specs.Events.{IsWellFormed, events_of, is_invocation, process_of, takes_turns}
 pub use Rattle.events.specs.Histories.{AreHistoryEvents, call_count, is_shaped, is_small}
 pub use Rattle.events.specs.declared.event.Event.{Event}
-pub use Rattle.list_laws.proofs.FilterLemmas.{AllPairs-from_map, Contains-from_map}
-pub use Rattle.list_laws.proofs.Lists.{All-from_contains, AllPairs-append, AllPairs-from_at, AllPairs-head, AllPairs-nil, AllPairs-tail}
-pub use Rattle.list_laws.proofs.Lists.{Contains-around, Contains-cases, Contains-nil, Contains-take, filter_all, filter_none, length-distinct}
-pub use Rattle.logs.specs.Logs.{Stamped, by_stamp, events_by_stamp}
+pub use Rattle.events.proofs.FilterLemmas.{AllPairs-from_map, Contains-from_map}
+pub use Rattle.events.proofs.Lists.{All-from_contains, AllPairs-append, AllPairs-from_at, AllPairs-head, AllPairs-nil, AllPairs-tail}
+pub use Rattle.events.proofs.Lists.{Contains-around, Contains-cases, Contains-nil, Contains-take, filter_all, filter_none, length-distinct}
+pub use Rattle.events.specs.Logs.{Stamped, by_stamp, events_by_stamp}
 pub use Rattle.tickets.specs.Hands.{counter, counter_of, drawn_by, left_of, share_of}
 pub use Rattle.recorder.specs.Passes.{calls_of, draws_of, events_by, log_of, process_number, source_of, stamps_of}
 pub use Rattle.recorder.specs.Recorders.{AreAll, HasOwnEvents, HasProcesses, IsPassOf, all_stamps, calls_for_each, history_of, processes_of}

@@ -10,8 +10,8 @@ use Rattle.std.proofs.Common.{eq-eqb}
 use Rattle.std.proofs.lemmas.Bool.Decides.{eqb_tells}
 use Rattle.std.proofs.lemmas.List.Folds.{list_all-append}
 use Rattle.events.specs.Limits.{call_limit}
-use Rattle.logs.proofs.SortLemmas.{rises}
-use Rattle.logs.proofs.MergeLemmas.{by_stamp-rising, filter-by_stamp, all-by_stamp, sum-by_stamp}
+use Rattle.events.proofs.SortLemmas.{rises}
+use Rattle.events.proofs.MergeLemmas.{by_stamp-rising, filter-by_stamp, all-by_stamp, sum-by_stamp}
 use Rattle.recorder.proofs.RecordLemmas.{no-events}
 use Rattle.recorder.proofs.PassLemmas.{draws-are}
 

@@ -6,7 +6,7 @@ use Rattle.events.specs.declared.event.Reply.{Reply}
 use Rattle.events.specs.Limits.{pair_limit}
 use Rattle.events.specs.Histories.{call_count, pair_count}
 use Rattle.events.specs.HistoryFaults.{has_open_call}
-use Rattle.logs.specs.Logs.{Stamped}
+use Rattle.events.specs.Logs.{Stamped}
 use Rattle.tickets.specs.declared.hand.Hand.{Hand}
 use Rattle.tickets.specs.Hands.{counter_of, share_of}
 use Rattle.recorder.specs.declared.fault.RecorderFault.{RecorderFault}

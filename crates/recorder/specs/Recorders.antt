@@ -3,7 +3,7 @@ use Rattle.std.specs.Prelude.{◌≡◌, ℕ, ◌<◌, List, map, flat_map, sum_
 use Rattle.atomic_table.specs.Seated.{TableId}
 use Rattle.events.specs.declared.event.Event.{Event}
 use Rattle.events.specs.Events.{events_of}
-use Rattle.logs.specs.Logs.{history_of_logs}
+use Rattle.events.specs.Logs.{history_of_logs}
 use Rattle.tickets.specs.Hands.{counter, quota_of}
 use Rattle.recorder.specs.declared.pass.Pass.{Pass}
 use Rattle.recorder.specs.declared.recorders.Recorder.{Recorder}

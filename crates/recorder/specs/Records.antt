@@ -5,7 +5,7 @@ use Rattle.events.specs.Events.{process_of}
 use Rattle.events.specs.Limits.{process_limit, call_limit}
 use Rattle.events.specs.Histories.{call_count, AreHistoryEvents}
 use Rattle.events.specs.HistoryFaults.{has_open_call}
-use Rattle.logs.specs.Logs.{Stamped}
+use Rattle.events.specs.Logs.{Stamped}
 
 -- the events without their stamps
 abbrev pub events_in : List Stamped → List Event

@@ -11,8 +11,7 @@ ghost use Rattle.recorder.specs.Closing.{IsHandedBack, IsOneOfEach, WantsMemory}
 use crate::fault::CloseFault;
 use crate::pass::Pass;
 use crate::recorders::Recorder;
-use events::{Event, History, Memory};
-use logs::{append_log, history_by_stamp};
+use events::{Event, History, Memory, append_log, history_by_stamp};
 use std::alloc::Global;
 use tickets::{Hand, Tickets};
 

@@ -2,7 +2,7 @@
 use crate::shapes::eights;
 use art::Variant;
 use art_core::Item;
-use art_steps::Access;
+use art_rows::Access;
 use machine::{Machine, MachineFault, NextStep, RunFault};
 use plan_text::read_plan;
 use std::alloc::{AllocError, Global};

@@ -5,7 +5,7 @@ use Rattle.replays.proofs.Common.{OptimisticIsLinearizable, Plan, State, idle, o
 use Rattle.replays.proofs.Common.{one-step, run-on-append, ReplayView, IsReplay, plan_in, Records}
 use Rattle.std.proofs.Common.{Option, Some, None}
 use Rattle.orders.specs.Orders.{IsLinearizableHistory}
-use Rattle.art_steps.specs.declared.variant.Variant.TheVariants.{Coupled, Optimistic}
+use Rattle.art_rows.specs.declared.variant.Variant.TheVariants.{Coupled, Optimistic}
 use Rattle.art_core.specs.NamedTurns.{process_of_item, AreMadeWhole}
 
 -- each turn is one step

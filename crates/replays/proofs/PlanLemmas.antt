@@ -3,7 +3,7 @@ use Rattle.replays.proofs.Common.{◌≡◌, ℕ, List, length, arith, ◌∙◌
 use Rattle.events.specs.declared.event.Call.{Call}
 use Rattle.art_rows.specs.Table.{IsWithinLimits}
 use Rattle.art_rows.specs.declared.table.Shape.{Shape}
-use Rattle.art_steps.specs.declared.variant.Variant.{Variant}
+use Rattle.art_rows.specs.declared.variant.Variant.{Variant}
 use Rattle.plans.specs.Plans.{AreScripts}
 use Rattle.replays.specs.Turns.{HasTurns}
 

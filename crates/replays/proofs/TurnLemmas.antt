@@ -2,7 +2,7 @@
 use Rattle.replays.proofs.Common.{◌∙◌, ◌≡◌, ◌<◌, ℕ, List, [], ◌∷◌, ◌++◌, ap, refl, arith, IsSomeAnd, IsSome, Option, Some, None, is_some, slice_get}
 use Rattle.replays.proofs.Common.{slice_get_within, Process, Plan, State, step, next_move, Gives, run_on, run-on-append, Machine, Shows, HasMove}
 use Rattle.replays.proofs.Common.{IsRefusedIn, MachineFault}
-use Rattle.list_laws.proofs.NumberLemmas.{some_at}
+use Rattle.events.proofs.NumberLemmas.{some_at}
 use Rattle.plans.specs.declared.fault.MachineFault.TheVariants as faults
 
 -- turns that a machine has made, from the first state on

@@ -1,7 +1,7 @@
 -- What it means that no process goes on.
 use Rattle.std.specs.Prelude.{ℕ, IsTrue, List, slice_get, slice_index}
 use Rattle.art_rows.specs.Words.{is_locked}
-use Rattle.art_steps.specs.declared.access.Access.TheVariants.{Load}
+use Rattle.art_rows.specs.declared.access.Access.TheVariants.{Load}
 use Rattle.art_core.specs.Core.{Plan, State}
 use Rattle.machine.specs.declared.next_steps.NextStep.{NextStep}
 use Rattle.machine.specs.declared.next_steps.NextStep.TheVariants.{Nothing, Stamp, Access}

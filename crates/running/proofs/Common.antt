@@ -27,12 +27,12 @@ pub use Rattle.art_core.specs.Plans.{IsPlan, IsRun}
 pub use Rattle.art_core.specs.Runs.{Gives, HasFewSteps, run_on}
 pub use Rattle.art_core.specs.declared.process.Process.{Process}
 pub use Rattle.art_rows.specs.Table.{opening, table_words}
-unfoldable pub use Rattle.art_steps.specs.Act.{act}
-pub use Rattle.art_steps.specs.Fits.{Fits, word_of}
-pub use Rattle.art_steps.specs.Steps.{Answers, Asks, Rest, Turn, access_of, reply_of}
-pub use Rattle.art_steps.specs.TreeCalls.{is_tree_call}
-pub use Rattle.art_steps.specs.declared.access.Access.{Access}
-pub use Rattle.art_steps.specs.declared.access.Access.TheVariants.{Add, Exchange, Load, Store}
+unfoldable pub use Rattle.art_rows.specs.Act.{act}
+pub use Rattle.art_rows.specs.Fits.{Fits, word_of}
+pub use Rattle.art_rows.specs.Steps.{Answers, Asks, Rest, Turn, access_of, reply_of}
+pub use Rattle.art_rows.specs.TreeCalls.{is_tree_call}
+pub use Rattle.art_rows.specs.declared.access.Access.{Access}
+pub use Rattle.art_rows.specs.declared.access.Access.TheVariants.{Add, Exchange, Load, Store}
 pub use Rattle.atomic_table.proofs.Lists.{at_set, at_snoc, exchanged}
 pub use Rattle.atomic_table.specs.Table.{Allows, Joins, Seen, Splits, Step, keeps, step, stepped}
 pub use Rattle.events.specs.Histories.{AreHistoryEvents}
@@ -40,8 +40,8 @@ pub use Rattle.events.specs.HistoryView.{HistoryView, with_no_start}
 pub use Rattle.events.specs.declared.event.Call.{Call}
 pub use Rattle.events.specs.declared.event.Event.TheVariants.{Answer, Invoke}
 pub use Rattle.events.specs.declared.event.Reply.{Reply}
-pub use Rattle.list_laws.proofs.Lists.{All-at, AllPairs-head, AllPairs-nil, AllPairs-tail}
-pub use Rattle.logs.specs.Logs.{Stamped, events_by_stamp, history_of_logs}
+pub use Rattle.events.proofs.Lists.{All-at, AllPairs-head, AllPairs-nil, AllPairs-tail}
+pub use Rattle.events.specs.Logs.{Stamped, events_by_stamp, history_of_logs}
 pub use Rattle.running.specs.Ends.{Ended, HasOwnEvents, Looks, plan_of, state_of}
 pub use Rattle.running.specs.Fitting.{Fit, FitsProcess, IsBeside, IsFirst, Run, others_of}
 pub use Rattle.running.specs.Groups.{IsGroupOf, opened_for, shows}

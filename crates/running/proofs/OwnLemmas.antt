@@ -9,7 +9,7 @@ use Rattle.running.proofs.Common.{no-logs, all-idle, opening-length, start-clock
 use Rattle.running.proofs.Common.{HasOwnEvents}
 use Rattle.events.specs.declared.event.Event.{Event}
 use Rattle.events.specs.Events.{process_of, events_of}
-use Rattle.logs.proofs.GrowthLemmas.{AreBelow, AreBelow-append, history-push}
+use Rattle.events.proofs.GrowthLemmas.{AreBelow, AreBelow-append, history-push}
 use Rattle.art_core.specs.Core.{step}
 use Rattle.running.proofs.SharedStepLemmas.{all-has}
 

@@ -10,7 +10,7 @@ use Rattle.running.proofs.Common.{kept_part, given_part, both_parts, no_part}
 use mathlib.Core.Option.{some, some-injective}
 use lib.ListN.{get_elem?}
 use prog.Atomic.{either}
-use Rattle.art_steps.proofs.AccessLemmas.{act-stays}
+use Rattle.art_rows.proofs.AccessLemmas.{act-stays}
 use Rattle.running.proofs.GivenLemmas.{MayBegin, given-move, given-clocked}
 use Rattle.running.proofs.ReachedLemmas.{reached-noted, reached-split, reached-join, reached-step, first-there}
 

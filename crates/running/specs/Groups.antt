@@ -1,7 +1,7 @@
 -- What a clause can say of an arena and a group.
 use Rattle.std.specs.Prelude.{◌≡◌, ℕ, ◌<◌, ◌≤◌, vec_len, vec_capacity}
 use Rattle.art_rows.specs.declared.table.Shape.{Shape}
-use Rattle.art_steps.specs.declared.variant.Variant.{Variant}
+use Rattle.art_rows.specs.declared.variant.Variant.{Variant}
 use Rattle.running.specs.declared.view.Setup.{Setup}
 use Rattle.running.specs.declared.view.View.{View}
 use Rattle.running.specs.Places.{setup_of, shown, IsPlaceOf}

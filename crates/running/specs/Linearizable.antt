@@ -2,7 +2,7 @@
 use Rattle.std.specs.Prelude.{◌≡◌, ◌⊎◌, ℕ, List}
 use Rattle.events.specs.HistoryView.{HistoryView}
 use Rattle.orders.specs.Orders.{IsLinearizableHistory}
-use Rattle.art_steps.specs.declared.variant.Variant.TheVariants.{Coupled, Optimistic}
+use Rattle.art_rows.specs.declared.variant.Variant.TheVariants.{Coupled, Optimistic}
 use Rattle.art_core.specs.Runs.{HasFewSteps}
 use Rattle.running.specs.declared.view.Setup.{Setup}
 use Rattle.running.specs.declared.view.View.{View}

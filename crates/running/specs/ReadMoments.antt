@@ -1,7 +1,7 @@
 -- When the reads of threads have their moments.
 use Rattle.std.specs.Prelude.{◌≡◌, ℕ, List}
 use Rattle.art_rows.specs.Table.{opening}
-use Rattle.art_steps.specs.declared.variant.Variant.TheVariants.{Optimistic}
+use Rattle.art_rows.specs.declared.variant.Variant.TheVariants.{Optimistic}
 use Rattle.art_core.specs.Core.{Plan, opened}
 use Rattle.art_core.specs.Runs.{Gives, HasFewSteps}
 use Rattle.art_schedules.specs.moments.Reads.{AnsweredScansHaveMoments, AnsweredGetsHaveMoments}

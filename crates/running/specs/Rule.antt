@@ -7,8 +7,8 @@ use lib.ListN.{get_elem?}
 use Rattle.atomic_table.specs.Table.{State as Table, Me, Step}
 use Rattle.events.specs.declared.event.Call.{Call}
 use Rattle.art_rows.specs.Table.{table_words}
-use Rattle.art_steps.specs.TreeCalls.{is_tree_call}
-use Rattle.art_steps.specs.declared.variant.Variant.TheVariants.{Coupled}
+use Rattle.art_rows.specs.TreeCalls.{is_tree_call}
+use Rattle.art_rows.specs.declared.variant.Variant.TheVariants.{Coupled}
 use Rattle.art_core.specs.declared.process.Process.{Process}
 use Rattle.art_core.specs.Core.{begun, opened}
 use Rattle.art_core.specs.Runs.{Gives}

@@ -3,7 +3,7 @@ use Rattle.std.specs.Prelude.{◌≡◌, ℕ, zero, suc, ◌<◌, Bool, is_some,
 use Rattle.events.specs.declared.event.Call.{Call}
 use Rattle.events.specs.declared.event.Reply.{Reply}
 use Rattle.events.specs.declared.event.Event.TheVariants.{Answer}
-use Rattle.logs.specs.Logs.{Stamped}
+use Rattle.events.specs.Logs.{Stamped}
 use Rattle.art_core.specs.declared.process.Process.{Process}
 use Rattle.running.specs.declared.view.View.{View}
 use Rattle.running.specs.Views.{Numbered, next_of, advanced, invoking, AllStamps}

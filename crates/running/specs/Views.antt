@@ -4,8 +4,8 @@ use Rattle.std.specs.Prelude.{take, drop, All, AllPairs, Option, Some, None}
 use Rattle.std.specs.List.{range_with_len}
 use Rattle.events.specs.declared.event.Call.{Call}
 use Rattle.events.specs.declared.event.Reply.{Reply}
-use Rattle.logs.specs.Logs.{Stamped}
-use Rattle.art_steps.specs.Act.{act}
+use Rattle.events.specs.Logs.{Stamped}
+use Rattle.art_rows.specs.Act.{act}
 use Rattle.art_core.specs.declared.process.Process.{Process}
 use Rattle.art_core.specs.Core.{Move, Invokes, Responds, begun, idle, move_of, after_move}
 use Rattle.running.specs.declared.view.Setup.{Setup}

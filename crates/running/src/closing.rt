@@ -14,8 +14,7 @@ use art_schedules::{
     answered_gets_have_moments, answered_scans_have_moments, coupled_is_linearizable,
     optimistic_is_linearizable,
 };
-use events::{Event, History, Memory};
-use logs::{append_log, history_by_stamp};
+use events::{Event, History, Memory, append_log, history_by_stamp};
 use std::alloc::Global;
 
 impl Arena {

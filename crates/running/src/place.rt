@@ -3,7 +3,7 @@ ghost use Rattle.std.specs.Prelude.{◌≡◌, []};
 ghost use Rattle.running.specs.Views.{NumbersRise};
 
 use crate::view::Noted;
-use art_steps::TreeCall;
+use art_rows::TreeCall;
 use atomic_table::Seat;
 
 /// Some processes of a [`SharedCore`](crate::shared_core::SharedCore), for one thread at a time. It takes no

@@ -1,6 +1,6 @@
 // The rule of the words, and what each atomic step shows. All of it is only for the proofs.
 use crate::view::{Noted, Setup};
-use art_steps::TreeCall;
+use art_rows::TreeCall;
 use atomic_table::{Join, Play, Split, TableRule};
 
 /// The rule: some schedule of the core gives the words, and what the places show.

@@ -6,7 +6,7 @@ ghost use Rattle.running.specs.Setups.{IsSetup};
 use crate::place::Place;
 use crate::rule::{Go, Invoke, Look, Note, Part, Respond, Scheduled};
 use crate::view::{Noted, Setup};
-use art_steps::{Access, TreeCall};
+use art_rows::{Access, TreeCall};
 use atomic_table::Table;
 use events::Memory;
 use std::alloc::Global;

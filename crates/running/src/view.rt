@@ -1,7 +1,6 @@
 // What a place shows. No value of a view is made.
 use art_core::Process;
-use art_rows::Shape;
-use art_steps::{TreeCall, Variant};
+use art_rows::{Shape, TreeCall, Variant};
 use std::collections::LinkedList;
 
 /// What a core is opened for.

@@ -17,30 +17,30 @@ pub use Rattle.std.specs.List.{range_with_len}
 pub use Rattle.std.specs.List.Sorted.{IsStrictlyIncreasing}
 pub use Rattle.std.specs.Prelude.{All, AllPairs, Contains, IfOk, IsTrue, OnOk, filter, if◌then◌else◌, is_some, map, min, slice_get, slice_index}
 pub use Rattle.std.specs.Prelude.{vec_len, ◌↔◌, ◌≢◌, ◌⊎◌}
-pub use Rattle.configurations.proofs.ConfigurationLemmas.{LeadsTo-exists, LeadsTo-nil, LeadsTo-push, configuration_of, configuration_unique}
-pub use Rattle.configurations.proofs.FrontLemmas.{IsFront-from_order, IsFront-front, IsFront-next, IsFront-nil, IsFront-push, IsNext}
-pub use Rattle.configurations.proofs.FrontLemmas.{IsNext-from_front, IsOrder-from_front, length-front_le}
-pub use Rattle.configurations.specs.Configurations.{Configuration, IsReachable, LeadsTo}
-pub use Rattle.configurations.specs.Counts.{AreDistinct, ReachesMoreThan}
-pub use Rattle.configurations.specs.Fronts.{IsFront, PrecedesAt}
+pub use Rattle.memo.proofs.ConfigurationLemmas.{LeadsTo-exists, LeadsTo-nil, LeadsTo-push, configuration_of, configuration_unique}
+pub use Rattle.memo.proofs.FrontLemmas.{IsFront-from_order, IsFront-front, IsFront-next, IsFront-nil, IsFront-push, IsNext}
+pub use Rattle.memo.proofs.FrontLemmas.{IsNext-from_front, IsOrder-from_front, length-front_le}
+pub use Rattle.memo.specs.Configurations.{Configuration, IsReachable, LeadsTo}
+pub use Rattle.memo.specs.Counts.{AreDistinct, ReachesMoreThan}
+pub use Rattle.memo.specs.Fronts.{IsFront, PrecedesAt}
 pub use Rattle.events.specs.Precedence.{NonePrecedesItself, is_before, is_completed, precedes}
 pub use Rattle.events.specs.declared.event.Call.{Call}
 pub use Rattle.events.specs.declared.operation.Operation.{Operation}
 pub use Rattle.events.specs.declared.operation.Response.{Response}
-pub use Rattle.list_laws.proofs.Lists.{All-back, All-from_contains, All-front, AllPairs-across, AllPairs-append, AllPairs-at, AllPairs-back}
-pub use Rattle.list_laws.proofs.Lists.{AllPairs-front, AllPairs-head, AllPairs-nil, AllPairs-tail, Contains-at, Contains-cases, Contains-filter}
-pub use Rattle.list_laws.proofs.Lists.{Contains-first, Contains-from_filter, Contains-later, Contains-nil, Contains-range, Contains-split, filter_all}
-pub use Rattle.list_laws.proofs.Lists.{length-distinct, place-push, slice_get-append_left, slice_get-middle}
-pub use Rattle.list_laws.proofs.NumberLemmas.{has_number-Contains, has_number-from_Contains, slice_get-below}
-pub use Rattle.list_laws.proofs.RisingLemmas.{IsStrictlyIncreasing-range}
-pub use Rattle.list_laws.specs.Lists.{has_number}
+pub use Rattle.events.proofs.Lists.{All-back, All-from_contains, All-front, AllPairs-across, AllPairs-append, AllPairs-at, AllPairs-back}
+pub use Rattle.events.proofs.Lists.{AllPairs-front, AllPairs-head, AllPairs-nil, AllPairs-tail, Contains-at, Contains-cases, Contains-filter}
+pub use Rattle.events.proofs.Lists.{Contains-first, Contains-from_filter, Contains-later, Contains-nil, Contains-range, Contains-split, filter_all}
+pub use Rattle.events.proofs.Lists.{length-distinct, place-push, slice_get-append_left, slice_get-middle}
+pub use Rattle.events.proofs.NumberLemmas.{has_number-Contains, has_number-from_Contains, slice_get-below}
+pub use Rattle.events.proofs.RisingLemmas.{IsStrictlyIncreasing-range}
+pub use Rattle.events.specs.Lists.{has_number}
 pub use Rattle.map_object.specs.MapObject.{Contents, IsLegalReply, IsRising, TellsOf, above, after, below, is_just, is_value, misses, put, reply_to}
 pub use Rattle.map_object.specs.MapObject.{value_at}
 pub use Rattle.memo.specs.Equality.{Decides-is_same, is_same}
 pub use Rattle.orders.proofs.OrderLemmas.{IsCompletedAt-below, after_calls-append, after_calls-push, calls_at-append}
 pub use Rattle.orders.specs.Orders.{IsCompletedAt, IsLegalCall, IsLinearizable, IsOrder, after_call, after_calls, calls_at}
-pub use Rattle.segments.specs.SegmentOrders.{numbers_at}
-pub use Rattle.segments.specs.SegmentView.{SegmentView}
+pub use Rattle.orders.specs.SegmentOrders.{numbers_at}
+pub use Rattle.orders.specs.SegmentView.{SegmentView}
 pub use Rattle.search.specs.Cursor.{ComesBefore, IsBehind, StandsAtCursor, cursor}
 pub use Rattle.search.specs.Exact.{AreSameAnswer, IsExactAnswer, IsLeastWholeFront}
 pub use Rattle.search.specs.LeastCounts.{CountIsAbove, CountIsWithin, HasCount, IsCounted}

@@ -8,7 +8,7 @@ use Rattle.search.proofs.Common.{Contains-later, Contains-nil, Contains-cases, C
 use Rattle.search.proofs.Common.{filter_all, All-from_contains, IsStrictlyIncreasing-range, range_with_len, AllPairs-cons, AllPairs-filter}
 use Rattle.search.proofs.Common.{AllPairs-from_increasing, has_number-Contains, has_number-from_Contains, LinksView, AreWithin, unlinked, put_back}
 use Rattle.search.proofs.Common.{linked_last, IsChain, without, AreLeft}
-use Rattle.list_laws.proofs.FilterLemmas.{filter_implied}
+use Rattle.events.proofs.FilterLemmas.{filter_implied}
 use Rattle.std.proofs.lemmas.List.FromFn.{length-range_with_len, get_or-range_with_len}
 
 -- the numbers of a range are below its end

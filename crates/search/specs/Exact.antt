@@ -5,9 +5,9 @@ use Rattle.events.specs.declared.operation.Operation.{Operation}
 use Rattle.events.specs.Precedence.{NonePrecedesItself}
 use Rattle.map_object.specs.MapObject.{Contents}
 use Rattle.orders.specs.Orders.{IsCompletedAt, IsLinearizable}
-use Rattle.configurations.specs.Fronts.{IsFront}
-use Rattle.segments.specs.SegmentView.{SegmentView}
-use Rattle.segments.specs.SegmentOrders.{numbers_at, HasNoOrder}
+use Rattle.memo.specs.Fronts.{IsFront}
+use Rattle.orders.specs.SegmentView.{SegmentView}
+use Rattle.orders.specs.SegmentOrders.{numbers_at, HasNoOrder}
 use Rattle.search.specs.LeastOrder.{is_at_or_before, IsLeastOrder}
 use Rattle.search.specs.LeastCounts.{HasCount, CountIsWithin, CountIsAbove}
 use Rattle.search.specs.declared.found.Found.{Found}

@@ -3,10 +3,10 @@ use Rattle.std.specs.Prelude.{◌≡◌, ◌↔◌, ℕ, ◌<◌, ◌≤◌, IsT
 use Rattle.events.specs.declared.operation.Operation.{Operation}
 use Rattle.map_object.specs.MapObject.{Contents}
 use Rattle.orders.specs.Orders.{IsOrder}
-use Rattle.configurations.specs.Fronts.{IsFront}
-use Rattle.configurations.specs.Configurations.{Configuration, LeadsTo}
+use Rattle.memo.specs.Fronts.{IsFront}
+use Rattle.memo.specs.Configurations.{Configuration, LeadsTo}
 use Rattle.search.specs.LeastOrder.{is_at_or_before}
-use Rattle.configurations.specs.Counts.{AreDistinct}
+use Rattle.memo.specs.Counts.{AreDistinct}
 
 -- a configuration that counts: a front at or before the least order leads there; if there is no
 -- order, any front

@@ -1,6 +1,6 @@
 -- A list of nodes by the links between them.
 use Rattle.std.specs.Prelude.{◌≡◌, ℕ, ◌+◌, ◌<◌, List, [], ◌∷◌, length, slice_index, slice_set, not, filter, All, replicate}
-use Rattle.list_laws.specs.Lists.{has_number}
+use Rattle.events.specs.Lists.{has_number}
 
 -- the node after each node, and the one before it
 pub record LinksView : Type 0 where

@@ -2,11 +2,11 @@
 use Rattle.std.specs.Prelude.{◌≡◌, ℕ, ◌+◌, ◌≤◌, IsTrue, List, length, min, All, Contains}
 use Rattle.events.specs.declared.operation.Operation.{Operation}
 use Rattle.map_object.specs.MapObject.{Contents}
-use Rattle.configurations.specs.Fronts.{IsFront}
-use Rattle.configurations.specs.Configurations.{Configuration, LeadsTo}
-use Rattle.configurations.specs.Counts.{AreDistinct}
-use Rattle.segments.specs.SegmentView.{SegmentView}
-use Rattle.segments.specs.SegmentOrders.{numbers_at}
+use Rattle.memo.specs.Fronts.{IsFront}
+use Rattle.memo.specs.Configurations.{Configuration, LeadsTo}
+use Rattle.memo.specs.Counts.{AreDistinct}
+use Rattle.orders.specs.SegmentView.{SegmentView}
+use Rattle.orders.specs.SegmentOrders.{numbers_at}
 use Rattle.events.specs.Precedence.{NonePrecedesItself}
 use Rattle.search.specs.LeastCounts.{IsCounted, HasCount}
 use Rattle.search.specs.LeastOrder.{is_at_or_before}

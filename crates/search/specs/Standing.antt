@@ -8,8 +8,8 @@ use Rattle.events.specs.declared.operation.Operation.{Operation}
 use Rattle.events.specs.Precedence.{is_before}
 use Rattle.map_object.specs.MapObject.{Contents}
 use Rattle.orders.specs.Orders.{calls_at, after_calls, IsOrder, IsLinearizable}
-use Rattle.configurations.specs.Fronts.{PrecedesAt}
-use Rattle.configurations.specs.Configurations.{Configuration, LeadsTo}
+use Rattle.memo.specs.Fronts.{PrecedesAt}
+use Rattle.memo.specs.Configurations.{Configuration, LeadsTo}
 use Rattle.search.specs.LeastCounts.{HasCount}
 use Rattle.search.specs.declared.standing.Level.{Level}
 use Rattle.search.specs.declared.standing.Standing.{Standing}

@@ -1,7 +1,7 @@
 -- A search turn by turn, as its callers see it.
 use Rattle.std.specs.Prelude.{◌≡◌, ℕ, ◌+◌, ◌-◌, ◌*◌, ◌<◌, ◌≤◌, List, length, min}
-use Rattle.configurations.specs.Configurations.{Configuration}
-use Rattle.segments.specs.SegmentView.{SegmentView}
+use Rattle.memo.specs.Configurations.{Configuration}
+use Rattle.orders.specs.SegmentView.{SegmentView}
 use Rattle.search.specs.LeastCounts.{HasCount}
 use Rattle.search.specs.declared.standing.Level.{Level}
 use Rattle.search.specs.declared.standing.Standing.{Standing}

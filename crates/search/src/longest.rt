@@ -7,7 +7,7 @@ ghost use Rattle.search.specs.Limits.{budget_limit};
 use crate::standing::Standing;
 use crate::walk::{begin, make_turn, order_of};
 use events::Memory;
-use segments::Segment;
+use orders::Segment;
 use std::alloc::Global;
 
 /// Returns the longest front of a segment that a search of it meets, by the numbers of its calls.

@@ -12,7 +12,7 @@ use crate::found::Found;
 use crate::standing::{Progress, Standing, make_step, open_standing};
 use events::Memory;
 use map_object::SortedMap;
-use segments::Segment;
+use orders::Segment;
 use std::alloc::Global;
 use std::marker::Model;
 

@@ -24,12 +24,12 @@ pub use Rattle.events.specs.declared.event.Event.TheVariants.{Answer, Invoke}
 pub use Rattle.events.specs.declared.event.Reply.{Reply}
 pub use Rattle.events.specs.declared.operation.Operation.{Operation}
 pub use Rattle.events.specs.declared.operation.Response.{Response}
-pub use Rattle.list_laws.proofs.FilterLemmas.{AllPairs-map, AllPairs-weaker, Contains-from_map}
-pub use Rattle.list_laws.proofs.Lists.{All-back, All-from_contains, All-front, AllPairs-across, AllPairs-append, AllPairs-at, AllPairs-back}
-pub use Rattle.list_laws.proofs.Lists.{AllPairs-front, AllPairs-head, AllPairs-tail, Contains-around, Contains-at, Contains-cases, Contains-first}
-pub use Rattle.list_laws.proofs.Lists.{Contains-later, Contains-nil, Contains-take, length-distinct_below, place-push, place_before-Contains}
-pub use Rattle.list_laws.proofs.Lists.{place_of-Contains, slice_get-append_left, slice_get-middle}
-pub use Rattle.list_laws.proofs.NumberLemmas.{greatest_bound, greatest_is, greatest_more, slice_get-below, some_at}
+pub use Rattle.events.proofs.FilterLemmas.{AllPairs-map, AllPairs-weaker, Contains-from_map}
+pub use Rattle.events.proofs.Lists.{All-back, All-from_contains, All-front, AllPairs-across, AllPairs-append, AllPairs-at, AllPairs-back}
+pub use Rattle.events.proofs.Lists.{AllPairs-front, AllPairs-head, AllPairs-tail, Contains-around, Contains-at, Contains-cases, Contains-first}
+pub use Rattle.events.proofs.Lists.{Contains-later, Contains-nil, Contains-take, length-distinct_below, place-push, place_before-Contains}
+pub use Rattle.events.proofs.Lists.{place_of-Contains, slice_get-append_left, slice_get-middle}
+pub use Rattle.events.proofs.NumberLemmas.{greatest_bound, greatest_is, greatest_more, slice_get-below, some_at}
 pub use Rattle.quiet_cuts.proofs.ContinueLemmas.{completed_at, invoked_before, invoked_from}
 pub use Rattle.quiet_cuts.proofs.EventLemmas.{operations-answer, operations-invoke}
 pub use Rattle.quiet_cuts.specs.Groups.{AreAlike, PlacesDoNotMatter, reply_in}

@@ -3,7 +3,7 @@ use Rattle.small_histories.proofs.Common.{◌≡◌, ℕ, ◌+◌, ◌<◌, ◌�
 use Rattle.small_histories.proofs.Common.{◌∙◌, subst, arith, Contains, IsSomeAnd, slice_get, none-some, same_Some, slice_get-get_or, Event, Invoke}
 use Rattle.small_histories.proofs.Common.{Answer, Reply, Operation, Contains-at, greatest_more, some_at, place_in, reply_at, begun_of, NoneEndsBefore}
 use Rattle.small_histories.proofs.Common.{MayFollow, IsFirstAmong, AreSeatedAs, NoEventsHave, Seat}
-use Rattle.list_laws.proofs.Places.{parts_at}
+use Rattle.events.proofs.Places.{parts_at}
 use Rattle.small_histories.proofs.BeginLemmas.{begun_seated}
 use Rattle.small_histories.proofs.EndLemmas.{ended_seated}
 use Rattle.small_histories.proofs.OtherLemmas.{may_follow, no_process}

@@ -14,7 +14,7 @@ use Rattle.events.specs.HistoryFaults.{has_open_call}
 use Rattle.events.specs.Limits.{process_limit}
 use Rattle.events.specs.Operations.{operations}
 use Rattle.events.specs.Precedence.{precedes}
-use Rattle.list_laws.specs.Lists.{greatest}
+use Rattle.events.specs.Lists.{greatest}
 use Rattle.quiet_cuts.specs.Groups.{AreAlike, reply_in}
 use Rattle.small_histories.specs.declared.seats.Seat.{Seat}
 use Rattle.small_histories.specs.declared.seats.Seats.{Seats}

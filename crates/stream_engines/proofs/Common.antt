@@ -19,9 +19,9 @@ pub use Rattle.history_text.proofs.WrittenLemmas.{has_float-event}
 pub use Rattle.history_text.specs.Texts.{call_data, event_data, number_data, pair_data, reply_data}
 pub use Rattle.history_text.specs.declared.version.TextVersion.{TextVersion}
 pub use Rattle.history_text.specs.declared.version.TextVersion.TheVariants.{One, Three, Two}
-pub use Rattle.losses.specs.OwnParts.{OwnPart, part_of}
-pub use Rattle.losses.specs.declared.loss.Loss.{Loss}
-pub use Rattle.losses.specs.declared.lost_keys.KeyLoss.{KeyLoss}
+pub use Rattle.monitor.specs.OwnParts.{OwnPart, part_of}
+pub use Rattle.monitor.specs.declared.loss.Loss.{Loss}
+pub use Rattle.monitor.specs.declared.lost_keys.KeyLoss.{KeyLoss}
 pub use Rattle.map_object.specs.MapObject.{Contents}
 pub use Rattle.monitor.specs.Faults.{event_limit, invocation_fault, shown}
 pub use Rattle.monitor.specs.Following.{IsFollowing}

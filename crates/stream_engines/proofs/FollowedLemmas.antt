@@ -6,7 +6,7 @@ use Rattle.stream_engines.proofs.Common.{Answer, HistoryView, with_event, Spells
 use Rattle.stream_engines.proofs.Common.{Followed, FollowsStream, IsFollowed, SpellStream, TextVersion}
 use Rattle.events.specs.HistoryFaults.{has_open_call}
 use Rattle.events.specs.Keys.{low_key, high_key}
-use Rattle.answer_hints.proofs.OverlapLemmas.{pending-room, overlap-room, pending-kept, overlap-kept}
+use Rattle.outcomes.proofs.OverlapLemmas.{pending-room, overlap-room, pending-kept, overlap-kept}
 use Rattle.monitor.specs.MonitorView.{MonitorView}
 use Rattle.stream_engines.proofs.StreamLemmas.{SpellStream-push}
 

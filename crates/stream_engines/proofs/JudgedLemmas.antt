@@ -6,8 +6,8 @@ use Rattle.stream_engines.proofs.Common.{IsLostOutcome, IsSpentOutcome, IsWholeA
 use Rattle.stream_engines.proofs.Common.{IsFollowAnswer, IsStreamOutcome}
 use Rattle.events.specs.Operations.{operations}
 use Rattle.outcomes.specs.declared.outcome.Answer.TheVariants.{Yes, No, Undecided}
-use Rattle.answer_hints.specs.Overlaps.{overlap_of}
-use Rattle.answer_hints.specs.Hints.{yes_hint}
+use Rattle.outcomes.specs.Overlaps.{overlap_of}
+use Rattle.outcomes.specs.Hints.{yes_hint}
 use Rattle.stream_engines.proofs.RefusalLemmas.{next_of}
 use Rattle.outcomes.specs.declared.outcome.Answer as answers
 

@@ -3,7 +3,7 @@ use Rattle.stream_engines.proofs.Common.{◌≡◌, ℕ, List, [], ◌∷◌, le
 use Rattle.stream_engines.proofs.Common.{Reply, Contents, IsLinearizable, IsDead, pasts_of, Loss, OwnPart, part_of, IsLost}
 use Rattle.part_cuts.specs.PartCuts.{kept_of}
 use Rattle.part_cuts.specs.declared.past.Past.{Past}
-use Rattle.losses.specs.declared.puts.Put.{Put}
+use Rattle.monitor.specs.declared.puts.Put.{Put}
 use Rattle.monitor.specs.Calls.{MayReply}
 
 abbrev pub IsRefuted : OwnPart → Type 0

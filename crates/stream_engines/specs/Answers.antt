@@ -16,17 +16,17 @@ use Rattle.small_histories.specs.SmallHistories.{AreOfNoHistory, IsSmallHistory,
 use Rattle.stream_text.specs.Cuts.{lines_of}
 use Rattle.stream_text.specs.Lines.{SpellsEvent}
 use Rattle.parts.specs.Keeping.{pasts_of}
-use Rattle.losses.specs.declared.lost_keys.KeyLoss.{KeyLoss}
-use Rattle.losses.specs.declared.loss.Loss.{Loss}
-use Rattle.losses.specs.KeyLosses.{AreKeyLosses}
-use Rattle.losses.specs.OwnParts.{own_part}
+use Rattle.monitor.specs.declared.lost_keys.KeyLoss.{KeyLoss}
+use Rattle.monitor.specs.declared.loss.Loss.{Loss}
+use Rattle.monitor.specs.KeyLosses.{AreKeyLosses}
+use Rattle.monitor.specs.OwnParts.{own_part}
 use Rattle.monitor.specs.Outcomes.{IsLost, IsSpent}
 use Rattle.outcomes.specs.declared.outcome.Answer as outcomes
 use Rattle.outcomes.specs.declared.outcome.Answer.TheVariants as verdicts
 use Rattle.outcomes.specs.Lines.{line}
 use Rattle.stream_engines.specs.StreamTexts.{SpellStream}
-use Rattle.answer_hints.specs.Overlaps.{overlap_of}
-use Rattle.answer_hints.specs.Hints.{yes_hint}
+use Rattle.outcomes.specs.Overlaps.{overlap_of}
+use Rattle.outcomes.specs.Hints.{yes_hint}
 use Rattle.stream_engines.specs.Refusals.{stream_fault_line, StopsFor}
 use Rattle.stream_engines.specs.Reports.{yes_line, lost_data, spent_data}
 

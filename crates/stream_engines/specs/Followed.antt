@@ -4,7 +4,7 @@ use Rattle.events.specs.HistoryView.{HistoryView}
 use Rattle.monitor.specs.Following.{IsFollowing}
 use Rattle.stream_engines.specs.declared.followed.Followed.{Followed}
 use Rattle.stream_engines.specs.StreamTexts.{SpellStream}
-use Rattle.answer_hints.specs.Overlaps.{pending_after, overlap_of}
+use Rattle.outcomes.specs.Overlaps.{pending_after, overlap_of}
 
 -- the monitor follows this stream
 pub record FollowsStream (stream : HistoryView) (f : Followed) : Type 0 where

@@ -3,14 +3,14 @@ use Rattle.stream_text.specs.declared.line_fault.LineFault.TheVariants as lines
 use Rattle.monitor.specs.declared.fault.FollowFault.TheVariants as turns
 use Rattle.std.specs.Prelude.{◌≡◌, ◌≢◌, ℕ, List, ⊤, string_bytes}
 use Rattle.stream_text.specs.declared.line_fault.LineFault.{LineFault}
-use Rattle.losses.specs.declared.loss.Loss.{Loss}
+use Rattle.monitor.specs.declared.loss.Loss.{Loss}
 use Rattle.monitor.specs.declared.fault.FollowFault.{FollowFault}
 use Rattle.outcomes.specs.declared.outcome.Answer.{Answer}
 use Rattle.outcomes.specs.declared.outcome.Answer.TheVariants.{Yes, No, Undecided}
 use Rattle.outcomes.specs.declared.outcome.RunOutcome.{RunOutcome}
 use Rattle.outcomes.specs.declared.outcome.RunOutcome.TheVariants.{Answered, Refused, Memory}
-use Rattle.answer_hints.specs.Hints.{yes_hint}
-use Rattle.answer_hints.specs.Outcomes.{IsHintedBy}
+use Rattle.outcomes.specs.Hints.{yes_hint}
+use Rattle.outcomes.specs.HintedOutcomes.{IsHintedBy}
 use Rattle.stream_engines.specs.Refusals.{line_fault_name, turn_fault_name, too_many_name, stream_fault_line}
 use Rattle.stream_engines.specs.Refusals.{line_fault_hint, turn_fault_hint, too_many_hint, IsHintAfter}
 use Rattle.stream_engines.specs.Reports.{yes_line}

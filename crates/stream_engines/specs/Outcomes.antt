@@ -2,7 +2,7 @@
 use Rattle.std.specs.Prelude.{ℕ, List, Option}
 use Rattle.outcomes.specs.declared.outcome.RunOutcome.{RunOutcome}
 use Rattle.outcomes.specs.Ends.{Change}
-use Rattle.answer_hints.specs.Outcomes.{IsHintedOutcome, IsHintedRead}
+use Rattle.outcomes.specs.HintedOutcomes.{IsHintedOutcome, IsHintedRead}
 use Rattle.stream_engines.specs.Answers.{IsFollowAnswer, IsStreamRefusal}
 
 -- the outcome of a text, if it is known

@@ -2,11 +2,11 @@
 use Rattle.std.specs.Prelude.{ℕ, List, ◌++◌, map, codes, decimal}
 use Rattle.serde_json.specs.Data.{Data, string, object, no_members, member}
 use Rattle.history_text.specs.Texts.{number_data, list_data}
-use Rattle.losses.specs.declared.lost_keys.KeyLoss.{KeyLoss}
-use Rattle.losses.specs.declared.lost_keys.Origin.{Origin}
+use Rattle.monitor.specs.declared.lost_keys.KeyLoss.{KeyLoss}
+use Rattle.monitor.specs.declared.lost_keys.Origin.{Origin}
 use Rattle.small_histories.specs.Values.{value_data}
 use Rattle.outcomes.specs.Lines.{line}
-use Rattle.answer_hints.specs.Averages.{average_text}
+use Rattle.outcomes.specs.Averages.{average_text}
 
 -- all events have an order: how many calls there were, and how many other calls were open at an
 -- invocation, on average, of so many in all

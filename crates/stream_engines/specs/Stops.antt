@@ -4,7 +4,7 @@ use Rattle.std.specs.Prelude.{◌≡◌, ◌≢◌, ℕ, Some}
 use Rattle.events.specs.declared.event.Event.{Event}
 use Rattle.events.specs.declared.event.Event.TheVariants.{Invoke, Answer}
 use Rattle.events.specs.HistoryView.{HistoryView}
-use Rattle.losses.specs.declared.loss.Loss.{Loss}
+use Rattle.monitor.specs.declared.loss.Loss.{Loss}
 use Rattle.monitor.specs.Outcomes.{IsLost, IsSpent}
 use Rattle.stream_engines.specs.Refusals.{turn_fault}
 use Rattle.stream_engines.specs.declared.stops.Stop.{Stop}

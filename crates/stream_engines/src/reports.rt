@@ -1,7 +1,7 @@
 // The lines that answer a stream.
 ghost use Rattle.std.specs.Prelude.{◌≡◌, [], map, All, IfOk, OnOk, MatchOption, codes, string_bytes};
 ghost use Rattle.history_text.specs.Texts.{number_data};
-ghost use Rattle.losses.specs.OwnParts.{own_part};
+ghost use Rattle.monitor.specs.OwnParts.{own_part};
 ghost use Rattle.outcomes.specs.Lines.{line};
 ghost use Rattle.part_pasts.specs.Pasts.{IsDead};
 ghost use Rattle.parts.specs.Keeping.{pasts_of};
@@ -15,10 +15,9 @@ ghost use Rattle.stream_engines.specs.Reports.{yes_line, numbers_data, values_da
 ghost use Rattle.stream_engines.specs.Reports.{lost_data, spent_data};
 
 use crate::small_lines::small_line;
-use answer_hints::{average_text, hinted_yes};
 use events::Memory;
-use losses::{KeyLoss, Loss, Origin, key_losses, own_part};
-use outcomes::{Answer, RunOutcome, line_of};
+use monitor::{KeyLoss, Loss, Origin, key_losses, own_part};
+use outcomes::{Answer, RunOutcome, average_text, hinted_yes, line_of};
 use serde_json::{Map, Value, put};
 use small_histories::value_or_null;
 use std::alloc::{AllocError, Global};

@@ -5,7 +5,7 @@ use Rattle.stream_text.proofs.Common.{take-append-drop, length-take, length-drop
 use Rattle.stream_text.proofs.Common.{get_or-drop, get_or_default, nil_from_length, All-head, All-tail, All-append, take-add, line_feed}
 use Rattle.stream_text.proofs.Common.{HasNoLineFeed, lines_of, TakesLine, Advances, BeginsTooLong, line_limit, TakesFirstLine, GrowsBy}
 use Rattle.std.proofs.lemmas.Bool.Decides.{nat_tests}
-use Rattle.list_laws.proofs.Places.{parts_at}
+use Rattle.events.proofs.Places.{parts_at}
 
 -- ---- lines of bytes
 

@@ -10,7 +10,7 @@ use Rattle.stream_text.proofs.Common.{pairs_spelled, as_event, start_object, Nam
 use Rattle.stream_text.proofs.Common.{ShowsPairFault, IsStartFault, IsFirstFault, IsFirstLineFault, SpellsOneFirst, HasOneFirstFault}
 use Rattle.stream_text.proofs.Common.{FaultySpellsNoFirst, StreamEvent, LineFault}
 use Rattle.std.proofs.lemmas.List.Quantifiers.{all_pairs_push}
-use Rattle.list_laws.proofs.Lists.{AllPairs-across}
+use Rattle.events.proofs.Lists.{AllPairs-across}
 use Rattle.events.proofs.StartLemmas.{is_above-true, is_above-All}
 use Rattle.history_text.specs.declared.version.TextVersion.TheVariants.{One}
 use Rattle.history_text.specs.Versions.{version_number, has_start}

@@ -8,7 +8,7 @@ use Rattle.std.specs.List.{range_with_len, AllByRecursion}
 use Rattle.events.specs.Limits.{process_limit, call_limit}
 use Rattle.rand_pcg.specs.Lcg.{Lcg}
 use Rattle.events.specs.declared.event.Call.{Call}
-use Rattle.art_steps.specs.TreeCalls.{is_tree_call}
+use Rattle.art_rows.specs.TreeCalls.{is_tree_call}
 use Rattle.plans.specs.Plans.{AreScripts}
 use Rattle.workload.specs.declared.mix.Mix.{Mix}
 use Rattle.workload.specs.Drawn.{generator_of, key_by, call_by, next_call, calls_drawn}

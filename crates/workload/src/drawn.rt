@@ -1,12 +1,12 @@
 // Calls drawn from the words of a generator.
 ghost use Rattle.std.specs.Prelude.{◌≡◌, ◌<◌, ◌^◌, IfOk, IsTrue};
-ghost use Rattle.art_steps.specs.TreeCalls.{is_tree_call};
+ghost use Rattle.art_rows.specs.TreeCalls.{is_tree_call};
 ghost use Rattle.workload.specs.Drawn.{next_word, key_by, scan_between, next_call};
 ghost use Rattle.workload.specs.Mixes.{IsWholeMix, HasKeys};
 ghost use Rattle.workload.specs.Workloads.{script_of};
 
 use crate::mix::Mix;
-use art_steps::TreeCall;
+use art_rows::TreeCall;
 use events::{Call, Memory};
 use rand_core::utils::NextWord;
 use rand_pcg::Lcg64Xsh32;

@@ -5,7 +5,7 @@ ghost use Rattle.workload.specs.Workloads.{scripts_of, IsDrawFault};
 
 use crate::drawn::script;
 use crate::mix::Mix;
-use art_steps::TreeCall;
+use art_rows::TreeCall;
 use events::{MAX_CALLS, Memory, PROCESSES};
 use plans::{Plan, PlanFault};
 use std::alloc::Global;

@@ -7,7 +7,7 @@ use Rattle.art_schedules.proofs.Common.{IsIn, RunCall, IsWithin, EndsWith, IsRun
 use Rattle.art_schedules.proofs.Common.{Pends, IsInCallAt, HaveEffects, HasOwnEffect, EffectsGiveOrders}
 use Rattle.std.proofs.Common.{Option, Some, None}
 use Rattle.std.specs.Prelude.{◌≢◌, ◌⊎◌}
-use Rattle.list_laws.proofs.NumberLemmas.{some_at}
+use Rattle.events.proofs.NumberLemmas.{some_at}
 use Rattle.orders.specs.Orders.{IsCompletedAt}
 use Rattle.art_schedules.specs.points.Windows.{AreWithinWindows}
 use Rattle.art_schedules.proofs.points.ChoiceLemmas.{chosen}

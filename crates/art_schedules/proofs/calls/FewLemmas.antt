@@ -7,7 +7,7 @@ use Rattle.art_schedules.proofs.Common.{IsStepOf, ChangesOnce, Pends, HaveEffect
 use Rattle.std.proofs.Common.{map, sum}
 use Rattle.std.specs.Prelude.{◌≢◌}
 use Rattle.std.proofs.lemmas.List.Elements.{All-weaker}
-use Rattle.list_laws.proofs.Lists.{length-distinct_below}
+use Rattle.events.proofs.Lists.{length-distinct_below}
 use Rattle.events.proofs.OperationLemmas.{length-operations_from}
 use Rattle.orders.specs.Orders.{after_call}
 use Rattle.art_core.proofs.HistoryLemmas.{calls-within, logged-on}

@@ -7,7 +7,7 @@ use Rattle.art_schedules.proofs.Common.{known_reply, after_move, opened_on, step
 use Rattle.art_schedules.proofs.Common.{RunCall, IsWithin, EndsWith, IsRunCall, last_step, HasCalls, RunsHaveCalls}
 use Rattle.std.proofs.Common.{Option, Some, None}
 use Rattle.std.specs.Prelude.{option_map}
-use Rattle.list_laws.proofs.Lists.{AllPairs-at}
+use Rattle.events.proofs.Lists.{AllPairs-at}
 use Rattle.events.proofs.TimeLemmas.{inv_rises}
 use Rattle.art_schedules.specs.points.Windows.{WindowsKeepPrecedence}
 use Rattle.art_schedules.proofs.points.ChoiceLemmas.{chosen}

@@ -9,8 +9,8 @@ use Rattle.art_schedules.proofs.Common.{word_of_move, run_on, At, Gives, is-move
 use Rattle.std.proofs.Common.{map, Some}
 use Rattle.std.specs.Prelude.{option_map, flat_map}
 use Rattle.std.proofs.lemmas.List.{map-set, map-append}
-use Rattle.logs.specs.Logs.{events_by_stamp, history_of_logs}
-use Rattle.logs.proofs.GrowthLemmas.{AreBelow, history-push}
+use Rattle.events.specs.Logs.{events_by_stamp, history_of_logs}
+use Rattle.events.proofs.GrowthLemmas.{AreBelow, history-push}
 use Rattle.art_core.specs.Core.{Makes}
 use Rattle.art_core.specs.Plans.{IsPlan}
 use Rattle.art_core.specs.Runs.{HasFewSteps}

@@ -14,8 +14,8 @@ use Rattle.art_schedules.proofs.versions.ChangeLemmas.{index-other}
 use Rattle.art_schedules.proofs.versions.MoveLemmas.{settled-row}
 use Rattle.art_schedules.proofs.versions.StepLemmas.{after-more, does, next-turn}
 use Rattle.art_schedules.proofs.Common.{RowWritten, RowFilled, RowTaken, RowReleased}
-use Rattle.art_steps.specs.declared.access.Access.TheVariants.{Exchange}
-use Rattle.art_steps.proofs.AccessLemmas.{act-stays}
+use Rattle.art_rows.specs.declared.access.Access.TheVariants.{Exchange}
+use Rattle.art_rows.proofs.AccessLemmas.{act-stays}
 use Rattle.art_core.specs.Core.{Makes}
 use Rattle.art_schedules.specs.versions.Effects.{Has, Fills}
 

@@ -22,8 +22,8 @@ use Rattle.art_schedules.proofs.Common.{put_keys_turn, grow_keys_turn, grow_leaf
 use Rattle.art_schedules.proofs.Common.{CallAt, OnKey, OnScan, begun_as, call_after, call_turn}
 use Rattle.art_schedules.proofs.versions.WordFacts.{count-most}
 use Rattle.art_serial.proofs.words.WordLemmas.{again_below}
-use Rattle.art_steps.specs.Rows.{releases_early, leaves_out_check, takes_unchecked}
-use Rattle.art_steps.specs.Updates.{lesser, greater, Under}
+use Rattle.art_rows.specs.Rows.{releases_early, leaves_out_check, takes_unchecked}
+use Rattle.art_rows.specs.Updates.{lesser, greater, Under}
 use Rattle.art_stages.specs.declared.stage.Work.TheVariants as work
 use Rattle.art_stages.specs.declared.stage.PairWord.TheVariants as pair_word
 use Rattle.art_stages.specs.declared.stage.ScanStep.TheVariants as scan

@@ -15,8 +15,8 @@ use Rattle.art_schedules.proofs.Common.{RowWritten, RowFilled, RowTaken, RowRele
 use Rattle.art_schedules.proofs.Common.{LoadsHeld, StoresOwn, ClaimsRow, ReleasesHeld, Replies, is_lock, may_release, RowsOf, IsLeaving}
 use Rattle.art_schedules.proofs.Common.{ObsoleteLeave, HeldAreLive, TakesLive, MakesLeave, LeavesBy, IsCoupledStep, WaysTakeLive}
 use Rattle.art_schedules.proofs.Common.{ObsoleteRowsLeave, RestsHaveNone, ChildRow}
-use Rattle.art_steps.specs.declared.access.Point.TheVariants as point
-use Rattle.art_steps.proofs.TurnLemmas.{add-exchange}
+use Rattle.art_rows.specs.declared.access.Point.TheVariants as point
+use Rattle.art_rows.proofs.TurnLemmas.{add-exchange}
 use Rattle.art_stages.specs.declared.stage.ScanStep.TheVariants as scan
 use Rattle.art_schedules.proofs.calm.VersionLemmas.{not-behind, locked-same, released-free, obsolete-free}
 use Rattle.art_schedules.proofs.calm.CalmLemmas.{claimed-row}

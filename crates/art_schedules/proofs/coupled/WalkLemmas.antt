@@ -8,7 +8,7 @@ use Rattle.art_schedules.proofs.Common.{RunsAlone, ends, goes, same-runs, ScansA
 use Rattle.art_schedules.proofs.Common.{IsOver}
 use Rattle.std.proofs.Common.{slice_index, slice_set}
 use Rattle.events.specs.declared.event.Reply.TheVariants as reply
-use Rattle.art_steps.specs.declared.access.Point.TheVariants as point
+use Rattle.art_rows.specs.declared.access.Point.TheVariants as point
 use Rattle.art_stages.specs.declared.stage.ScanStep.TheVariants as scan
 use Rattle.art_stages.proofs.BehindLemmas.{behind}
 use Rattle.art_schedules.proofs.work.SoloLemmas.{suits-on, runs-behind}

@@ -13,7 +13,7 @@ use Rattle.art_schedules.proofs.Common.{Lower, Gone, IsHanging, Hanging, AtEnd, 
 use Rattle.art_schedules.proofs.Common.{WorkerStep, Makes, TakesEffect, EndStep, Leaves, AnswersNow, IsInTree, IsSame}
 use Rattle.std.proofs.Common.{slice_index}
 use Rattle.map_object.proofs.TellLemmas.{value_answers}
-use Rattle.art_steps.specs.declared.access.Point.TheVariants as point
+use Rattle.art_rows.specs.declared.access.Point.TheVariants as point
 use Rattle.art_schedules.proofs.calm.CalmLemmas.{claimed-row}
 use Rattle.art_schedules.proofs.calm.UseLemmas.{without-store}
 use Rattle.art_schedules.specs.effects.Outcomes.{Works}

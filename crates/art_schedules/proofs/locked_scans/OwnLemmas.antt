@@ -20,8 +20,8 @@ use Rattle.art_schedules.proofs.Common.{RowsOf, TakesLive, IsCoupledStep, IsOfRo
 use Rattle.art_schedules.proofs.Common.{ScanStays, rows_of_scan, FoundScansStay, IsHeldLive}
 use Rattle.std.proofs.Common.{◌==◌, slice_index, if◌then◌else◌}
 use Rattle.events.specs.declared.event.Reply.TheVariants as reply
-use Rattle.art_steps.specs.declared.access.Point.TheVariants as point
-use Rattle.art_steps.proofs.TurnLemmas.{exchange-add}
+use Rattle.art_rows.specs.declared.access.Point.TheVariants as point
+use Rattle.art_rows.proofs.TurnLemmas.{exchange-add}
 use Rattle.art_stages.specs.declared.stage.ScanStep.TheVariants.{Lock, Exchange, Wait, Info, Keys, Over}
 use Rattle.art_schedules.specs.versions.Effects.{Fills}
 use Rattle.art_schedules.proofs.versions.ScanLemmas.{coupled-scan-does}

@@ -8,7 +8,7 @@ use Rattle.art_schedules.proofs.Common.{FirstKeys, Held, Index, LoadChild, Relea
 use Rattle.art_stages.specs.declared.stage.ScanStep.TheVariants.{Exchange, Keys, Lock}
 use Rattle.art_schedules.proofs.Common.{ScanAt, at, close_at, scan_start, scan_after, step_after, scan_turn, Plan}
 use Rattle.art_serial.proofs.trees.Bytes.{next_of}
-use Rattle.art_steps.specs.declared.access.Point.TheVariants as point
+use Rattle.art_rows.specs.declared.access.Point.TheVariants as point
 use Rattle.art_stages.specs.declared.stage.ScanStep.TheVariants.{Wait, Info, Over}
 use Rattle.art_stages.specs.Scans.{entry_base}
 use Rattle.art_core.specs.Moments.{Reads, next_word, alone, AnswersAlone}

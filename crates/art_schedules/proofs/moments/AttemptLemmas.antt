@@ -4,7 +4,7 @@ use Rattle.art_schedules.proofs.Common.{None, Option, Scan, Shape, Some, arith, 
 use Rattle.std.specs.Prelude.{◌⊎◌}
 use Rattle.art_schedules.proofs.Common.{row_words, kind_at, is_locked, Load, Point, Asks, Setting, Held, ScanAt, scan_start, scan_after}
 use Rattle.art_schedules.proofs.Common.{scan_turn, optimistic, OfRows, IsAmong}
-use Rattle.art_steps.specs.declared.access.Point.TheVariants as point
+use Rattle.art_rows.specs.declared.access.Point.TheVariants as point
 use Rattle.art_schedules.proofs.moments.TimeLemmas.{take-more, index-more, index-last}
 
 module _ (s : Shape) (lo hi : ℕ) where

@@ -4,7 +4,7 @@ use Rattle.std.specs.Prelude.{◌⊎◌}
 use Rattle.art_schedules.proofs.Common.{Some, None, append-nil, none-some, Call, Get, Reply, Kind, kind_at, info_at, is_locked, seven-words}
 use Rattle.art_schedules.proofs.Common.{Optimistic, Point, Answers, Setting, act, Root, Wait, turn_at, OnKey, call_turn, after_all, call_begun}
 use Rattle.art_schedules.proofs.Common.{call_behind, call_next, behind, Plan, BeginsAttempt, Enters, IsCheckedGet}
-use Rattle.art_steps.specs.declared.access.Point.TheVariants as point
+use Rattle.art_rows.specs.declared.access.Point.TheVariants as point
 use Rattle.art_core.specs.Moments.{Reads}
 use Rattle.art_schedules.specs.moments.Gets.{GoesBy, HasRead}
 use Rattle.art_schedules.proofs.moments.RowLemmas.{row-within}

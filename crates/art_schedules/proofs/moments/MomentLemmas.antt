@@ -7,7 +7,7 @@ use Rattle.art_schedules.proofs.Common.{Optimistic, Load, Asks, Answers, act, as
 use Rattle.art_schedules.proofs.Common.{Plan, State, opened_on, begun, run_on, At, IsRun, HasGot, BeginsAttempt, Enters, run-steps, Knows}
 use Rattle.art_schedules.proofs.Common.{optimistic, IsSettled, IsSound, IsSteady, SameWords, GotAt, IsValidated, IsCheckedGet}
 use Rattle.std.proofs.lemmas.List.{length-take}
-use Rattle.art_steps.proofs.TurnLemmas.{answers-of}
+use Rattle.art_rows.proofs.TurnLemmas.{answers-of}
 use Rattle.art_core.specs.Core.{known_reply}
 use Rattle.art_core.specs.Claims.{ScanHasMoment}
 use Rattle.art_core.specs.Meaning.{row_in}
@@ -119,7 +119,7 @@ module _ (plan : Plan) (start : Contents) (words schedule : List ℕ) (s : State
         let asks : Asks g.access g.mark ≡ Asks (Load word) r.mark =
         sym g.asks ∙ (ap (act plan.shape plan.variant call) (words-of i) ∙ (its.begins (take i attempt) ∙ r.load)) in
         let told-is = subst (λ a. slice_index q.got (le + i) ≡ Rattle.art_core.specs.Accesses.told a
-        (slice_index g.state.words (Rattle.art_steps.specs.Fits.word_of a))) (asks-same asks) g.is in
+        (slice_index g.state.words (Rattle.art_rows.specs.Fits.word_of a))) (asks-same asks) g.is in
         sym told-is ∙ (ap (λ l. slice_index l (le + i)) its.all ∙ index-behind earlier attempt i)
 
     has-got : (i : ℕ) (less : i < length attempt) → HasGot (length (begun q)) (le + i) (got-at i less).state p

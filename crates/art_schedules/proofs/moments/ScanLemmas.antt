@@ -11,7 +11,7 @@ use Rattle.art_schedules.proofs.Common.{FirstKeys, Index, LoadChild, Release, Sc
 use Rattle.art_stages.specs.declared.stage.ScanStep.TheVariants.{Exchange, Keys, Lock}
 use Rattle.art_schedules.proofs.Common.{ScanAt, at, walked, frame_of, keys16, close_at, with_frame, child_after, scan_start, scan_after}
 use Rattle.art_schedules.proofs.Common.{scan_turn, CallAt, OnScan, after_all, call_begun, call_behind, OfRows, Each, FitsFrame}
-use Rattle.art_steps.specs.declared.access.Point.TheVariants as point
+use Rattle.art_rows.specs.declared.access.Point.TheVariants as point
 use Rattle.art_stages.specs.declared.stage.Entry.TheVariants.{Root}
 use Rattle.art_stages.specs.declared.stage.ScanStep.TheVariants.{Wait, Info, Over}
 use Rattle.art_schedules.proofs.versions.KeyLemmas.{slot-behind}

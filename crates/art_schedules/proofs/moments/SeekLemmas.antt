@@ -16,8 +16,8 @@ use Rattle.art_schedules.proofs.Common.{optimistic, IsSlot, OfRows, KnowsKey}
 use Rattle.std.specs.Prelude.{option_map}
 use Rattle.events.specs.declared.event.Reply.TheVariants as replies
 use Rattle.art_rows.specs.Words.{first_difference, info_of}
-use Rattle.art_steps.specs.declared.access.Point.TheVariants as point
-use Rattle.art_steps.proofs.TurnLemmas.{answers-same}
+use Rattle.art_rows.specs.declared.access.Point.TheVariants as point
+use Rattle.art_rows.proofs.TurnLemmas.{answers-same}
 use Rattle.art_stages.specs.declared.stage.Keys.{Keys}
 use Rattle.art_stages.specs.declared.stage.Finding.TheVariants.{Has}
 use Rattle.art_stages.specs.declared.stage.Outcome.TheVariants.{Value}

@@ -9,7 +9,7 @@ use Rattle.art_stages.specs.declared.stage.Entry.TheVariants.{Below}
 use Rattle.art_stages.specs.declared.stage.ScanStep.TheVariants.{Exchange, Keys, Lock}
 use Rattle.art_schedules.proofs.Common.{Release, row_at, held, Walk, ScanAt, at, release_rows, resume_at, visit_list, entry_at, scan_start}
 use Rattle.art_schedules.proofs.Common.{step_after, scan_turn, OfRows, Each, IsSlot, FitsFrame, IsAmong}
-use Rattle.art_steps.specs.declared.access.Point.TheVariants as point
+use Rattle.art_rows.specs.declared.access.Point.TheVariants as point
 use Rattle.art_stages.specs.declared.stage.Entry.TheVariants.{Root}
 use Rattle.art_stages.specs.declared.stage.ScanStep.TheVariants.{Wait, Info, Over}
 use Rattle.art_schedules.proofs.versions.WordFacts.{free-version}

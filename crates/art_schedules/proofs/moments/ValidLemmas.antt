@@ -5,7 +5,7 @@ use Rattle.std.specs.Prelude.{◌⊎◌}
 use Rattle.art_schedules.proofs.Common.{some-words, Optimistic, Point, Answers, Setting, act, Held, scan_start, scan_turn, OnScan, call_turn}
 use Rattle.art_schedules.proofs.Common.{after_all, call_begun, call_behind, call_next, behind, Plan, BeginsAttempt, Enters, IsValidated}
 use Rattle.std.proofs.lemmas.Bool.{ne_eqb}
-use Rattle.art_steps.specs.declared.access.Point.TheVariants as point
+use Rattle.art_rows.specs.declared.access.Point.TheVariants as point
 use Rattle.art_core.specs.Moments.{Reads}
 use Rattle.art_schedules.specs.moments.Attempts.{IsOfCheckedRow}
 use Rattle.art_schedules.proofs.moments.AttemptLemmas.{stage, Loads, Entered, no-check}

@@ -93,7 +93,7 @@ module _ (shape : Shape) (call : Call) (P : OfRows) (is-row : (b : ℕ) (k : Kin
       to (keys_at h.row.base) word (store-word e) (away h.row.base Sixteen _ row (omega arith) (omega arith)
       (λ f. omega (arith, f)))
   put-keys FortyEight h keys word value mark row e =
-      let small = key_byte-small (Rattle.art_steps.specs.Rows.key_of call) (row_at h.row).level in
+      let small = key_byte-small (Rattle.art_rows.specs.Rows.key_of call) (row_at h.row).level in
       to (index_at h.row.base (byte_in c h.row)) word (store-word e)
       (away h.row.base FortyEight _ row (omega arith) (omega (arith, small)) (λ f. omega
       (arith, f)))
@@ -133,7 +133,7 @@ module _ (shape : Shape) (call : Call) (P : OfRows) (is-row : (b : ℕ) (k : Kin
       to (child_at Full g.base (byte_in c g.hold.row)) word (store-word e)
       (away-slot g.base Full _ row (
         byte_in c g.hold.row,
-        key_byte-small (Rattle.art_steps.specs.Rows.key_of call)
+        key_byte-small (Rattle.art_rows.specs.Rows.key_of call)
             (row_at g.hold.row).level,
         refl,
       ))
@@ -141,7 +141,7 @@ module _ (shape : Shape) (call : Call) (P : OfRows) (is-row : (b : ℕ) (k : Kin
       to (child_at Full g.base (byte_in c g.hold.row)) word (store-word e)
       (away-slot g.base Full _ row (
         byte_in c g.hold.row,
-        key_byte-small (Rattle.art_steps.specs.Rows.key_of call)
+        key_byte-small (Rattle.art_rows.specs.Rows.key_of call)
             (row_at g.hold.row).level,
         refl,
       ))

@@ -21,7 +21,7 @@ use Rattle.art_schedules.proofs.Common.{BeginsWork, KnowsStage, IsReachedHere, K
 use Rattle.art_schedules.proofs.Common.{Agrees, Gets, Goes, GoesOn, StepsOn, OwnStepsGoOn, OwnFindingsStay}
 use Rattle.std.proofs.Common.{◌==◌, slice_index, slice_set, if◌then◌else◌}
 use Rattle.std.proofs.lemmas.Grind.{same_number_lists}
-use Rattle.art_steps.specs.declared.access.Point.TheVariants as point
+use Rattle.art_rows.specs.declared.access.Point.TheVariants as point
 use Rattle.art_core.specs.Core.{Makes}
 use Rattle.art_schedules.specs.versions.Holding.{FitsTaking}
 use Rattle.art_schedules.proofs.calm.InductionLemmas.{run-begins, last-step, step-of-run}
@@ -236,7 +236,7 @@ module _ (plan : Plan) (start : Contents) (first schedule : List ℕ) (p : ℕ) 
       -- a row is taken
       module _ (x : Taking) (is : stage ≡ Take x) where
         turn : turn_at c stage ≡ Asks (Swap x.row.base x.row.kept (locked_word x.row.kept))
-            (Some (Rattle.art_steps.specs.Rows.lock_point shape x.row.base))
+            (Some (Rattle.art_rows.specs.Rows.lock_point shape x.row.base))
         turn = ap (turn_at c) is
 
         abbrev value : ℕ

@@ -11,8 +11,8 @@ use Rattle.std.proofs.lemmas.Bool.{eq-eqb, eqb-true}
 use Rattle.std.proofs.lemmas.List.{take_more}
 use Rattle.std.proofs.lemmas.Option.{get_or_from_slice_get}
 use Rattle.events.specs.Precedence.{NonePrecedesItself}
-use Rattle.list_laws.proofs.Lists.{AllPairs-head, AllPairs-tail, Contains-at}
-use Rattle.list_laws.proofs.FilterLemmas.{AllPairs-at}
+use Rattle.events.proofs.Lists.{AllPairs-head, AllPairs-tail, Contains-at}
+use Rattle.events.proofs.FilterLemmas.{AllPairs-at}
 use Rattle.orders.proofs.CallsAtLemmas.{slice_get-calls_at}
 use Rattle.orders.proofs.OrderLemmas.{IsLegal-front, IsLegal-back}
 use Rattle.orders.proofs.LegalLemmas.{DoesCall-from_legal}

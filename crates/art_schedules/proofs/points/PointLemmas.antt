@@ -14,10 +14,10 @@ use Rattle.std.proofs.lemmas.List.Elements.{All-head, All-tail, Contains-append_
 use Rattle.std.proofs.lemmas.List.Kept.{AllPairs-from_increasing, AllPairs-filter}
 use Rattle.std.proofs.lemmas.List.FromFn.{length-range_with_len, get_or-range_with_len}
 use Rattle.orders.specs.Orders.{KeepsPrecedence}
-use Rattle.list_laws.proofs.Lists.{Contains-nil, Contains-cases, Contains-range}
-use Rattle.list_laws.proofs.FilterLemmas.{AreRelatedAs, AllPairs-weaker, AllPairs-filter_map, Contains-filter, Contains-from_filter}
-use Rattle.list_laws.proofs.FilterLemmas.{Contains-from_filter_map}
-use Rattle.list_laws.proofs.RisingLemmas.{IsStrictlyIncreasing-range}
+use Rattle.events.proofs.Lists.{Contains-nil, Contains-cases, Contains-range}
+use Rattle.events.proofs.FilterLemmas.{AreRelatedAs, AllPairs-weaker, AllPairs-filter_map, Contains-filter, Contains-from_filter}
+use Rattle.events.proofs.FilterLemmas.{Contains-from_filter_map}
+use Rattle.events.proofs.RisingLemmas.{IsStrictlyIncreasing-range}
 use Rattle.orders.proofs.OrderLemmas.{IsLegal-append, IsCompletedAt-below}
 use Rattle.art_schedules.specs.points.Points.{IsNotAfter}
 use Rattle.art_schedules.specs.points.Laws.{PointsGiveOrders, PointsOrderCalls}

@@ -3,7 +3,7 @@ use Rattle.art_schedules.proofs.Common.{◌≡◌, ℕ, ◌+◌, ◌<◌, ◌≤
 use Rattle.art_schedules.proofs.Common.{cases_lt, length-append, same_Some, slice_get-below, Call, Scan, Reply, operations, Contents, Does}
 use Rattle.art_schedules.proofs.Common.{reply_to, act, Plan, State, begun, history_of, known_reply, opened_on, At, runs-once, IsIn, HasCalls}
 use Rattle.art_schedules.proofs.Common.{FrontsHaveMoments, MomentsEndRuns, RunsHaveCalls, ScansAreTheMaps, calm_of, AnsweredScansHavePoints}
-use Rattle.art_steps.proofs.TurnLemmas.{answers-of}
+use Rattle.art_rows.proofs.TurnLemmas.{answers-of}
 use Rattle.art_schedules.proofs.moments.MomentLemmas.{scan-has-moment}
 use Rattle.art_schedules.proofs.calm.RunLemmas.{calm-at}
 use Rattle.art_schedules.proofs.scan_points.CheckLemmas.{has-more}

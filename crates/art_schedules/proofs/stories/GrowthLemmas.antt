@@ -7,7 +7,7 @@ use Rattle.art_schedules.proofs.Common.{Before, Found, Changed, HasNotChanged, H
 use Rattle.art_schedules.proofs.Common.{Next, Stays, Forgets, FindsNow, FindsAt}
 use Rattle.std.proofs.Common.{Some, None}
 use Rattle.std.specs.Prelude.{◌⊎◌}
-use Rattle.list_laws.proofs.Lists.{slice_get-append_left, slice_get-middle}
+use Rattle.events.proofs.Lists.{slice_get-append_left, slice_get-middle}
 use Rattle.events.specs.declared.event.Reply.TheVariants as replies
 use Rattle.art_schedules.proofs.calls.MomentLemmas.{stage-rises, stage-open, stage-idle}
 

@@ -3,9 +3,9 @@ use Rattle.art_schedules.proofs.Common.{◌≡◌, ℕ, zero, suc, ◌+◌, ◌/
 use Rattle.art_schedules.proofs.Common.{Each, bytes_of, filter, if◌then◌else◌, in_word}
 use Rattle.std.proofs.lemmas.Bool.{eqb-true}
 use Rattle.art_serial.proofs.alone.DifferLemmas.{heads}
-use Rattle.art_steps.specs.Steps.{numbers}
-use Rattle.art_steps.specs.Rows.{Row}
-use Rattle.art_steps.specs.Scan.{can_lie}
+use Rattle.art_rows.specs.Steps.{numbers}
+use Rattle.art_rows.specs.Rows.{Row}
+use Rattle.art_rows.specs.Scan.{can_lie}
 
 -- an index word that holds a byte is one of the 32
 

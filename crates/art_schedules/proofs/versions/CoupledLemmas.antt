@@ -11,7 +11,7 @@ use Rattle.art_schedules.proofs.Common.{count_in, row_at, setting, keys_differ_a
 use Rattle.art_stages.specs.Stages.{target_base}
 use Rattle.art_stages.specs.declared.stage.Keys.{Keys}
 use Rattle.art_schedules.proofs.versions.WordFacts.{full-not-less, count-most, child-good, new-leaf-rows, overwriting-good}
-use Rattle.art_steps.specs.declared.access.Access.TheVariants.{Exchange as Swap}
+use Rattle.art_rows.specs.declared.access.Access.TheVariants.{Exchange as Swap}
 use Rattle.art_stages.specs.declared.stage.Target.TheVariants.{Below}
 use Rattle.art_stages.specs.declared.stage.Stage.TheVariants.{Exchange, Lock}
 use Rattle.art_schedules.specs.versions.Holding.{FitsDown, FitsTarget, HasRoom, rows_of_wait}

@@ -17,7 +17,7 @@ use Rattle.art_schedules.proofs.Common.{Position, Target, Variant, all_of, held_
 use Rattle.std.proofs.lemmas.Bool.{lt-ltb, le-ltb}
 use Rattle.std.specs.Prelude.{nat_lt}
 use Rattle.art_rows.specs.Words.{keys16_word, more_keys16_word}
-use Rattle.art_steps.specs.Updates.{lesser, greater, Under, next_kind}
+use Rattle.art_rows.specs.Updates.{lesser, greater, Under, next_kind}
 use Rattle.art_stages.specs.declared.stage.Keys.{Keys}
 use Rattle.art_stages.specs.declared.stage.Finding.TheVariants.{Has as Seen}
 use Rattle.art_stages.specs.declared.stage.Pair.{Pair}

@@ -13,12 +13,12 @@ use Rattle.art_schedules.proofs.Common.{keys_among, keys_one, Walk, ScanAt, at, 
 use Rattle.art_schedules.proofs.Common.{slot_at, bytes_at, index_at_list, words_at, child_from, frame_at, way_at, resume_at, with_frame}
 use Rattle.art_schedules.proofs.Common.{visit_list, entry_at, child_after, scan_start, step_after, OnScan, OfRows, Each, IsSlot, child_rows}
 use Rattle.art_schedules.proofs.Common.{IsNamed, FitsFrame, KnowsScanRows, Reads, Answered, AccessDoes}
-use Rattle.art_steps.specs.Rows.{leaves_out_check}
+use Rattle.art_rows.specs.Rows.{leaves_out_check}
 use Rattle.art_stages.specs.Scans.{enter_at, place_slot, row_begins, visit_at}
 use Rattle.art_schedules.specs.versions.Locking.{scan_locked}
 use Rattle.art_schedules.specs.versions.Holding.{rows_entered, rows_walked}
 use Rattle.art_schedules.proofs.versions.WithLemmas.{with-last}
-use Rattle.art_steps.proofs.AccessLemmas.{each-append}
+use Rattle.art_rows.proofs.AccessLemmas.{each-append}
 use Rattle.art_stages.specs.declared.stage.Entry.{Entry}
 use Rattle.art_stages.specs.declared.stage.Entry.TheVariants.{Root}
 use Rattle.art_stages.specs.declared.stage.ScanStep.TheVariants.{Wait, Info, Over}

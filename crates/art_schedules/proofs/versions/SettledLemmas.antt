@@ -6,7 +6,7 @@ use Rattle.art_stages.specs.declared.stage.Entry.TheVariants.{Below}
 use Rattle.art_stages.specs.declared.stage.ScanStep.TheVariants.{Exchange, Keys, Lock}
 use Rattle.art_schedules.proofs.Common.{FirstKeys, SecondKeys, Index, LoadChild, Release, Walk, ScanAt, at, scan_turn, optimistic, OfRows}
 use Rattle.art_schedules.proofs.Common.{KnowsScanRows}
-use Rattle.art_steps.specs.declared.access.Point.TheVariants as point
+use Rattle.art_rows.specs.declared.access.Point.TheVariants as point
 use Rattle.art_stages.specs.declared.stage.Entry.TheVariants.{Root}
 use Rattle.art_stages.specs.declared.stage.ScanStep.TheVariants.{Wait, Info, Over}
 use Rattle.art_stages.specs.Scans.{keys_turn}

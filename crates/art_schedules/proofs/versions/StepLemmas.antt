@@ -14,8 +14,8 @@ use Rattle.art_schedules.proofs.Common.{IsOpen, stage_of, held_by, filled_by, Is
 use Rattle.art_schedules.proofs.Common.{asks-answers, start_at, ScanAt, at, locks_of, scan_held, held_at_stage, row_filled, KnowsRows}
 use Rattle.art_schedules.proofs.Common.{KnowsScanRows, setting}
 use Rattle.std.specs.Prelude.{Bool}
-use Rattle.art_steps.specs.declared.access.Access.TheVariants.{Store, Exchange, Add}
-use Rattle.art_steps.proofs.AccessLemmas.{act-stays}
+use Rattle.art_rows.specs.declared.access.Access.TheVariants.{Store, Exchange, Add}
+use Rattle.art_rows.proofs.AccessLemmas.{act-stays}
 use Rattle.art_stages.specs.Calls.{begun_as}
 use Rattle.art_core.specs.Core.{moved}
 use Rattle.art_schedules.proofs.versions.KeyLemmas.{key-does}

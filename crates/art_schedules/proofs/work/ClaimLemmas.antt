@@ -9,7 +9,7 @@ use Rattle.art_schedules.proofs.Common.{HangsIn, IsFull, IsRelease, KnowsKey, Ro
 use Rattle.art_schedules.proofs.versions.KeyLemmas.{slot-behind}
 use Rattle.std.specs.Prelude.{◌≢◌, ◌⊎◌}
 use Rattle.art_rows.proofs.KindLemmas.{claims-once}
-use Rattle.art_steps.proofs.TurnLemmas.{add-word}
+use Rattle.art_rows.proofs.TurnLemmas.{add-word}
 use Rattle.art_schedules.specs.versions.Holding.{HasSlot}
 use Rattle.art_schedules.specs.work.Works.{IsRefusal}
 use Rattle.art_schedules.proofs.work.SoloLemmas.{runs-behind, solos-keep}

@@ -9,9 +9,9 @@ use Rattle.art_schedules.proofs.Common.{IsAmong, IsFull, KnowsKey, RowsOf, Solo,
 use Rattle.art_schedules.proofs.versions.KnownLemmas.{held-is-kept}
 use Rattle.art_schedules.proofs.Common.{FitsWords, IsRelease, IsDoneBy}
 use Rattle.events.specs.declared.event.Reply.TheVariants as reply
-use Rattle.art_steps.specs.Steps.{store}
-use Rattle.art_steps.specs.Rows.{row_of}
-use Rattle.art_steps.specs.Updates.{put, put_in, make_room}
+use Rattle.art_rows.specs.Steps.{store}
+use Rattle.art_rows.specs.Rows.{row_of}
+use Rattle.art_rows.specs.Updates.{put, put_in, make_room}
 use Rattle.art_stages.specs.declared.stage.Work.TheVariants as work
 use Rattle.art_stages.specs.Stages.{ends, work_in, put_moves}
 use Rattle.art_serial.proofs.alone.AloneLemmas.{store-comes}

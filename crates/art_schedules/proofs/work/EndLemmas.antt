@@ -8,8 +8,8 @@ use Rattle.art_schedules.proofs.Common.{all_of, rows_of_hold, Each, IsKept, Know
 use Rattle.std.specs.Prelude.{◌⊎◌}
 use Rattle.std.proofs.lemmas.List.{ext_get_or}
 use Rattle.events.specs.declared.event.Reply.TheVariants as reply
-use Rattle.art_steps.specs.Steps.{Part}
-use Rattle.art_steps.specs.Rows.{Row, unlock_obsolete}
+use Rattle.art_rows.specs.Steps.{Part}
+use Rattle.art_rows.specs.Rows.{Row, unlock_obsolete}
 use Rattle.art_stages.specs.Stages.{ends}
 use Rattle.art_serial.specs.alone.Alone as alone
 use Rattle.art_serial.proofs.alone.RowRunLemmas.{unlock_obsolete-comes}

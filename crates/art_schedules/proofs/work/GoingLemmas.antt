@@ -8,7 +8,7 @@ use Rattle.art_schedules.proofs.Common.{reply_for, rest_in, turn_at, stage_after
 use Rattle.art_schedules.proofs.Common.{call_after, RunsAlone, unlocked_rows, load-same, stored-at, stored-other, stored-long, KnowsKey, IsFull}
 use Rattle.art_schedules.proofs.Common.{Step, loads, stores, claims, Solo, RowsOf}
 use Rattle.std.specs.Prelude.{◌⊎◌}
-use Rattle.art_steps.specs.Rows.{Row}
+use Rattle.art_rows.specs.Rows.{Row}
 use Rattle.art_schedules.proofs.work.SoloLemmas.{runs-before, solos-keep}
 use Rattle.art_schedules.proofs.work.WorkLemmas.{IsPlain, AtWork, IsEnd, Next, next-work, Acts, Loading, Storing, acts}
 

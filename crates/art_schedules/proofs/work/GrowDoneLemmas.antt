@@ -9,7 +9,7 @@ use Rattle.art_schedules.proofs.Common.{stored-long, byte_at-small, keys_in_row,
 use Rattle.art_schedules.proofs.Common.{IsRelease, IsDoneBy, IsWorkDone}
 use Rattle.std.specs.Prelude.{◌≢◌}
 use Rattle.events.specs.declared.event.Reply.TheVariants as reply
-use Rattle.art_steps.specs.Updates.{grow}
+use Rattle.art_rows.specs.Updates.{grow}
 use Rattle.art_stages.specs.declared.stage.Work.TheVariants as work
 use Rattle.art_serial.specs.writes.Writes.{HasFresh}
 use Rattle.art_serial.proofs.writes.SameLemmas.{keys-same, count-same, slot-same, child-same, form-same}

@@ -7,7 +7,7 @@ use Rattle.art_schedules.proofs.Common.{then-comes, IsStored, child_of-stored, k
 use Rattle.art_schedules.proofs.Common.{byte_at-small, KnowsKey, IsFull, Solo, RowsOf, FitsWords, PairHangs, IsRelease, IsDoneBy, IsWorkDone}
 use Rattle.std.specs.Prelude.{take}
 use Rattle.events.specs.declared.event.Reply.TheVariants as reply
-use Rattle.art_steps.specs.Updates.{pair_in}
+use Rattle.art_rows.specs.Updates.{pair_in}
 use Rattle.art_stages.specs.declared.stage.PairWord.TheVariants as pair_word
 use Rattle.art_stages.specs.declared.stage.Work.TheVariants as work
 use Rattle.art_serial.specs.writes.Writes.{HasPair}

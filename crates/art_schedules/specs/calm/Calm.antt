@@ -8,9 +8,9 @@ use Rattle.art_rows.specs.declared.table.Shape.{Shape}
 use Rattle.art_rows.specs.declared.table.Kind.{Kind}
 use Rattle.art_rows.specs.Table.{row_words, table_words, kind_at}
 use Rattle.art_rows.specs.Words.{is_locked, is_obsolete}
-use Rattle.art_steps.specs.declared.variant.Variant.{Variant}
-use Rattle.art_steps.specs.declared.variant.Variant.TheVariants.{Optimistic}
-use Rattle.art_steps.specs.Steps.{numbers}
+use Rattle.art_rows.specs.declared.variant.Variant.{Variant}
+use Rattle.art_rows.specs.declared.variant.Variant.TheVariants.{Optimistic}
+use Rattle.art_rows.specs.Steps.{numbers}
 use Rattle.art_core.specs.declared.process.Process.{Process}
 use Rattle.art_core.specs.Core.{Plan, State, opened_on, step}
 use Rattle.art_core.specs.Meaning.{Reached, AllUnlocked}

@@ -6,12 +6,12 @@ use Rattle.art_rows.specs.declared.table.Shape.{Shape}
 use Rattle.art_rows.specs.declared.table.Kind.{Kind}
 use Rattle.art_rows.specs.Table.{kind_at}
 use Rattle.art_rows.specs.Words.{is_obsolete, locked_word, released_word, obsolete_word}
-use Rattle.art_steps.specs.declared.variant.Variant.{Variant}
-use Rattle.art_steps.specs.declared.access.Access.{Access}
-use Rattle.art_steps.specs.declared.access.Access.TheVariants.{Store, Exchange}
-use Rattle.art_steps.specs.declared.access.Point.{Point}
-use Rattle.art_steps.specs.Steps.{Asks}
-use Rattle.art_steps.specs.Rows.{locks}
+use Rattle.art_rows.specs.declared.variant.Variant.{Variant}
+use Rattle.art_rows.specs.declared.access.Access.{Access}
+use Rattle.art_rows.specs.declared.access.Access.TheVariants.{Store, Exchange}
+use Rattle.art_rows.specs.declared.access.Point.{Point}
+use Rattle.art_rows.specs.Steps.{Asks}
+use Rattle.art_rows.specs.Rows.{locks}
 use Rattle.art_stages.specs.declared.stage.Held.{Held}
 use Rattle.art_stages.specs.Calls.{call_turn}
 use Rattle.art_stages.specs.Stages.{setting}

@@ -9,7 +9,7 @@ use Rattle.art_rows.specs.declared.table.Child.{Child}
 use Rattle.art_rows.specs.declared.table.Child.TheVariants.{Empty, Leaf}
 use Rattle.art_rows.specs.Table.{row_words, info_at}
 use Rattle.art_rows.specs.Words.{key_bytes, info_word, row_word}
-use Rattle.art_steps.specs.Updates.{Under}
+use Rattle.art_rows.specs.Updates.{Under}
 use Rattle.art_core.specs.Meaning.{Reached, slot_of, child_on}
 use Rattle.art_core.specs.Forms.{HasForm, level_in, path_in}
 use Rattle.art_serial.specs.trees.Trees.{IsAtRest, SameRow, IsPair, IsGrown, IsClaimed}

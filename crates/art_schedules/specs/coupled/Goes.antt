@@ -4,10 +4,10 @@ use Rattle.events.specs.declared.event.Reply.{Reply}
 use Rattle.map_object.specs.MapObject.{Contents, Does}
 use Rattle.art_rows.specs.declared.table.Kind.{Kind}
 use Rattle.art_rows.specs.Words.{is_obsolete, locked_word}
-use Rattle.art_steps.specs.declared.access.Access.TheVariants.{Load, Exchange as Swap}
-use Rattle.art_steps.specs.declared.access.Point.{Point}
-use Rattle.art_steps.specs.Steps.{Asks}
-use Rattle.art_steps.specs.Rows.{Setting}
+use Rattle.art_rows.specs.declared.access.Access.TheVariants.{Load, Exchange as Swap}
+use Rattle.art_rows.specs.declared.access.Point.{Point}
+use Rattle.art_rows.specs.Steps.{Asks}
+use Rattle.art_rows.specs.Rows.{Setting}
 use Rattle.art_stages.specs.declared.stage.Hold.{Hold}
 use Rattle.art_stages.specs.declared.stage.Work.{Work}
 use Rattle.art_stages.specs.declared.stage.Stage.{Stage}

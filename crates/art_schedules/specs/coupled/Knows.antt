@@ -6,7 +6,7 @@ use Rattle.art_rows.specs.declared.table.Kind.TheVariants.{Sixteen, FortyEight}
 use Rattle.art_rows.specs.declared.table.Child.TheVariants.{Row as ChildRow}
 use Rattle.art_rows.specs.Table.{keys_at, index_at, count_at}
 use Rattle.art_rows.specs.Words.{is_obsolete, key_bytes, first_difference}
-use Rattle.art_steps.specs.Rows.{Setting, key_of, is_insert}
+use Rattle.art_rows.specs.Rows.{Setting, key_of, is_insert}
 use Rattle.art_stages.specs.declared.stage.Held.{Held}
 use Rattle.art_stages.specs.declared.stage.Position.{Position}
 use Rattle.art_stages.specs.declared.stage.Down.{Down}

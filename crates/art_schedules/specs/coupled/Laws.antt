@@ -4,9 +4,9 @@ use Rattle.events.specs.declared.event.Call.{Call}
 use Rattle.events.specs.declared.event.Reply.{Reply}
 use Rattle.map_object.specs.MapObject.{Contents}
 use Rattle.art_rows.specs.declared.table.Shape.{Shape}
-use Rattle.art_steps.specs.declared.variant.Variant.TheVariants.{Coupled}
-use Rattle.art_steps.specs.TreeCalls.{is_tree_call}
-use Rattle.art_steps.specs.Rows.{is_insert, is_scan}
+use Rattle.art_rows.specs.declared.variant.Variant.TheVariants.{Coupled}
+use Rattle.art_rows.specs.TreeCalls.{is_tree_call}
+use Rattle.art_rows.specs.Rows.{is_insert, is_scan}
 use Rattle.art_stages.specs.declared.stage.Stage.{Stage}
 use Rattle.art_stages.specs.Stages.{setting}
 use Rattle.art_stages.specs.Automaton.{turn_at, stage_after}
@@ -14,9 +14,9 @@ use Rattle.art_core.specs.Meaning.{Means}
 use Rattle.art_serial.specs.trees.Trees.{IsAtRest}
 use Rattle.art_schedules.specs.versions.Holding.{FitsStage}
 use Rattle.art_schedules.specs.versions.Versions.{IsAtStage}
-use Rattle.art_steps.specs.declared.access.Access.{Access}
-use Rattle.art_steps.specs.declared.access.Point.{Point}
-use Rattle.art_steps.specs.Steps.{Asks, Answers}
+use Rattle.art_rows.specs.declared.access.Access.{Access}
+use Rattle.art_rows.specs.declared.access.Point.{Point}
+use Rattle.art_rows.specs.Steps.{Asks, Answers}
 use Rattle.art_stages.specs.declared.stage.Stage.TheVariants.{Lock}
 use Rattle.art_stages.specs.declared.stage.Target.TheVariants.{Root}
 use Rattle.art_stages.specs.Calls.{OnKey, call_behind}

@@ -7,8 +7,8 @@ use Rattle.art_rows.specs.declared.table.Shape.{Shape}
 use Rattle.art_rows.specs.declared.table.Kind.{Kind}
 use Rattle.art_rows.specs.declared.table.Child.TheVariants.{Row}
 use Rattle.art_rows.specs.Words.{is_obsolete, locked_word}
-use Rattle.art_steps.specs.declared.variant.Variant.TheVariants.{Coupled}
-use Rattle.art_steps.specs.declared.access.Access.TheVariants.{Exchange as Swap}
+use Rattle.art_rows.specs.declared.variant.Variant.TheVariants.{Coupled}
+use Rattle.art_rows.specs.declared.access.Access.TheVariants.{Exchange as Swap}
 use Rattle.art_stages.specs.declared.stage.Held.{Held}
 use Rattle.art_stages.specs.declared.stage.Hold.{Hold}
 use Rattle.art_stages.specs.declared.stage.Outcome.{Outcome}

@@ -5,10 +5,10 @@ use Rattle.art_rows.specs.declared.table.Kind.{Kind}
 use Rattle.art_rows.specs.declared.table.Kind.TheVariants.{Four, Sixteen, FortyEight, Full}
 use Rattle.art_rows.specs.declared.table.Child.TheVariants.{Row}
 use Rattle.art_rows.specs.Table.{kind_at, keys_at, more_keys_at, index_at, count_at}
-use Rattle.art_steps.specs.declared.access.Access.TheVariants.{Load}
-use Rattle.art_steps.specs.declared.access.Point.{Point}
-use Rattle.art_steps.specs.declared.variant.Variant.TheVariants.{Coupled}
-use Rattle.art_steps.specs.Steps.{Asks}
+use Rattle.art_rows.specs.declared.access.Access.TheVariants.{Load}
+use Rattle.art_rows.specs.declared.access.Point.{Point}
+use Rattle.art_rows.specs.declared.variant.Variant.TheVariants.{Coupled}
+use Rattle.art_rows.specs.Steps.{Asks}
 use Rattle.events.specs.declared.event.Call.TheVariants.{Scan}
 use Rattle.art_stages.specs.declared.stage.Held.{Held}
 use Rattle.art_stages.specs.declared.stage.Keys.{Keys as KeyWords}

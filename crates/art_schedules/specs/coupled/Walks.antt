@@ -7,12 +7,12 @@ use Rattle.events.specs.Limits.{pair_limit}
 use Rattle.map_object.specs.MapObject.{Contents, reply_to}
 use Rattle.art_rows.specs.declared.table.Shape.{Shape}
 use Rattle.art_rows.specs.Table.{row_words}
-use Rattle.art_steps.specs.declared.variant.Variant.TheVariants.{Coupled}
-use Rattle.art_steps.specs.declared.access.Access.{Access}
-use Rattle.art_steps.specs.declared.access.Point.{Point}
-use Rattle.art_steps.specs.Steps.{Asks}
-use Rattle.art_steps.specs.Fits.{word_of}
-use Rattle.art_steps.specs.Rows.{Setting}
+use Rattle.art_rows.specs.declared.variant.Variant.TheVariants.{Coupled}
+use Rattle.art_rows.specs.declared.access.Access.{Access}
+use Rattle.art_rows.specs.declared.access.Point.{Point}
+use Rattle.art_rows.specs.Steps.{Asks}
+use Rattle.art_rows.specs.Fits.{word_of}
+use Rattle.art_rows.specs.Rows.{Setting}
 use Rattle.art_stages.specs.declared.stage.Held.{Held}
 use Rattle.art_stages.specs.declared.stage.ScanStep.{ScanStep}
 use Rattle.art_stages.specs.declared.stage.ScanStep.TheVariants.{Release, Over}

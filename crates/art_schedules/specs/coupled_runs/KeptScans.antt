@@ -5,8 +5,8 @@ use Rattle.events.specs.declared.event.Call.{Call}
 use Rattle.events.specs.declared.event.Call.TheVariants.{Scan}
 use Rattle.events.specs.declared.event.Reply.{Reply}
 use Rattle.map_object.specs.MapObject.{Contents}
-use Rattle.art_steps.specs.declared.variant.Variant.TheVariants.{Coupled}
-use Rattle.art_steps.specs.declared.access.Access.{Access}
+use Rattle.art_rows.specs.declared.variant.Variant.TheVariants.{Coupled}
+use Rattle.art_rows.specs.declared.access.Access.{Access}
 use Rattle.art_core.specs.declared.process.Process.{Process}
 use Rattle.art_core.specs.Core.{Plan, State, begun, opened_on}
 use Rattle.art_stages.specs.Scans.{ScanAt}

@@ -10,8 +10,8 @@ use Rattle.art_rows.specs.declared.table.Kind.TheVariants.{Four}
 use Rattle.art_rows.specs.declared.table.Child.TheVariants.{Empty, Row, Leaf}
 use Rattle.art_rows.specs.Table.{table_words}
 use Rattle.art_rows.specs.Words.{key_bytes, is_obsolete, info_word, row_word, leaf_word}
-use Rattle.art_steps.specs.Rows.{Setting}
-use Rattle.art_steps.specs.Updates.{next_kind}
+use Rattle.art_rows.specs.Rows.{Setting}
+use Rattle.art_rows.specs.Updates.{next_kind}
 use Rattle.art_stages.specs.declared.stage.Held.{Held}
 use Rattle.art_stages.specs.declared.stage.Hold.{Hold}
 use Rattle.art_stages.specs.declared.stage.Growing.{Growing}

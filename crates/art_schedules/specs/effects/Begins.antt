@@ -4,9 +4,9 @@ use Rattle.art_rows.specs.declared.table.Child.{Child}
 use Rattle.art_rows.specs.declared.table.Child.TheVariants.{Empty, Row, Leaf}
 use Rattle.art_rows.specs.Table.{info_at}
 use Rattle.art_rows.specs.Words.{child_word}
-use Rattle.art_steps.specs.TreeCalls.{is_tree_call}
-use Rattle.art_steps.specs.Rows.{Setting, key_of, is_insert}
-use Rattle.art_steps.specs.Updates.{new_leaf, overwriting}
+use Rattle.art_rows.specs.TreeCalls.{is_tree_call}
+use Rattle.art_rows.specs.Rows.{Setting, key_of, is_insert}
+use Rattle.art_rows.specs.Updates.{new_leaf, overwriting}
 use Rattle.art_stages.specs.declared.stage.Held.{Held}
 use Rattle.art_stages.specs.declared.stage.Hold.{Hold}
 use Rattle.art_stages.specs.declared.stage.Work.{Work}

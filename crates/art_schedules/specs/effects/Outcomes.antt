@@ -7,7 +7,7 @@ use Rattle.map_object.specs.MapObject.{Contents, after_reply, IsLegalReply}
 use Rattle.art_rows.specs.declared.table.Shape.{Shape}
 use Rattle.art_rows.specs.declared.table.Kind.{Kind}
 use Rattle.art_rows.specs.Words.{is_obsolete}
-use Rattle.art_steps.specs.declared.variant.Variant.{Variant}
+use Rattle.art_rows.specs.declared.variant.Variant.{Variant}
 use Rattle.art_stages.specs.declared.stage.Outcome.{Outcome}
 use Rattle.art_stages.specs.declared.stage.Stage.{Stage}
 use Rattle.art_stages.specs.declared.stage.Stage.TheVariants.{Over}

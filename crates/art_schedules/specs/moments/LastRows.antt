@@ -5,7 +5,7 @@ use Rattle.events.specs.declared.event.Reply.{Reply}
 use Rattle.map_object.specs.MapObject.{Contents}
 use Rattle.art_rows.specs.declared.table.Kind.{Kind}
 use Rattle.art_rows.specs.Table.{row_words}
-use Rattle.art_steps.specs.declared.variant.Variant.TheVariants.{Optimistic}
+use Rattle.art_rows.specs.declared.variant.Variant.TheVariants.{Optimistic}
 use Rattle.art_core.specs.declared.process.Process.{Process}
 use Rattle.art_core.specs.Core.{Plan, State, begun, known_reply, opened_on}
 use Rattle.art_core.specs.Runs.{At}

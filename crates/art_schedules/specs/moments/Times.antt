@@ -1,11 +1,11 @@
 -- When a call got its words.
 use Rattle.std.specs.Prelude.{◌≡◌, ℕ, suc, ◌<◌, List, length, take, slice_get, slice_index, Option, Some}
 use Rattle.events.specs.declared.event.Call.{Call}
-use Rattle.art_steps.specs.declared.access.Access.{Access}
-use Rattle.art_steps.specs.declared.access.Point.{Point}
-use Rattle.art_steps.specs.Steps.{Asks}
-use Rattle.art_steps.specs.Act.{act}
-use Rattle.art_steps.specs.Fits.{word_of}
+use Rattle.art_rows.specs.declared.access.Access.{Access}
+use Rattle.art_rows.specs.declared.access.Point.{Point}
+use Rattle.art_rows.specs.Steps.{Asks}
+use Rattle.art_rows.specs.Act.{act}
+use Rattle.art_rows.specs.Fits.{word_of}
 use Rattle.art_core.specs.declared.process.Process.{Process}
 use Rattle.art_core.specs.Accesses.{told}
 use Rattle.art_core.specs.Core.{Plan, State, begun}

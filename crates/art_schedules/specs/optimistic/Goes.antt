@@ -5,10 +5,10 @@ use Rattle.map_object.specs.MapObject.{Contents, Does}
 use Rattle.art_rows.specs.declared.table.Shape.{Shape}
 use Rattle.art_rows.specs.declared.table.Kind.{Kind}
 use Rattle.art_rows.specs.Table.{kind_at, info_at}
-use Rattle.art_steps.specs.declared.access.Access.{Access}
-use Rattle.art_steps.specs.declared.access.Point.{Point}
-use Rattle.art_steps.specs.Steps.{Asks}
-use Rattle.art_steps.specs.Rows.{Setting}
+use Rattle.art_rows.specs.declared.access.Access.{Access}
+use Rattle.art_rows.specs.declared.access.Point.{Point}
+use Rattle.art_rows.specs.Steps.{Asks}
+use Rattle.art_rows.specs.Rows.{Setting}
 use Rattle.art_stages.specs.declared.stage.Hold.{Hold}
 use Rattle.art_stages.specs.declared.stage.Work.{Work}
 use Rattle.art_stages.specs.declared.stage.Stage.{Stage}

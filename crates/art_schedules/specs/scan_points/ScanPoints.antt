@@ -4,7 +4,7 @@ use Rattle.events.specs.declared.event.Call.TheVariants.{Scan}
 use Rattle.events.specs.declared.event.Reply.{Reply}
 use Rattle.events.specs.Limits.{pair_limit}
 use Rattle.map_object.specs.MapObject.{Contents, Does, reply_to}
-use Rattle.art_steps.specs.declared.variant.Variant.TheVariants.{Optimistic}
+use Rattle.art_rows.specs.declared.variant.Variant.TheVariants.{Optimistic}
 use Rattle.art_core.specs.declared.process.Process.{Process}
 use Rattle.art_core.specs.Core.{Plan, State, begun, known_reply, opened_on}
 use Rattle.art_core.specs.Runs.{At}

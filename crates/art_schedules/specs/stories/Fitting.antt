@@ -8,10 +8,10 @@ use Rattle.events.specs.declared.event.Reply.TheVariants as replies
 use Rattle.events.specs.Limits.{pair_limit}
 use Rattle.map_object.specs.MapObject.{Contents, Does}
 use Rattle.art_rows.specs.declared.table.Shape.{Shape}
-use Rattle.art_steps.specs.declared.access.Access.{Access}
-use Rattle.art_steps.specs.declared.access.Point.{Point}
-use Rattle.art_steps.specs.Steps.{Turn, Asks, Answers}
-use Rattle.art_steps.specs.declared.variant.Variant.{Variant}
+use Rattle.art_rows.specs.declared.access.Access.{Access}
+use Rattle.art_rows.specs.declared.access.Point.{Point}
+use Rattle.art_rows.specs.Steps.{Turn, Asks, Answers}
+use Rattle.art_rows.specs.declared.variant.Variant.{Variant}
 use Rattle.art_stages.specs.Calls.{call_turn, call_after, call_begun}
 use Rattle.art_stages.specs.Stages.{setting}
 use Rattle.art_core.specs.declared.process.Process.{Process}

@@ -5,10 +5,10 @@ use Rattle.art_rows.specs.declared.table.Shape.{Shape}
 use Rattle.art_rows.specs.declared.table.Kind.{Kind}
 use Rattle.art_rows.specs.Table.{row_words, rows_of, claims_of, base_of, kind_at}
 use Rattle.art_rows.specs.Words.{locked_word, released_word, obsolete_word, child_of}
-use Rattle.art_steps.specs.declared.access.Access.TheVariants.{Load, Store, Exchange, Add}
-use Rattle.art_steps.specs.declared.access.Point.{Point}
-use Rattle.art_steps.specs.Steps.{Asks, Answers}
-use Rattle.art_steps.specs.Rows.{Setting, locks}
+use Rattle.art_rows.specs.declared.access.Access.TheVariants.{Load, Store, Exchange, Add}
+use Rattle.art_rows.specs.declared.access.Point.{Point}
+use Rattle.art_rows.specs.Steps.{Asks, Answers}
+use Rattle.art_rows.specs.Rows.{Setting, locks}
 use Rattle.art_stages.specs.declared.stage.Held.{Held}
 use Rattle.art_stages.specs.Calls.{CallAt, call_turn, call_after}
 use Rattle.art_schedules.specs.versions.Holding.{OfRows, Named, Each, IsSlot, child_rows, IsKept, IsNamed, Knows, holds, fills}

@@ -8,9 +8,9 @@ use Rattle.art_rows.specs.declared.table.Child.{Child}
 use Rattle.art_rows.specs.declared.table.Child.TheVariants.{Empty, Row as ChildRow, Leaf}
 use Rattle.art_rows.specs.Table.{capacity, kind_at, child_at}
 use Rattle.art_rows.specs.Words.{is_locked, child_of}
-use Rattle.art_steps.specs.declared.variant.Variant.TheVariants.{Optimistic}
-use Rattle.art_steps.specs.Rows.{Setting, is_insert, locks}
-use Rattle.art_steps.specs.Updates.{next_kind}
+use Rattle.art_rows.specs.declared.variant.Variant.TheVariants.{Optimistic}
+use Rattle.art_rows.specs.Rows.{Setting, is_insert, locks}
+use Rattle.art_rows.specs.Updates.{next_kind}
 use Rattle.art_stages.specs.declared.stage.Held.{Held}
 use Rattle.art_stages.specs.declared.stage.Keys.{Keys}
 use Rattle.art_stages.specs.declared.stage.Finding.{Finding}

@@ -1,8 +1,8 @@
 -- The laws of rows and versions of the two full trees.
 use Rattle.std.specs.Prelude.{◌≡◌, ◌⊎◌, ℕ, ◌<◌, ◌^◌, List, ◌++◌, [], ◌∷◌}
 use Rattle.map_object.specs.MapObject.{Contents}
-use Rattle.art_steps.specs.declared.variant.Variant.{Variant}
-use Rattle.art_steps.specs.declared.variant.Variant.TheVariants.{Coupled, Optimistic}
+use Rattle.art_rows.specs.declared.variant.Variant.{Variant}
+use Rattle.art_rows.specs.declared.variant.Variant.TheVariants.{Coupled, Optimistic}
 use Rattle.art_core.specs.Core.{Plan, State, opened_on}
 use Rattle.art_core.specs.Runs.{Gives}
 use Rattle.art_core.specs.Plans.{IsRun}

@@ -4,7 +4,7 @@ use Rattle.art_rows.specs.declared.table.Shape.{Shape}
 use Rattle.art_rows.specs.declared.table.Kind.{Kind}
 use Rattle.art_rows.specs.Table.{row_words, claims_of}
 use Rattle.art_rows.specs.Words.{is_locked}
-use Rattle.art_steps.specs.declared.variant.Variant.{Variant}
+use Rattle.art_rows.specs.declared.variant.Variant.{Variant}
 use Rattle.art_core.specs.Core.{State}
 use Rattle.art_schedules.specs.versions.Versions.{IsSettled}
 

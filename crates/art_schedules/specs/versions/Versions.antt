@@ -6,7 +6,7 @@ use Rattle.art_rows.specs.declared.table.Kind.{Kind}
 use Rattle.art_rows.specs.declared.table.Kind.TheVariants.{Full}
 use Rattle.art_rows.specs.Table.{table_words, claims_of, root_base, kind_at}
 use Rattle.art_rows.specs.Words.{is_locked}
-use Rattle.art_steps.specs.declared.variant.Variant.{Variant}
+use Rattle.art_rows.specs.declared.variant.Variant.{Variant}
 use Rattle.art_stages.specs.declared.stage.Held.{Held}
 use Rattle.art_stages.specs.Stages.{setting}
 use Rattle.art_stages.specs.Calls.{CallAt, call_behind}

@@ -1,7 +1,7 @@
 -- Laws of the work in held rows.
 use Rattle.std.specs.Prelude.{◌≡◌, ℕ, ◌≤◌, List, length, false}
 use Rattle.art_rows.specs.Table.{table_words}
-use Rattle.art_steps.specs.Rows.{Setting, is_scan}
+use Rattle.art_rows.specs.Rows.{Setting, is_scan}
 use Rattle.art_stages.specs.declared.stage.Hold.{Hold}
 use Rattle.art_stages.specs.declared.stage.Work.{Work}
 use Rattle.art_stages.specs.declared.stage.Stage.{Stage}

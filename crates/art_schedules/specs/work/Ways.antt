@@ -4,7 +4,7 @@ use Rattle.art_rows.specs.declared.table.Child.{Child}
 use Rattle.art_rows.specs.Table.{info_at}
 use Rattle.art_rows.specs.Words.{child_of, is_obsolete}
 use Rattle.art_rows.specs.declared.table.Shape.{Shape}
-use Rattle.art_steps.specs.Rows.{Setting, key_of}
+use Rattle.art_rows.specs.Rows.{Setting, key_of}
 use Rattle.art_stages.specs.declared.stage.Held.{Held}
 use Rattle.art_stages.specs.declared.stage.Keys.{Keys}
 use Rattle.art_stages.specs.declared.stage.Finding.{Finding}

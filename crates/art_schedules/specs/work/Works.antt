@@ -9,8 +9,8 @@ use Rattle.art_rows.specs.declared.table.Child.{Child}
 use Rattle.art_rows.specs.declared.table.Child.TheVariants.{Empty, Row as ChildRow}
 use Rattle.art_rows.specs.Table.{capacity, rows_of, base_of, info_at, kind_at}
 use Rattle.art_rows.specs.Words.{key_bytes, info_word, row_word, child_of}
-use Rattle.art_steps.specs.Rows.{Setting, key_of, byte_at}
-use Rattle.art_steps.specs.Updates.{Under, new_leaf, next_kind}
+use Rattle.art_rows.specs.Rows.{Setting, key_of, byte_at}
+use Rattle.art_rows.specs.Updates.{Under, new_leaf, next_kind}
 use Rattle.art_stages.specs.declared.stage.Held.{Held}
 use Rattle.art_stages.specs.declared.stage.Keys.{Keys}
 use Rattle.art_stages.specs.declared.stage.Hold.{Hold}

@@ -6,9 +6,9 @@ use Rattle.art_serial.proofs.Common.{got_by, words_after, RunsAlone, ends, goes,
 use Rattle.std.specs.Prelude.{Some, slice_index, ◌==◌, if◌then◌else◌}
 use Rattle.std.proofs.lemmas.List.{set-get_or}
 use Rattle.events.specs.declared.event.Reply.TheVariants as replies
-use Rattle.art_steps.specs.declared.access.Access.TheVariants.{Load, Exchange}
-use Rattle.art_steps.proofs.GuardLemmas.{act-body}
-use Rattle.art_steps.proofs.TurnLemmas.{asks-same, answers-same, asks-answers}
+use Rattle.art_rows.specs.declared.access.Access.TheVariants.{Load, Exchange}
+use Rattle.art_rows.proofs.GuardLemmas.{act-body}
+use Rattle.art_rows.proofs.TurnLemmas.{asks-same, answers-same, asks-answers}
 
 -- ---- what is left of a call
 

@@ -7,9 +7,9 @@ use Rattle.art_serial.proofs.Common.{path_differs_at, lock, unlock, find, Has, L
 use Rattle.art_serial.proofs.Common.{slot_of, level_in, IsAtRest, LeadsTo, Comes, keys_in_row, count_in_row, found_of_slot}
 use Rattle.std.proofs.Common.{slice_set, Option}
 use Rattle.events.specs.declared.event.Reply.TheVariants as reply
-use Rattle.art_steps.specs.Rows.{releases_early}
-use Rattle.art_steps.specs.Coupled.{overwrite, seek_below, step_down, seek_at, seek_from, seek}
-use Rattle.art_steps.proofs.GuardLemmas.{seek_from-body}
+use Rattle.art_rows.specs.Rows.{releases_early}
+use Rattle.art_rows.specs.Coupled.{overwrite, seek_below, step_down, seek_at, seek_from, seek}
+use Rattle.art_rows.proofs.GuardLemmas.{seek_from-body}
 use Rattle.art_serial.proofs.alone.AloneLemmas.{give-comes, bind-comes, then-comes, if_true-comes, if_false-comes, same-comes, load-comes}
 use Rattle.art_serial.proofs.alone.AloneLemmas.{store-comes}
 use Rattle.art_serial.proofs.alone.RowRunLemmas.{with_lock, lock-comes, unlock-comes}

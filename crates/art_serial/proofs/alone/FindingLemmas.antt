@@ -4,7 +4,7 @@ use Rattle.art_serial.proofs.Common.{keys_at, more_keys_at, index_at, count_at, 
 use Rattle.art_serial.proofs.Common.{◌>>=◌, give, load, Setting, Row, is_insert, Has, Lacks, find_child, find_among, find_indexed, find_in, find}
 use Rattle.art_serial.proofs.Common.{byte_at, entry_slot, Comes, found_in, keys_in_row, found_of_slot}
 use Rattle.std.specs.Prelude.{slice_index, if◌then◌else◌, ◌==◌, Some, None}
-use Rattle.art_steps.specs.declared.access.Point.TheVariants as point
+use Rattle.art_rows.specs.declared.access.Point.TheVariants as point
 use Rattle.art_serial.proofs.alone.AloneLemmas.{give-comes, bind-comes, load-comes, load_at-comes}
 
 find_child-comes : (c : Setting) (slot : ℕ) (words : List ℕ)

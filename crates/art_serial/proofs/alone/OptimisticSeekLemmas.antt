@@ -7,8 +7,8 @@ use Rattle.art_serial.proofs.Common.{path_differs_at, check_of, unlock, Has, Lac
 use Rattle.art_serial.proofs.Common.{child_on, slot_of, level_in, IsAtRest, LeadsTo, Comes, keys_in_row, count_in_row, found_of_slot}
 use Rattle.std.proofs.Common.{slice_set, Option}
 use Rattle.events.specs.declared.event.Reply.TheVariants as reply
-use Rattle.art_steps.specs.Optimistic.{overwrite, seek_below, seek_at, seek_from, seek}
-use Rattle.art_steps.proofs.GuardLemmas.{seek_from_optimistic-body}
+use Rattle.art_rows.specs.Optimistic.{overwrite, seek_below, seek_at, seek_from, seek}
+use Rattle.art_rows.proofs.GuardLemmas.{seek_from_optimistic-body}
 use Rattle.art_serial.proofs.alone.AloneLemmas.{give-comes, bind-comes, then-comes, same-comes, load-comes, store-comes}
 use Rattle.art_serial.proofs.alone.RowRunLemmas.{unlock-comes, wait-comes, check_of-comes, take_row-comes}
 use Rattle.art_serial.proofs.alone.FindingLemmas.{find-comes}

@@ -6,9 +6,9 @@ use Rattle.art_serial.proofs.Common.{takes_unchecked, lock_point, lock, unlock, 
 use Rattle.art_serial.proofs.Common.{claim, Comes, Ends, unlocked_rows}
 use Rattle.std.specs.Prelude.{slice_index, if◌then◌else◌, ◌==◌}
 use Rattle.events.specs.declared.event.Reply.TheVariants as reply
-use Rattle.art_steps.specs.declared.access.Point.TheVariants as point
-use Rattle.art_steps.specs.Rows.{lock_again}
-use Rattle.art_steps.proofs.GuardLemmas.{lock_turn, lock_again-body, wait_turn, wait-body}
+use Rattle.art_rows.specs.declared.access.Point.TheVariants as point
+use Rattle.art_rows.specs.Rows.{lock_again}
+use Rattle.art_rows.proofs.GuardLemmas.{lock_turn, lock_again-body, wait_turn, wait-body}
 use Rattle.art_serial.proofs.alone.AloneLemmas.{give-comes, answer-ends, bind-comes, bind-ends, then-ends, if_true-comes, if_false-comes}
 use Rattle.art_serial.proofs.alone.AloneLemmas.{if_false-ends, same-comes, load-comes, load_at-comes, store_at-comes, exchange-comes, add-comes}
 use Rattle.art_serial.proofs.alone.AloneLemmas.{first_at-comes, each_none-comes, each-comes}

@@ -2,8 +2,8 @@
 use Rattle.art_serial.proofs.Common.{◌≡◌, ℕ, List, Bool, true, false, refl, subst, if◌then◌else◌, arith, Call, Get, Insert, Remove, Scan}
 use Rattle.art_serial.proofs.Common.{Replace, Reply, Shape, Variant, Setting, locks, procedure, act, IsAtRest, SameTreesAreOne, WaysLeadToValues}
 use Rattle.art_serial.proofs.Common.{LeavesArePut, LeavesAreRemoved, RunsAlone, is_seek, SeeksAreTheMaps}
-use Rattle.art_steps.specs.Coupled as coupled
-use Rattle.art_steps.specs.Optimistic as optimistic
+use Rattle.art_rows.specs.Coupled as coupled
+use Rattle.art_rows.specs.Optimistic as optimistic
 use Rattle.art_serial.proofs.alone.AloneLemmas.{act-comes, if_true-comes, if_false-comes}
 use Rattle.art_serial.proofs.alone.WayLemmas.{WritesWords, Seeks}
 use Rattle.art_serial.proofs.alone.CoupledSeekLemmas.{seeks-coupled}

@@ -6,7 +6,7 @@ use Rattle.art_serial.proofs.Common.{keys16_of, entries_of, low_bytes, child_of,
 use Rattle.art_serial.proofs.Common.{place-within, Setting, is_insert, Has, slot_of, entry_slot, HasForm, SameRow, found_in, keys_in_row}
 use Rattle.art_serial.proofs.Common.{count_in_row, found_of_slot}
 use Rattle.std.proofs.Common.{Option, option_map}
-use Rattle.art_steps.specs.Rows.{Found}
+use Rattle.art_rows.specs.Rows.{Found}
 
 -- ---- where slots are
 

@@ -9,9 +9,9 @@ use Rattle.art_serial.proofs.Common.{insert_in, insert_beside, Reached, Means, r
 use Rattle.art_serial.proofs.Common.{IsAtRest, LeadsTo, Comes, Ends, unlocked_rows, keys_in_row, count_in_row, found_of_slot}
 use Rattle.std.proofs.Common.{Option}
 use Rattle.events.specs.declared.event.Reply.TheVariants as reply
-use Rattle.art_steps.specs.Updates.{put}
-use Rattle.art_steps.specs.Coupled.{insert_below, insert_at, insert_from, insert}
-use Rattle.art_steps.proofs.GuardLemmas.{insert_from-body}
+use Rattle.art_rows.specs.Updates.{put}
+use Rattle.art_rows.specs.Coupled.{insert_below, insert_at, insert_from, insert}
+use Rattle.art_rows.proofs.GuardLemmas.{insert_from-body}
 use Rattle.art_serial.proofs.alone.AloneLemmas.{give-comes, bind-comes, ends-bind, then-comes, ends-then, load-comes}
 use Rattle.art_serial.proofs.alone.RowRunLemmas.{unlock-comes, unlock_all-comes, lock-comes, with_lock}
 use Rattle.art_serial.proofs.alone.FindingLemmas.{find-comes}

@@ -2,8 +2,8 @@
 use Rattle.art_serial.proofs.Common.{◌≡◌, ◌⊎◌, inl, inr, ℕ, ◌<◌, ◌≤◌, List, Bool, true, false, refl, ap, arith, if◌then◌else◌, Insert, Contents}
 use Rattle.art_serial.proofs.Common.{Shape, table_words, IsWithinLimits, Variant, Setting, locks, procedure, is_tree_call, Means, IsAtRest}
 use Rattle.art_serial.proofs.Common.{Comes, Ends, InsertsAreTheMaps}
-use Rattle.art_steps.specs.Coupled as coupled
-use Rattle.art_steps.specs.Optimistic as optimistic
+use Rattle.art_rows.specs.Coupled as coupled
+use Rattle.art_rows.specs.Optimistic as optimistic
 use Rattle.art_serial.proofs.alone.AloneLemmas.{act-comes, act-ends, act-comes-accesses, act-ends-accesses}
 use Rattle.art_serial.specs.inserts.Laws.{DoesOrRefuses}
 use Rattle.art_serial.proofs.inserts.InsertEndLemmas.{Given, Inserts, same-part}

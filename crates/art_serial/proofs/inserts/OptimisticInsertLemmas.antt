@@ -11,9 +11,9 @@ use Rattle.art_serial.proofs.Common.{child_in, child_on, slot_of, level_in, path
 use Rattle.art_serial.proofs.Common.{count_in_row, found_of_slot}
 use Rattle.std.proofs.Common.{slice_set, Option}
 use Rattle.events.specs.declared.event.Reply.TheVariants as reply
-use Rattle.art_steps.specs.Updates.{put}
-use Rattle.art_steps.specs.Optimistic.{below_level, insert_below, take_above, insert_leaf, insert_at, insert_from, insert}
-use Rattle.art_steps.proofs.GuardLemmas.{insert_from_optimistic-body}
+use Rattle.art_rows.specs.Updates.{put}
+use Rattle.art_rows.specs.Optimistic.{below_level, insert_below, take_above, insert_leaf, insert_at, insert_from, insert}
+use Rattle.art_rows.proofs.GuardLemmas.{insert_from_optimistic-body}
 use Rattle.art_serial.proofs.alone.AloneLemmas.{give-comes, bind-comes, then-comes, ends-then, load-comes, over-comes, over_none-comes}
 use Rattle.art_serial.proofs.alone.RowRunLemmas.{unlock-comes, wait-comes, check_of-comes, take_row-comes}
 use Rattle.art_serial.proofs.alone.FindingLemmas.{find-comes}

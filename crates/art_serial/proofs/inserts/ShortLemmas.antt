@@ -10,7 +10,7 @@ use Rattle.art_serial.proofs.Common.{make_room, put_in, store_index, spread_entr
 use Rattle.art_serial.proofs.Common.{accesses, Comes, Ends}
 use Rattle.std.proofs.Common.{nat_lt, Option}
 use Rattle.events.specs.declared.event.Reply.TheVariants as reply
-use Rattle.art_steps.specs.Updates.{put}
+use Rattle.art_rows.specs.Updates.{put}
 use Rattle.art_serial.proofs.alone.AloneLemmas.{bind-comes, bind-ends, same-comes, same-ends, give-comes, steps-once}
 use Rattle.art_serial.proofs.alone.RowRunLemmas.{lock-comes, lock-steps, wait-comes, wait-steps, with_lock}
 

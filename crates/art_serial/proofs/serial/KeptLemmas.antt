@@ -4,7 +4,7 @@ use Rattle.art_serial.proofs.Common.{slice_set, Option, All, IsSomeAnd, AllZip, 
 use Rattle.art_serial.proofs.Common.{Contents, after_reply, IsLegalReply, IsLegal, after_calls, Shape, clock, Variant, act, is_tree_call, Plan}
 use Rattle.art_serial.proofs.Common.{State, history_of, IsSerial, RunsAlone, ticked, SerialRun, none, more, IsDone, IsRunOn, calls_in}
 use Rattle.std.specs.Prelude.{Some, None}
-use Rattle.list_laws.proofs.Lists.{All-front, All-back}
+use Rattle.events.proofs.Lists.{All-front, All-back}
 use Rattle.events.specs.declared.operation.Operation.{Operation}
 use Rattle.events.specs.declared.operation.Response.{Response}
 use Rattle.orders.specs.Orders.{IsLegalCall, after_call}

@@ -8,8 +8,8 @@ use Rattle.std.specs.Prelude.{◌⊎◌, Some, None, slice_index}
 use Rattle.std.specs.Option.{option_map}
 use Rattle.std.proofs.lemmas.List.{map-set}
 use Rattle.std.proofs.lemmas.Option.{slice_get-map}
-use Rattle.logs.specs.Logs.{events_by_stamp, history_of_logs}
-use Rattle.logs.proofs.GrowthLemmas.{history-push}
+use Rattle.events.specs.Logs.{events_by_stamp, history_of_logs}
+use Rattle.events.proofs.GrowthLemmas.{history-push}
 use Rattle.art_core.proofs.HistoryLemmas.{map-same, changed-at, no-logs, all-idle}
 use Rattle.art_serial.proofs.serial.AloneRunLemmas.{HasCome, comes-further, comes-to-end}
 use Rattle.art_serial.proofs.serial.SerialHistoryLemmas.{IsSerialSoFar, calls_of, so-far-front, one-open, with_call, more-serial, more-calls}

@@ -7,7 +7,7 @@ use Rattle.std.proofs.lemmas.List.Sums.{sum_by-cons}
 use Rattle.events.specs.Events.{is_invocation}
 use Rattle.events.specs.Histories.{call_count}
 use Rattle.events.specs.Operations.{operations_from, response_from}
-use Rattle.logs.specs.Logs.{Stamped}
+use Rattle.events.specs.Logs.{Stamped}
 
 -- each call is answered before the next is invoked
 abbrev pub IsSerialSoFar : List Event → Type 0

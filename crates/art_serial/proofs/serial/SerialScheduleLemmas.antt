@@ -3,7 +3,7 @@ use Rattle.art_serial.proofs.Common.{◌≡◌, ℕ, ◌+◌, ◌^◌, ◌<◌, 
 use Rattle.art_serial.proofs.Common.{All-from_contains, Plan, State, opened_on, history_of, step, run_on, HasFewSteps, IsPlan, IsSerial}
 use Rattle.art_serial.proofs.Common.{IsLogged, logged, is-moved, nowhere, opened-logged, SerialRun}
 use Rattle.std.specs.Prelude.{◌⊎◌, Some, None}
-use Rattle.list_laws.proofs.Lists.{place_of-Contains}
+use Rattle.events.proofs.Lists.{place_of-Contains}
 use Rattle.art_core.proofs.HistoryLemmas.{one-move, one-step, steps-rise, all_steps, calls-within}
 use Rattle.art_serial.specs.serial.Serial.{HasRunAlone}
 use Rattle.art_serial.specs.serial.Laws.{SerialSchedulesRunAlone}

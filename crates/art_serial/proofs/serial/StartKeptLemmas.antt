@@ -5,7 +5,7 @@ use Rattle.art_serial.proofs.Common.{Insert, Reply, call_limit, operations, Cont
 use Rattle.art_serial.proofs.Common.{after_calls, after_reply-answer, Shape, opening, IsWithinLimits, Variant, is_tree_call, Plan, State}
 use Rattle.art_serial.proofs.Common.{history_of, inserts, start_plan, IsPlan, IsSerial, IsRunOn, calls_in}
 use Rattle.std.proofs.Common.{◌≢◌}
-use Rattle.list_laws.proofs.Lists.{AllPairs-across}
+use Rattle.events.proofs.Lists.{AllPairs-across}
 use Rattle.events.specs.declared.event.Reply.TheVariants as replies
 use Rattle.map_object.specs.MapObject.{below}
 use Rattle.map_object.proofs.MapLemmas.{below_gap, above_gap}

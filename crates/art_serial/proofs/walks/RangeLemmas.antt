@@ -6,8 +6,8 @@ use Rattle.std.specs.Prelude.{length, slice_index}
 use Rattle.art_rows.specs.Words.{big_endian}
 use Rattle.std.proofs.lemmas.Bool.{false_from_ne_true}
 use Rattle.std.proofs.lemmas.List.Elements.{filter-append}
-use Rattle.list_laws.proofs.FilterLemmas.{filter_yes}
-use Rattle.list_laws.proofs.Lists.{filter_none}
+use Rattle.events.proofs.FilterLemmas.{filter_yes}
+use Rattle.events.proofs.Lists.{filter_none}
 use Rattle.art_serial.proofs.walks.KeyLemmas.{BeginsWith}
 
 -- the number of the bytes that a key begins with

@@ -7,7 +7,7 @@ use Rattle.art_serial.proofs.Common.{count_at, index_at, child_of, keys4_of, key
 use Rattle.art_serial.proofs.Common.{numbers, Setting, Row, locks, load_child, Walked, walk_child, walk_in, Reached, child_in, child_on, slot_of}
 use Rattle.art_serial.proofs.Common.{entry_slot, pairs_in, pairs_below, level_in, path_in, IsAtRest, Comes}
 use Rattle.std.proofs.Common.{AllPairs, Option}
-use Rattle.art_steps.specs.Scan.{walk_slot, walk_place, walk_keys, walk_entry, walk_index}
+use Rattle.art_rows.specs.Scan.{walk_slot, walk_place, walk_keys, walk_entry, walk_index}
 use Rattle.art_serial.proofs.alone.AloneLemmas.{give-comes, bind-comes, load-comes}
 use Rattle.art_serial.proofs.alone.SlotLemmas.{slot-is}
 use Rattle.art_serial.proofs.alone.LikeLemmas.{Like, like-row}

@@ -6,7 +6,7 @@ use Rattle.art_serial.proofs.Common.{act, root, pairs_below, level_in, path_in, 
 use Rattle.art_serial.proofs.Common.{RunsAlone, Comes, ScansAreTheMaps}
 use Rattle.std.proofs.Common.{filter}
 use Rattle.events.specs.declared.event.Reply.TheVariants as reply
-use Rattle.art_steps.specs.Scan.{scan}
+use Rattle.art_rows.specs.Scan.{scan}
 use Rattle.art_core.specs.Meaning.{pairs_of}
 use Rattle.art_serial.proofs.alone.AloneLemmas.{give-comes, bind-comes, then-comes, act-comes}
 use Rattle.art_serial.proofs.alone.LikeLemmas.{Like, Nothing, like-start, like-row}

@@ -4,8 +4,8 @@ use Rattle.art_serial.proofs.Common.{Contains, flat_map, AllPairs-filter, Contai
 use Rattle.art_serial.proofs.Common.{FortyEight, Full, Part, numbers, Setting, Row, locks, Walked, can_lie, walk_in, walk_from, Reached}
 use Rattle.art_serial.proofs.Common.{pairs_below, level_in, path_in, IsAtRest}
 use Rattle.std.proofs.Common.{AllPairs}
-use Rattle.art_steps.specs.Scan.{bytes_of, walk_bytes}
-use Rattle.art_steps.proofs.GuardLemmas.{walk_from-body}
+use Rattle.art_rows.specs.Scan.{bytes_of, walk_bytes}
+use Rattle.art_rows.proofs.GuardLemmas.{walk_from-body}
 use Rattle.art_serial.proofs.alone.AloneLemmas.{same-comes}
 use Rattle.art_serial.proofs.alone.WayLemmas.{level-most}
 use Rattle.art_serial.proofs.walks.NumberLemmas.{Contains-from_numbers, numbers-rise}

@@ -8,7 +8,7 @@ use Rattle.art_serial.proofs.Common.{below, child_on, pairs_in, pairs_below, lev
 use Rattle.std.proofs.Common.{All}
 use Rattle.std.proofs.lemmas.List.{append_assoc}
 use Rattle.events.specs.Limits.{pair_limit}
-use Rattle.art_steps.specs.Scan.{with_leaf}
+use Rattle.art_rows.specs.Scan.{with_leaf}
 use Rattle.art_serial.proofs.alone.AloneLemmas.{give-comes, bind-comes, load-comes}
 use Rattle.art_serial.proofs.alone.PlaceLemmas.{sits-kind_at}
 use Rattle.art_serial.proofs.alone.LikeLemmas.{like-row, sits}

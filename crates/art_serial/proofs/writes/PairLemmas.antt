@@ -7,7 +7,7 @@ use Rattle.art_serial.proofs.Common.{row_word, ◌>>◌, give, store, Setting, R
 use Rattle.art_serial.proofs.Common.{pair_in, child_in, child_on, Comes, IsStored, fresh_base, IsOutside, HasPair}
 use Rattle.std.specs.Prelude.{slice_index, Some, None, if◌then◌else◌}
 use Rattle.std.proofs.lemmas.Bool.{eq-eqb}
-use Rattle.art_steps.specs.Updates.{lesser, greater}
+use Rattle.art_rows.specs.Updates.{lesser, greater}
 use Rattle.art_serial.proofs.alone.AloneLemmas.{give-comes, bind-comes, then-comes, store-comes}
 use Rattle.art_serial.proofs.alone.RowRunLemmas.{with_claim, claim-comes}
 use Rattle.art_serial.proofs.words.ByteLemmas.{keys4_below, AreBytes, keys4_back}

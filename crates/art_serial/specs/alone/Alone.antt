@@ -2,10 +2,10 @@
 use Rattle.std.specs.Prelude.{◌≡◌, ℕ, ◌+◌, List, [], ◌∷◌, Option, slice_set}
 use Rattle.events.specs.declared.event.Reply.{Reply}
 use Rattle.art_rows.specs.Words.{released_word}
-use Rattle.art_steps.specs.declared.access.Access.{Access}
-use Rattle.art_steps.specs.declared.access.Point.{Point}
-use Rattle.art_steps.specs.Steps.{Rest, Part, Asks, Answers}
-use Rattle.art_steps.specs.Rows.{Row}
+use Rattle.art_rows.specs.declared.access.Access.{Access}
+use Rattle.art_rows.specs.declared.access.Point.{Point}
+use Rattle.art_rows.specs.Steps.{Rest, Part, Asks, Answers}
+use Rattle.art_rows.specs.Rows.{Row}
 use Rattle.art_core.specs.Accesses.{got_by, words_after}
 
 -- What is left of a call, run alone on these words, comes to the last words and is answered so.

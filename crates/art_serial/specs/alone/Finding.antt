@@ -6,7 +6,7 @@ use Rattle.art_rows.specs.declared.table.Kind.{Kind}
 use Rattle.art_rows.specs.declared.table.Kind.TheVariants.{Four, Sixteen, FortyEight, Full}
 use Rattle.art_rows.specs.Table.{keys_at, more_keys_at, index_at, count_at}
 use Rattle.art_rows.specs.Words.{keys4_of, keys16_of, count_of, entries_of, child_of}
-use Rattle.art_steps.specs.Rows.{Setting, is_insert, Found, Has, Lacks}
+use Rattle.art_rows.specs.Rows.{Setting, is_insert, Found, Has, Lacks}
 use Rattle.art_core.specs.Meaning.{slot_of}
 
 -- the key bytes that the words have for a row; in kind 48 the entries of the byte's index word

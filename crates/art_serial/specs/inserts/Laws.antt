@@ -6,9 +6,9 @@ use Rattle.events.specs.declared.event.Reply.{Reply}
 use Rattle.map_object.specs.MapObject.{Contents, IsLegalReply, after_reply}
 use Rattle.art_rows.specs.declared.table.Shape.{Shape}
 use Rattle.art_rows.specs.Table.{IsWithinLimits}
-use Rattle.art_steps.specs.declared.variant.Variant.{Variant}
-use Rattle.art_steps.specs.TreeCalls.{is_tree_call}
-use Rattle.art_steps.specs.Act.{act}
+use Rattle.art_rows.specs.declared.variant.Variant.{Variant}
+use Rattle.art_rows.specs.TreeCalls.{is_tree_call}
+use Rattle.art_rows.specs.Act.{act}
 use Rattle.art_core.specs.Meaning.{Means}
 use Rattle.art_core.specs.Forms.{IsTree}
 use Rattle.art_serial.specs.alone.Alone.{RunsAlone, accesses}

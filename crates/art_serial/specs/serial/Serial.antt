@@ -10,9 +10,9 @@ use Rattle.events.specs.declared.operation.Operation.{Operation}
 use Rattle.events.specs.Operations.{operations}
 use Rattle.art_rows.specs.declared.table.Shape.{Shape}
 use Rattle.art_rows.specs.Table.{clock, table_words}
-use Rattle.art_steps.specs.declared.variant.Variant.{Variant}
-use Rattle.art_steps.specs.Act.{act}
-use Rattle.art_steps.specs.TreeCalls.{is_tree_call}
+use Rattle.art_rows.specs.declared.variant.Variant.{Variant}
+use Rattle.art_rows.specs.Act.{act}
+use Rattle.art_rows.specs.TreeCalls.{is_tree_call}
 use Rattle.art_core.specs.declared.process.Process.{Process}
 use Rattle.art_core.specs.Core.{Plan, State, history_of, finished, opened_on}
 use Rattle.art_core.specs.Runs.{Gives, HasFewSteps}

@@ -4,7 +4,7 @@ use Rattle.events.specs.declared.event.Call.TheVariants.{Scan}
 use Rattle.events.specs.Limits.{pair_limit}
 use Rattle.map_object.specs.MapObject.{Contents}
 use Rattle.art_rows.specs.declared.table.Shape.{Shape}
-use Rattle.art_steps.specs.declared.variant.Variant.{Variant}
+use Rattle.art_rows.specs.declared.variant.Variant.{Variant}
 use Rattle.art_core.specs.Meaning.{Means}
 use Rattle.art_serial.specs.trees.Trees.{IsAtRest}
 use Rattle.art_serial.specs.alone.Laws.{DoesAlone}

@@ -5,8 +5,8 @@ use Rattle.art_rows.specs.declared.table.Kind.TheVariants.{Four}
 use Rattle.art_rows.specs.declared.table.Child.TheVariants.{Leaf}
 use Rattle.art_rows.specs.Table.{row_words, rows_of, table_words, claims_of, capacity}
 use Rattle.art_rows.specs.Words.{key_bytes}
-use Rattle.art_steps.specs.Rows.{Setting, Row, byte_at}
-use Rattle.art_steps.specs.Updates.{Under, put_in, pair_in, fill, next_kind}
+use Rattle.art_rows.specs.Rows.{Setting, Row, byte_at}
+use Rattle.art_rows.specs.Updates.{Under, put_in, pair_in, fill, next_kind}
 use Rattle.art_core.specs.Meaning.{slot_of}
 use Rattle.art_core.specs.Forms.{HasForm}
 use Rattle.art_serial.specs.words.Stored.{IsStored}

@@ -7,7 +7,7 @@ use Rattle.art_rows.specs.declared.table.Child.{Child}
 use Rattle.art_rows.specs.declared.table.Child.TheVariants.{Empty}
 use Rattle.art_rows.specs.Table.{row_words, claims_of, base_of, info_at}
 use Rattle.art_rows.specs.Words.{info_word, row_word}
-use Rattle.art_steps.specs.Updates.{Under}
+use Rattle.art_rows.specs.Updates.{Under}
 use Rattle.art_serial.specs.words.Stored.{IsShort}
 use Rattle.art_core.specs.Meaning.{child_on}
 use Rattle.art_core.specs.Forms.{HasForm}

@@ -1,8 +1,8 @@
 use Rattle.std.proofs.Common.{List, ◌≡◌, ℕ, ◌<◌, ◌≤◌, ◌+◌, ◌-◌, length, ⊎_elim, arith}
 use Rattle.events.specs.declared.operation.Operation.{Operation}
-use Rattle.list_laws.proofs.Lists.{All-from_contains}
+use Rattle.events.proofs.Lists.{All-from_contains}
 use Rattle.map_object.specs.MapObject.{Contents}
-use Rattle.configurations.specs.Configurations.{IsReachable}
+use Rattle.memo.specs.Configurations.{IsReachable}
 use Rattle.call_choices.specs.Standing.{HasMoved, rest_of}
 use Rattle.call_choices.specs.declared.branch.CallSearch.{CallSearch}
 use Rattle.call_search.proofs.searching.search_on.Goals as goal

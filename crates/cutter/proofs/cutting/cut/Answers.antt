@@ -1,8 +1,8 @@
 use Rattle.cutter.proofs.Common.{arith, All, operations, IsLinearizable, AreSegments, keys_in_order-operations}
 use Rattle.std.proofs.lemmas.Result.{IfOk-weaker}
-use Rattle.segments.specs.SegmentOrders.{HasNoOrder}
+use Rattle.orders.specs.SegmentOrders.{HasNoOrder}
 use Rattle.events.proofs.OperationLemmas.{length-operations_le}
-use Rattle.segments.proofs.LocalityLemmas.{not_linearizable-segment}
+use Rattle.orders.proofs.LocalityLemmas.{not_linearizable-segment}
 use Rattle.cutter.proofs.cutting.cut.Goals as goal
 
 pub ranges_by_low_key-requires-clause-few : goal.ranges_by_low_key-requires-clause-few

@@ -1,4 +1,5 @@
-use Rattle.events.proofs.Common.{◌≡◌, ◌+◌, length, take, drop, arith, err_from_is_err_and, take_more, take_all, length-take-le, parts_at}
+use Rattle.events.proofs.Common.{◌≡◌, ◌+◌, length, take, drop, arith, err_from_is_err_and, take_more, take_all, length-take-le}
+use Rattle.events.proofs.Places.{parts_at}
 use Rattle.events.proofs.HistoryLemmas.{AreHistoryEvents-none}
 use Rattle.events.proofs.histories.test_events.Goals as goal
 

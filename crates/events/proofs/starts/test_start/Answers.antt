@@ -1,4 +1,5 @@
-use Rattle.events.proofs.Common.{take, drop, get_or, ◌+◌, err_from_is_err_and, get_or_default, take_more, take_all, parts_at}
+use Rattle.events.proofs.Common.{take, drop, get_or, ◌+◌, err_from_is_err_and, get_or_default, take_more, take_all}
+use Rattle.events.proofs.Places.{parts_at}
 use Rattle.events.proofs.starts.test_start.Goals as goal
 
 pub loop-place-preserved : goal.loop-place-preserved

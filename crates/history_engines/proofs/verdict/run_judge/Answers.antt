@@ -2,7 +2,7 @@ use Rattle.std.proofs.Common.{rules}
 use Rattle.history_text.specs.Limits.{text_limit}
 use Rattle.history_engines.specs.Answers.{IsHintedJudgeAnswer, IsHistoryRefusal}
 use Rattle.judge.specs.Gates.{HoldsForText}
-use Rattle.answer_hints.proofs.ReadText.{IsRun-hinted}
+use Rattle.outcomes.proofs.HintedText.{IsRun-hinted}
 use Rattle.outcomes.proofs.Reading.{made-status}
 use Rattle.history_engines.proofs.HeldTexts.{held-whole}
 use Rattle.history_engines.proofs.WholeHistories.{IsHintedJudgeAnswer-whole, IsHistoryRefusal-whole}

@@ -2,7 +2,7 @@
 use Rattle.std.proofs.Common.{[], ◌∷◌, ◌++◌, take, map, sym, subst, ap, ◌∙◌}
 use Rattle.std.specs.List.{AllZip}
 use Rattle.std.proofs.lemmas.List.{map-append, take_more, take_all}
-use Rattle.segments.specs.SegmentOrders.{IsOrderOf}
+use Rattle.orders.specs.SegmentOrders.{IsOrderOf}
 use Rattle.judge_tests.proofs.ZipLemmas.{AllZip-more}
 use Rattle.judge_tests.proofs.layers.orders_of.Goals as goal
 

@@ -1,6 +1,6 @@
 use Rattle.std.proofs.Common.{map, take}
 use Rattle.std.specs.List.{AllZip}
-use Rattle.segments.specs.SegmentOrders.{IsOrderOf}
+use Rattle.orders.specs.SegmentOrders.{IsOrderOf}
 use Rattle.judge_tests.proofs.layers.orders_of.Given as goal
 
 abbrev pub invariant-loop-segment : goal.invariant-loop-segment

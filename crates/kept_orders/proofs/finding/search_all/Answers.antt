@@ -1,5 +1,5 @@
 use Rattle.kept_orders.proofs.Common.{◌<◌, List, refl, sym, ◌∙◌, subst, AllPairs, Operation, NonePrecedesItself, IsOrder, IsLinearizable, Stands}
-use Rattle.configurations.specs.Counts.{ReachesMoreThan}
+use Rattle.memo.specs.Counts.{ReachesMoreThan}
 use Rattle.kept_orders.proofs.FindLemmas.{over, keeps}
 use Rattle.kept_orders.proofs.finding.search_all.Goals as goal
 

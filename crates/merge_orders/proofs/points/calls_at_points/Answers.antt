@@ -1,7 +1,7 @@
 use Rattle.merge_orders.proofs.Common.{◌≡◌, ◌<◌, map, length, Some, refl, sym, ap, ◌∙◌, ◌≢◌, slice_get, All, AllPairs, slice_get_read}
 use Rattle.std.specs.Prelude.{option_map}
 use Rattle.std.proofs.lemmas.Option.{slice_get-map}
-use Rattle.list_laws.proofs.Lists.{All-at}
+use Rattle.events.proofs.Lists.{All-at}
 use Rattle.merge_orders.proofs.PlacedLemmas.{at_point-more}
 use Rattle.merge_orders.proofs.points.calls_at_points.Goals as goal
 use Rattle.merge_orders.proofs.points.calls_at_points.Goals.{After-deref}

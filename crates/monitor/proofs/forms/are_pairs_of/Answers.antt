@@ -1,5 +1,5 @@
 use Rattle.monitor.proofs.Common.{◌≡◌, ◌+◌, ◌∷◌, ◌++◌, take, drop, get_or, arith, subst, sym, ◌∙◌, take_more, get_or_default, ArePairsOf}
-use Rattle.list_laws.proofs.Places.{parts_at}
+use Rattle.events.proofs.Places.{parts_at}
 use Rattle.events.proofs.StartLemmas.{is_above-true, is_above-All}
 use Rattle.monitor.proofs.PairLemmas.{pairs_push, pairs_next}
 use Rattle.monitor.proofs.forms.are_pairs_of.Goals.{then-pair-low-via-then-pair-low, then-pair-low-via-else-pair-low+then-high-pair}

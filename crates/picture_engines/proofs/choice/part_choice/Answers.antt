@@ -1,7 +1,7 @@
 use Rattle.std.proofs.Common.{◌≡◌, List, ◌++◌, ap, ◌∙◌, subst, rules}
 use Rattle.events.specs.declared.operation.Operation.{Operation}
-use Rattle.losses.specs.OwnParts.{AreOwnLosses}
-use Rattle.losses.specs.declared.lost_keys.KeyLoss.{KeyLoss}
+use Rattle.monitor.specs.OwnParts.{AreOwnLosses}
+use Rattle.monitor.specs.declared.lost_keys.KeyLoss.{KeyLoss}
 use Rattle.map_object.specs.MapObject.{Contents}
 use Rattle.picture_engines.specs.Choices.{AreShown, places_begun}
 use Rattle.picture_engines.proofs.choice.part_choice.Goals as goal

@@ -1,5 +1,5 @@
 use Rattle.std.proofs.Common.{◌≡◌, ◌+◌, ◌*◌, ◌/◌, ap, arith}
-use Rattle.list_laws.proofs.NumberLemmas.{greatest_more}
+use Rattle.events.proofs.NumberLemmas.{greatest_more}
 use Rattle.picture_text.specs.Layout.{width_for}
 use Rattle.picture_text.proofs.layout.asked_width.Goals as goal
 use Rattle.picture_text.proofs.layout.asked_width.Goals.{then-need-ge72, else-need-ge72}

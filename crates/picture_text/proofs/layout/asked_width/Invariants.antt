@@ -1,6 +1,6 @@
 use Rattle.std.proofs.Common.{◌≡◌, map, take}
 use Rattle.std.specs.Prelude.{max, min}
-use Rattle.list_laws.specs.Lists.{greatest}
+use Rattle.events.specs.Lists.{greatest}
 use Rattle.picture_text.specs.Layout.{width_for}
 use Rattle.picture_text.proofs.layout.asked_width.Given as goal
 

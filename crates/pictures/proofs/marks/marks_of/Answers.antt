@@ -1,6 +1,6 @@
 use Rattle.pictures.proofs.Common.{◌≡◌, Some, length, get_or, refl, sym, ap, ◌∙◌, subst, arith, slice_get, slice_get_read, slice_get-get_or}
 use Rattle.pictures.proofs.Common.{operations, Bar}
-use Rattle.list_laws.proofs.NumberLemmas.{slice_get-below}
+use Rattle.events.proofs.NumberLemmas.{slice_get-below}
 use Rattle.pictures.proofs.MarkLemmas.{AreMarksBelow, point-at, point-within, mark-in-bar, mark-more, marks-rise}
 use Rattle.pictures.proofs.marks.marks_of.Goals as goal
 

@@ -1,5 +1,5 @@
 use Rattle.fronts.proofs.Common.{false, sym, ◌∙◌, get_or_default, places}
-use Rattle.list_laws.proofs.NumberLemmas.{has_number-Contains, has_number-from_Contains}
+use Rattle.events.proofs.NumberLemmas.{has_number-Contains, has_number-from_Contains}
 use Rattle.fronts.proofs.front.Front.has.Goals as goal
 
 pub returns : goal.returns

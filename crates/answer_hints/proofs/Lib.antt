@@ -1,2 +1,0 @@
-pub mod OverlapLemmas
-pub mod ReadText

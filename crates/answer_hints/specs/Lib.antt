@@ -1,4 +1,0 @@
-pub mod Overlaps
-pub mod Averages
-pub mod Hints
-pub mod Outcomes

@@ -1,5 +1,0 @@
-use Rattle.art_steps.proofs.AccessLemmas.{act-small}
-use Rattle.art_steps.proofs.laws.replies_list_few_pairs.Goals as goal
-
-pub returns : goal.returns
-returns c = act-small

@@ -1,5 +1,0 @@
-use Rattle.kept_pasts.proofs.TakenLemmas.{taken_calls_disagree}
-use Rattle.kept_pasts.proofs.event_laws.taken_calls_disagree.Goals as goal
-
-pub returns : goal.returns
-returns c = taken_calls_disagree

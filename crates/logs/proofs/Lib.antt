@@ -1,3 +1,0 @@
-pub mod SortLemmas
-pub mod GrowthLemmas
-pub mod MergeLemmas

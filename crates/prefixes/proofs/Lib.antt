@@ -1,3 +1,0 @@
-mod EventLemmas
-mod CutLemmas
-mod PrefixLemmas

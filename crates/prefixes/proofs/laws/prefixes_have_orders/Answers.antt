@@ -1,5 +1,0 @@
-use Rattle.prefixes.proofs.PrefixLemmas.{prefix_has_order}
-use Rattle.prefixes.proofs.laws.prefixes_have_orders.Goals as goal
-
-pub returns : goal.returns
-returns c history count h = prefix_has_order history.start history.events count h

@@ -1,5 +1,0 @@
-pub mod Cuts
-pub mod SegmentOrders
-pub mod SegmentView
-pub mod Segments
-pub mod WholeSegments

@@ -1,5 +1,0 @@
-use Rattle.telling.proofs.TellLemmas.{tell_by_value}
-use Rattle.telling.proofs.laws.answers_that_tell_less.Goals as goal
-
-pub returns : goal.returns
-returns c = tell_by_value

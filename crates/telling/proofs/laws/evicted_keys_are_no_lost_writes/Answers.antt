@@ -1,5 +1,0 @@
-use Rattle.telling.proofs.CacheOrderLemmas.{no_lost_writes}
-use Rattle.telling.proofs.laws.evicted_keys_are_no_lost_writes.Goals as goal
-
-pub returns : goal.returns
-returns c = no_lost_writes

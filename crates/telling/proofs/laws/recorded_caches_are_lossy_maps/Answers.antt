@@ -1,5 +1,0 @@
-use Rattle.telling.proofs.CacheOrderLemmas.{lossy_maps}
-use Rattle.telling.proofs.laws.recorded_caches_are_lossy_maps.Goals as goal
-
-pub returns : goal.returns
-returns c = lossy_maps

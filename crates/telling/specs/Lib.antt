@@ -1,9 +1,0 @@
-pub mod CacheLaws
-pub mod CacheRecordings
-pub mod CacheRecords
-pub mod CacheValues
-pub mod Finds
-pub mod FoundAfterOther
-pub mod Laws
-pub mod Lossy
-pub mod Tellings
