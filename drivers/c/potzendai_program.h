@@ -41,7 +41,7 @@ static inline bool *potzendai_has_done(const char *command)
 /* The program to start. For that script it is the last one that it built: the script takes as long as ten rounds to see that nothing has changed. */
 static inline const char *potzendai_find_bench(const char *command, char path[POTZENDAI_PATH])
 {
-    static const char *const names[] = {"history_bench", "judge_bench", "bench"};
+    static const char *const names[] = {"bench_judge", "bench_histories", "bench"};
     const char *slash = strrchr(potzendai_bench, '/');
     bool is_script = slash && strcmp(slash, "/bench") == 0;
     int folder = slash ? (int)(slash - potzendai_bench) : 0;

@@ -1659,11 +1659,11 @@ func (p *program) at(command string) string {
 	if filepath.Base(path) != "bench" || !strings.Contains(path, "/") {
 		return path
 	}
-	for _, name := range []string{"history_bench", "judge_bench", "bench"} {
+	for _, name := range []string{"bench_judge", "bench_histories", "bench"} {
 		built, _ := filepath.Abs(filepath.Join(filepath.Dir(p.path), "crates", name, "out", name))
 		_, wanting := os.Stat(built)
 		found, err := os.Stat(filepath.Join(filepath.Dir(built), "built"))
-		does := command == "judge" || name != "history_bench"
+		does := command == "judge" || name != "bench_judge"
 		if err == nil && wanting == nil && does && p.answered[command == "judge"] && found.ModTime().After(newest) {
 			path, newest = built, found.ModTime()
 		}

@@ -1391,7 +1391,7 @@ public final class Potzendai {
          * `bench` itself takes as long as ten rounds to see that nothing has changed. */
         String at(String command) {
             if (!answered.contains(command.equals("judge")) || !path.endsWith("/bench")) return path;
-            return List.of("history_bench", "judge_bench", "bench").stream().skip(command.equals("judge") ? 0 : 1)
+            return List.of("bench_judge", "bench_histories", "bench").stream().skip(command.equals("judge") ? 0 : 1)
                 .map(name -> Path.of(path).resolveSibling("crates/" + name + "/out/" + name).toFile())
                 .filter(file -> file.canExecute() && new File(file.getParent(), "built").isFile())
                 .max(Comparator.comparingLong(file -> new File(file.getParent(), "built").lastModified())).map(File::toString).orElse(path);

@@ -106,7 +106,7 @@ class Program:
         self.path = options.bench or os.environ.get("POTZENDAI_BENCH") or self.found()
         self.ask("follow", b"")
         folder, script = os.path.split(self.path)
-        parts = ("judge_bench", "bench")  # those that follow streams
+        parts = ("bench_histories", "bench")  # those that follow streams
         outs = [os.path.join(folder, "crates", name, "out", "") for name in parts]
         built = [(os.path.getmtime(out + "built"), out + name) for name, out in zip(parts, outs)
                  if script == "bench" and os.access(out + name, os.X_OK) and os.path.isfile(out + "built")]

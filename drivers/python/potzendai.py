@@ -952,7 +952,7 @@ class Program(Judge):
         folder, script = os.path.split(self.path)
         if (command == "judge") not in self.answered or not folder or script != "bench":
             return self.path
-        names = ("history_bench", "judge_bench", "bench")[command != "judge":]
+        names = ("bench_judge", "bench_histories", "bench")[command != "judge":]
         outs = [os.path.join(folder, "crates", name, "out", "") for name in names]
         built = [(os.path.getmtime(out + "built"), out + name) for name, out in zip(names, outs)
                  if os.access(out + name, os.X_OK) and os.path.isfile(out + "built")]

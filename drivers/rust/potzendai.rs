@@ -1497,7 +1497,7 @@ impl Program {
         if !is_script || !self.has_answered(command).load(SeqCst) {
             return script;
         }
-        let names = ["history_bench", "judge_bench", "bench"].into_iter().skip(usize::from(command != "judge"));
+        let names = ["bench_judge", "bench_histories", "bench"].into_iter().skip(usize::from(command != "judge"));
         let built = names.map(|name| script.with_file_name(format!("crates/{name}/out/{name}"))).filter(|built| built.is_file());
         let built = built.filter(|built| built.with_file_name("built").is_file());
         built.max_by_key(|built| built.with_file_name("built").metadata().and_then(|found| found.modified()).ok()).unwrap_or(script)

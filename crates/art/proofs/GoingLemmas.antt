@@ -17,15 +17,15 @@ use Rattle.art_rows.specs.Rows.{Setting, locks, is_scan}
 use Rattle.art_rows.specs.Steps.{Turn, Rest, access_of, reply_of}
 use Rattle.art_rows.proofs.AccessLemmas.{act-stays}
 use Rattle.art_rows.proofs.TurnLemmas.{asks-of}
-use Rattle.art_stages.specs.declared.stage.Stage.{Stage}
-use Rattle.art_stages.specs.declared.stage.Entry.TheVariants.{Root}
-use Rattle.art_stages.specs.declared.stage.ScanStep.TheVariants.{Lock, Wait}
-use Rattle.art_stages.specs.Automaton.{start_at, stage_after, turn_at}
-use Rattle.art_stages.specs.Scans.{ScanAt, at, no_walk, scan_turn, scan_start, scan_after}
-use Rattle.art_stages.specs.Calls.{CallAt, OnKey, OnScan, rest_at, call_turn, call_begun, begun_as}
-use Rattle.art_stages.proofs.BehindLemmas.{call_next, behind}
-use Rattle.art_stages.proofs.StepLemmas.{goes_on}
-use Rattle.art_stages.proofs.ScanLemmas.{scan_goes_on}
+use Rattle.art_control_states.specs.declared.stage.Stage.{Stage}
+use Rattle.art_control_states.specs.declared.stage.Entry.TheVariants.{Root}
+use Rattle.art_control_states.specs.declared.stage.ScanStep.TheVariants.{Lock, Wait}
+use Rattle.art_control_states.specs.Automaton.{start_at, stage_after, turn_at}
+use Rattle.art_control_states.specs.Scans.{ScanAt, at, no_walk, scan_turn, scan_start, scan_after}
+use Rattle.art_control_states.specs.Calls.{CallAt, OnKey, OnScan, rest_at, call_turn, call_begun, begun_as}
+use Rattle.art_control_states.proofs.BehindLemmas.{call_next, behind}
+use Rattle.art_control_states.proofs.StepLemmas.{goes_on}
+use Rattle.art_control_states.proofs.ScanLemmas.{scan_goes_on}
 use Rattle.art_scan.specs.declared.scanning.Scanning.{Scanning}
 use Rattle.art_scan.specs.Scans.{scan_of, low_of, high_of}
 use Rattle.art.specs.declared.task.Going.{Going}

@@ -4,8 +4,8 @@ use Rattle.events.specs.declared.event.Call.{Call}
 use Rattle.events.specs.declared.event.Call.TheVariants.{Scan}
 use Rattle.art_rows.specs.Rows.{Setting}
 use Rattle.art_rows.specs.Fits.{Fits}
-use Rattle.art_stages.specs.Calls.{CallAt, rest_at}
-use Rattle.art_stages.specs.Calls as calls
+use Rattle.art_control_states.specs.Calls.{CallAt, rest_at}
+use Rattle.art_control_states.specs.Calls as calls
 use Rattle.art_scan.specs.Scans.{scan_of, low_of, high_of, IsRoomy}
 use Rattle.art.specs.declared.task.Going.{Going}
 use Rattle.art.specs.declared.task.Going.TheVariants.{OnKey, OnScan}

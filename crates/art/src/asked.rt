@@ -5,24 +5,24 @@ ghost use Rattle.art_rows.specs.Table.{child_at, more_keys_at};
 ghost use Rattle.art_rows.specs.Rows.{locks};
 ghost use Rattle.art_rows.specs.Updates.{new_leaf};
 ghost use Rattle.art_rows.specs.Steps.{access_of, reply_of};
-ghost use Rattle.art_stages.specs.Stages.{leaf_place, new_child_at, place_in, keys_after};
-ghost use Rattle.art_stages.specs.Automaton.{load_of, store_of, unlock_of, check_turn, turn_at, between_turn};
-ghost use Rattle.art_stages.specs.Automaton.{find_turn, pair_turn, put_keys_turn, grow_keys_turn, grow_leaf_turn, grow_count_turn};
+ghost use Rattle.art_control_states.specs.Stages.{leaf_place, new_child_at, place_in, keys_after};
+ghost use Rattle.art_control_states.specs.Automaton.{load_of, store_of, unlock_of, check_turn, turn_at, between_turn};
+ghost use Rattle.art_control_states.specs.Automaton.{find_turn, pair_turn, put_keys_turn, grow_keys_turn, grow_leaf_turn, grow_count_turn};
 ghost use Rattle.art_rows.specs.declared.access.Access.TheVariants.{Exchange as Swap};
-ghost use Rattle.art_stages.specs.Sound.{is_sound, has_keys, is_sixteen};
-ghost use Rattle.art_stages.specs.Settings.{setting_of};
+ghost use Rattle.art_control_states.specs.Sound.{is_sound, has_keys, is_sixteen};
+ghost use Rattle.art_control_states.specs.Settings.{setting_of};
 
+use art_control_states::{
+    Down, Growing, HeldRow, Hold, Keys, Pair, PairWord, Setting, Stage, Target, child_slot, claims,
+    count, count_slot, index_slot, info_slot, keys_slot, more_keys_slot, next_kind,
+};
 use art_rows::{
     Access, Kind, child_word, entry_at, index_with, key_byte, key_bytes_with, keys_with,
     keys16_with, more_keys16_with, moved_info, pair_info, pair_keys, row_word, version_locked,
     version_obsolete, version_released,
 };
-use art_stages::{
-    Down, Growing, Held, Hold, Keys, Pair, PairWord, Setting, Stage, Target, child_slot, claims,
-    count, count_slot, index_slot, info_slot, keys_slot, more_keys_slot, next_kind,
-};
 
-fn find_access(setting: &Setting, row: Held) -> Access
+fn find_access(setting: &Setting, row: HeldRow) -> Access
     ensures { access_of (find_turn row.kind (setting_of setting.now) row) ≡ Some result }
 {
     let word = match row.kind {
@@ -333,7 +333,7 @@ fn store(word: usize, value: u64) -> Access
     Access::Store { word, value }
 }
 
-fn unlock(row: Held) -> Access
+fn unlock(row: HeldRow) -> Access
     ensures { access_of (unlock_of row) ≡ Some result }
 {
     Access::Store {
@@ -342,7 +342,7 @@ fn unlock(row: Held) -> Access
     }
 }
 
-fn check(row: Held) -> Access
+fn check(row: HeldRow) -> Access
     ensures { access_of (check_turn row) ≡ Some result }
 {
     Access::Load {

@@ -1,13 +1,13 @@
 // A call on a key as it goes on.
 ghost use Rattle.std.specs.Prelude.{◌≡◌, true};
-ghost use Rattle.art_stages.specs.Stages.{reply_for};
-ghost use Rattle.art_stages.specs.Sound.{is_sound};
+ghost use Rattle.art_control_states.specs.Stages.{reply_for};
+ghost use Rattle.art_control_states.specs.Sound.{is_sound};
 
 use crate::asked::access_at;
 use crate::points::point_at;
-use art_after::make_stage;
+use art_control_states::{Outcome, Setting, Stage};
 use art_rows::{Access, Point};
-use art_stages::{Outcome, Setting, Stage};
+use art_transitions::make_stage;
 use events::Reply;
 
 /// A get, an insert or a remove under way.
@@ -22,8 +22,8 @@ impl KeyCall {
     ghost use Rattle.art_rows.specs.Rows.{locks};
     ghost use Rattle.art_rows.specs.Steps.{access_of, reply_of};
     ghost use Rattle.art_rows.specs.Act.{point_of};
-    ghost use Rattle.art_stages.specs.Automaton.{start_at, turn_at, stage_after as stage_behind};
-    ghost use Rattle.art_stages.specs.Settings.{setting_of};
+    ghost use Rattle.art_control_states.specs.Automaton.{start_at, turn_at, stage_after as stage_behind};
+    ghost use Rattle.art_control_states.specs.Settings.{setting_of};
 
     /// A call that has made no access yet.
     pub fn begin(setting: &Setting) -> KeyCall

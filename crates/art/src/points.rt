@@ -2,11 +2,11 @@
 ghost use Rattle.std.specs.Prelude.{◌≡◌};
 ghost use Rattle.art_rows.specs.Act.{point_of};
 ghost use Rattle.art_rows.specs.Rows.{lock_point};
-ghost use Rattle.art_stages.specs.Automaton.{turn_at, find_turn, put_keys_turn, grow_keys_turn, pair_turn, grow_leaf_turn, grow_count_turn};
-ghost use Rattle.art_stages.specs.Settings.{setting_of};
+ghost use Rattle.art_control_states.specs.Automaton.{turn_at, find_turn, put_keys_turn, grow_keys_turn, pair_turn, grow_leaf_turn, grow_count_turn};
+ghost use Rattle.art_control_states.specs.Settings.{setting_of};
 
+use art_control_states::{Growing, HeldRow, Hold, Keys, Pair, PairWord, Setting, Stage};
 use art_rows::{Kind, Point};
-use art_stages::{Growing, Held, Hold, Keys, Pair, PairWord, Setting, Stage};
 
 fn lock_point(setting: &Setting, base: usize) -> Point
     ensures { result ≡ lock_point setting.now.shape base }
@@ -54,7 +54,7 @@ pub fn point_at(setting: &Setting, stage: &Stage) -> Option<Point>
 }
 
 /// FIND's first access is at no point.
-fn find_point(setting: &Setting, row: Held) -> Option<Point>
+fn find_point(setting: &Setting, row: HeldRow) -> Option<Point>
     ensures { result ≡ point_of (find_turn row.kind (setting_of setting.now) row) }
 {
     match row.kind {

@@ -2,14 +2,14 @@
 ghost use Rattle.std.specs.Prelude.{◌≡◌, ℕ, ◌<◌, false, List, [], ◌∷◌, Some, None, OnOk, is_some};
 ghost use Rattle.art_rows.specs.Act.{act};
 ghost use Rattle.art_rows.specs.Steps.{access_of, reply_of};
-ghost use Rattle.art_stages.specs.Calls.{rest_at, call_begun};
-ghost use Rattle.art_stages.specs.Settings.{setting_of as call_setting};
+ghost use Rattle.art_control_states.specs.Calls.{rest_at, call_begun};
+ghost use Rattle.art_control_states.specs.Settings.{setting_of as call_setting};
 ghost use Rattle.art.specs.Going.{at_of, keys_between, scanned_in, WordsLeadTo};
 
 use crate::key_call::KeyCall;
+use art_control_states::Setting;
 use art_rows::{Access, Point, Shape, TreeCall, Variant};
 use art_scan::Scanning;
-use art_stages::Setting;
 use events::{Call, Memory, Reply};
 use std::alloc::Global;
 

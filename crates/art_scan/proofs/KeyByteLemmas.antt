@@ -3,7 +3,7 @@ use Rattle.art_scan.proofs.Common.{◌≡◌, ℕ, zero, suc, ◌+◌, ◌-◌, 
 use Rattle.art_scan.proofs.Common.{inr, ⊎_elim, false≢true, cases_lt, leb-true, ◌⊎◌, ◌&&◌, if◌then◌else◌, nat_le, Option, None, Kind, Four, Sixteen}
 use Rattle.art_scan.proofs.Common.{FortyEight, Full, low_bytes, place_of, keys4_of, length-keys4, Frame, can_lie, keys_among, row_at, ScanAt}
 use Rattle.art_scan.proofs.Common.{place_slot, bytes_at, is_sound_frame, frame_slot, frame_test, IsPassed}
-use Rattle.art_stages.specs.Sound.{has_keys}
+use Rattle.art_control_states.specs.Sound.{has_keys}
 use Rattle.art_scan.proofs.ByteLemmas.{zero_left, zero_right, suc_right}
 use Rattle.art_scan.proofs.NextLemmas.{bytes_bare, bytes_not, not_tested}
 

@@ -1,30 +1,30 @@
 -- The next byte, index word or child of a scan, by what is met.
 use Rattle.art_scan.proofs.Common.{◌≡◌, ℕ, zero, suc, ◌+◌, ◌-◌, ◌*◌, ◌≤◌, List, [], ◌∷◌, refl, ap, sym, ◌∙◌, Bool, true, false, arith, false≢true}
 use Rattle.art_scan.proofs.Common.{and_left, if◌then◌else◌, Option, None, filter, Kind, Four, Sixteen, FortyEight, Full, less_one, bytes_of, can_lie}
-use Rattle.art_scan.proofs.Common.{numbers, Held, Frame, Index, row_at, Walk, ScanAt, at, in_word, slot_at, bytes_at, child_from, lies, index_at_list}
-use Rattle.art_scan.proofs.Common.{words_at, frame_at, has_any, frame_test, frame_slot, words_behind}
+use Rattle.art_scan.proofs.Common.{numbers, HeldRow, Frame, Index, row_at, Walk, ScanAt, at, in_word, slot_at, bytes_at, child_from, lies, index_at_list}
+use Rattle.art_scan.proofs.Common.{words_at, frame_at, has_any, frame_test, frame_slot, words_that_follow}
 use Rattle.std.specs.Prelude.{Some}
 use Rattle.art_scan.proofs.ByteLemmas.{none_from}
 
 -- index words
 
-list_some : (n : Held) (w : Walk) (j m : ℕ) (xs : List ℕ) (other : ScanAt) → has_any xs ≡ true
+list_some : (n : HeldRow) (w : Walk) (j m : ℕ) (xs : List ℕ) (other : ScanAt) → has_any xs ≡ true
     → index_at_list n w j m xs other ≡ at (Index n j m) w
 list_some n w j m [] other h = absurd (false≢true h)
 list_some n w j m (x ∷ xs) other h = refl
 
-list_none : (n : Held) (w : Walk) (j m : ℕ) (xs : List ℕ) (other : ScanAt) → has_any xs ≡ false → index_at_list n w j m xs other ≡ other
+list_none : (n : HeldRow) (w : Walk) (j m : ℕ) (xs : List ℕ) (other : ScanAt) → has_any xs ≡ false → index_at_list n w j m xs other ≡ other
 list_none n w j m [] other h = refl
 list_none n w j m (x ∷ xs) other h = absurd (false≢true (sym h))
 
-pub words_some : (low high : ℕ) (n : Held) (w : Walk) (j m : ℕ) (other : ScanAt) → (m ≡ 0 → ⊥)
+pub words_some : (low high : ℕ) (n : HeldRow) (w : Walk) (j m : ℕ) (other : ScanAt) → (m ≡ 0 → ⊥)
     → has_any (filter (in_word j) (bytes_of low high (row_at n))) ≡ true → words_at low high n w j m other ≡ at (Index n j (m - 1)) w
 words_some low high n w j zero other some h = absurd (some refl)
 words_some low high n w j (suc m) other some h =
     list_some n w j m (filter (in_word j) (bytes_of low high (row_at n))) (words_at low high n w (j + 1) m other) h
     ∙ ap (λ k. at (Index n j k) w) (sym (less_one m))
 
-pub words_skip : (low high : ℕ) (n : Held) (w : Walk) (j m : ℕ) (other : ScanAt) → (m ≡ 0 → ⊥)
+pub words_skip : (low high : ℕ) (n : HeldRow) (w : Walk) (j m : ℕ) (other : ScanAt) → (m ≡ 0 → ⊥)
     → has_any (filter (in_word j) (bytes_of low high (row_at n))) ≡ false
     → words_at low high n w j m other ≡ words_at low high n w (j + 1) (m - 1) other
 words_skip low high n w j zero other some h = absurd (some refl)
@@ -32,7 +32,7 @@ words_skip low high n w j (suc m) other some h =
     list_none n w j m (filter (in_word j) (bytes_of low high (row_at n))) (words_at low high n w (j + 1) m other) h
     ∙ ap (λ k. words_at low high n w (j + 1) k other) (sym (less_one m))
 
-pub words_past : (low high : ℕ) (n : Held) (w : Walk) (j m : ℕ) (other : ScanAt)
+pub words_past : (low high : ℕ) (n : HeldRow) (w : Walk) (j m : ℕ) (other : ScanAt)
     → ((y : ℕ) → 8 * j ≤ y → can_lie low high (row_at n) y ≡ false) → words_at low high n w j m other ≡ other
 words_past low high n w j zero other h = refl
 words_past low high n w j (suc m) other h =
@@ -74,14 +74,14 @@ module _ (test : ℕ → Bool) (slot_of : ℕ → Option ℕ) (child : ℕ → �
 pub frame_bytes : (kind : Kind) (low high : ℕ) (w : Walk) (f : Frame) (other : ScanAt)
     → frame_at kind low high w f other
     ≡ bytes_at (frame_test kind low high f) (frame_slot kind f) (child_from w f) f.byte f.left
-    (words_behind kind low high f.row w f.index f.words other)
+    (words_that_follow kind low high f.row w f.index f.words other)
 frame_bytes Four low high w f other = refl
 frame_bytes Sixteen low high w f other = refl
 frame_bytes FortyEight low high w f other = refl
 frame_bytes Full low high w f other = refl
 
-pub behind_none : (kind : Kind) (low high : ℕ) (n : Held) (w : Walk) (j m : ℕ) (other : ScanAt) → (kind ≡ FortyEight → ⊥)
-    → words_behind kind low high n w j m other ≡ other
+pub behind_none : (kind : Kind) (low high : ℕ) (n : HeldRow) (w : Walk) (j m : ℕ) (other : ScanAt) → (kind ≡ FortyEight → ⊥)
+    → words_that_follow kind low high n w j m other ≡ other
 behind_none Four low high n w j m other h = refl
 behind_none Sixteen low high n w j m other h = refl
 behind_none FortyEight low high n w j m other h = absurd (h refl)

@@ -1,12 +1,12 @@
 -- The way of a scan, from its lowest row on.
 use Rattle.art_scan.proofs.Common.{◌≡◌, ℕ, List, [], ◌∷◌, refl, ap, sym, ◌∙◌, true, false, Bool, ⊎_elim, false≢true, None, if◌then◌else◌, ◌⊎◌, Kind}
-use Rattle.art_scan.proofs.Common.{Four, Sixteen, FortyEight, Full, reply_of, Held, Frame, Lock, Exchange, Wait, Info, Keys, FirstKeys, SecondKeys}
+use Rattle.art_scan.proofs.Common.{Four, Sixteen, FortyEight, Full, reply_of, HeldRow, Frame, Lock, Exchange, Wait, Info, Keys, FirstKeys, SecondKeys}
 use Rattle.art_scan.proofs.Common.{Index, Child, Release, Over, child_of, Walk, ScanAt, at, on_way, with_frame, frame_of, frame_at, way_at, scan_turn}
 use Rattle.art_scan.proofs.Common.{resume_at, row_begins, words_at, visit_list, child_after, step_after, is_over, has_any, with_pair}
 use Rattle.std.proofs.lemmas.Option.{none-some}
 use Rattle.art_rows.specs.Rows.{Setting}
-use Rattle.art_stages.specs.declared.stage.ScanStep.{ScanStep}
-use Rattle.art_stages.specs.Automaton.{keys_one}
+use Rattle.art_control_states.specs.declared.stage.ScanStep.{ScanStep}
+use Rattle.art_control_states.specs.Automaton.{keys_one}
 use Rattle.art_rows.specs.declared.table.Child.{Child as ChildOf}
 use Rattle.art_rows.specs.declared.table.Child.TheVariants.{Leaf}
 
@@ -33,32 +33,32 @@ pub behind_leaf : (c : Setting) (low high : ℕ) (f : Frame) (key value : ℕ) (
 behind_leaf c low high f key value w v x counted e =
     ap (λ u. resume_at c low high (with_frame u f)) (sym counted) ∙ (resume_frame c low high v f ∙ e)
 
-pub begins_full : (c : Setting) (low high : ℕ) (n : Held) (w : Walk) → n.kind ≡ Full
+pub begins_full : (c : Setting) (low high : ℕ) (n : HeldRow) (w : Walk) → n.kind ≡ Full
     → resume_at c low high (with_frame w (frame_of n (keys_one 0) 0 0)) ≡ row_begins n.kind c low high n w
 begins_full c low high n w e =
     resume_frame c low high w (frame_of n (keys_one 0) 0 0)
     ∙ (ap (λ k. frame_at k low high w (frame_of n (keys_one 0) 0 0) (resume_at c low high w)) e
     ∙ sym (ap (λ k. row_begins k c low high n w) e))
 
-begins_as : (c : Setting) (low high : ℕ) (n : Held) (w : Walk) (k : Kind) → at (Keys n) w ≡ row_begins k c low high n w → n.kind ≡ k
+begins_as : (c : Setting) (low high : ℕ) (n : HeldRow) (w : Walk) (k : Kind) → at (Keys n) w ≡ row_begins k c low high n w → n.kind ≡ k
     → at (Keys n) w ≡ row_begins n.kind c low high n w
 begins_as c low high n w k here is = here ∙ sym (ap (λ j. row_begins j c low high n w) is)
 
-pub begins_keys : (c : Setting) (low high : ℕ) (n : Held) (w : Walk) → (n.kind ≡ Four) ⊎ (n.kind ≡ Sixteen)
+pub begins_keys : (c : Setting) (low high : ℕ) (n : HeldRow) (w : Walk) → (n.kind ≡ Four) ⊎ (n.kind ≡ Sixteen)
     → at (Keys n) w ≡ row_begins n.kind c low high n w
 begins_keys c low high n w e = ⊎_elim (begins_as c low high n w Four refl) (begins_as c low high n w Sixteen refl) e
 
-pub begins_words : (c : Setting) (low high : ℕ) (n : Held) (w : Walk) (found : Bool) (here x : ScanAt) → n.kind ≡ FortyEight
+pub begins_words : (c : Setting) (low high : ℕ) (n : HeldRow) (w : Walk) (found : Bool) (here x : ScanAt) → n.kind ≡ FortyEight
     → words_at low high n w 0 32 (resume_at c low high w) ≡ (if found then here else resume_at c low high w)
     → x ≡ (if found then here else resume_at c low high w) → x ≡ row_begins n.kind c low high n w
 begins_words c low high n w found here x e next is = is ∙ (sym next ∙ sym (ap (λ k. row_begins k c low high n w) e))
 
-pub visit_some : (c : Setting) (low high : ℕ) (n : Held) (w : Walk) (xs : List ℕ) → has_any xs ≡ true
+pub visit_some : (c : Setting) (low high : ℕ) (n : HeldRow) (w : Walk) (xs : List ℕ) → has_any xs ≡ true
     → row_begins n.kind c low high n w ≡ visit_list c low high n w xs
 visit_some c low high n w [] h = absurd (false≢true h)
 visit_some c low high n w (x ∷ xs) h = refl
 
-pub visit_none : (c : Setting) (low high : ℕ) (n : Held) (w : Walk) (xs : List ℕ) → has_any xs ≡ false
+pub visit_none : (c : Setting) (low high : ℕ) (n : HeldRow) (w : Walk) (xs : List ℕ) → has_any xs ≡ false
     → resume_at c low high w ≡ visit_list c low high n w xs
 visit_none c low high n w [] h = refl
 visit_none c low high n w (x ∷ xs) h = absurd (false≢true (sym h))

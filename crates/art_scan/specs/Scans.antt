@@ -1,7 +1,7 @@
 -- A scan under way, as its automaton sees it.
 use Rattle.std.specs.Prelude.{ℕ, Option, Some, None}
 use Rattle.art_rows.specs.Rows.{Setting}
-use Rattle.art_stages.specs.Scans.{Walk, ScanAt, at, no_walk, scan_after}
+use Rattle.art_control_states.specs.Scans.{Walk, ScanAt, at, no_walk, scan_after}
 use Rattle.art_scan.specs.declared.lists.Lists.{Lists}
 use Rattle.art_scan.specs.declared.scanning.Scanning.{Scanning}
 use Rattle.art_scan.specs.Walks.{walk_of, HasRoomForOneMore}
@@ -22,8 +22,8 @@ abbrev pub high_of : Scanning → ℕ
 high_of s = s.high
 
 -- the scan's stage after a word
-abbrev pub scan_behind : Setting → Scanning → ℕ → ScanAt
-scan_behind c s word = scan_after c (low_of s) (high_of s) (scan_of s) word
+abbrev pub scan_after_word : Setting → Scanning → ℕ → ScanAt
+scan_after_word c s word = scan_after c (low_of s) (high_of s) (scan_of s) word
 
 abbrev pub HaveRoom : Option Lists → Type 0
 HaveRoom None = ⊥

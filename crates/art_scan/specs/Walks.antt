@@ -6,10 +6,10 @@ use Rattle.art_rows.specs.declared.table.Kind.TheVariants.{FortyEight, Full}
 use Rattle.art_rows.specs.Table.{child_at}
 use Rattle.art_rows.specs.Words.{big_endian, info_of, place_of}
 use Rattle.art_rows.specs.Scan.{with_leaf}
-use Rattle.art_stages.specs.declared.stage.Held.{Held}
-use Rattle.art_stages.specs.declared.stage.Frame.{Frame}
-use Rattle.art_stages.specs.Stages.{keys_among}
-use Rattle.art_stages.specs.Scans.{Walk, ScanAt, walked, words_at, child_from, lies, word_test, entry_slot, place_slot}
+use Rattle.art_control_states.specs.declared.stage.HeldRow.{HeldRow}
+use Rattle.art_control_states.specs.declared.stage.Frame.{Frame}
+use Rattle.art_control_states.specs.Stages.{keys_among}
+use Rattle.art_control_states.specs.Scans.{Walk, ScanAt, walked, words_at, child_from, lies, word_test, entry_slot, place_slot}
 use Rattle.art_scan.specs.declared.lists.Lists.{Lists}
 use Rattle.art_scan.specs.declared.children.WalkedByte.{WalkedByte}
 
@@ -47,14 +47,14 @@ abbrev pub IsPassed : Kind → Frame → ℕ → Type 0
 IsPassed kind f y = (frame_slot kind f y ≡ None) ⊎ ((low high : ℕ) → frame_test kind low high f y ≡ false)
 
 -- some key under a byte of a row is not greater than this one
-abbrev pub begins_by : ℕ → Held → ℕ → Bool
+abbrev pub begins_by : ℕ → HeldRow → ℕ → Bool
 begins_by high n x =
     nat_le ((256 * big_endian 0 (info_of n.kind n.info).path + x) * 256 ^ (3 - (info_of n.kind n.info).level)) high
 
 -- after the bytes of a row come its index words, in kind 48
-abbrev pub words_behind : Kind → ℕ → ℕ → Held → Walk → ℕ → ℕ → ScanAt → ScanAt
-words_behind FortyEight low high n w j m other = words_at low high n w (j + 1) m other
-words_behind kind low high n w j m other = other
+abbrev pub words_that_follow : Kind → ℕ → ℕ → HeldRow → Walk → ℕ → ℕ → ScanAt → ScanAt
+words_that_follow FortyEight low high n w j m other = words_at low high n w (j + 1) m other
+words_that_follow kind low high n w j m other = other
 
 -- the list has an item
 abbrev pub has_any : List ℕ → Bool

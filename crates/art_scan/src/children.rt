@@ -1,15 +1,15 @@
 // The next child of a row that a scan walks.
 ghost use Rattle.std.specs.Prelude.{◌≡◌, ◌+◌, ◌<◌, ◌≤◌, ℕ, true, false, nat_le, Some, None, IfSome, if◌then◌else◌, ◌⊎◌};
-ghost use Rattle.art_stages.specs.Scans.{Walk, ScanAt, at, words_at, frame_at, child_from, lies, in_word, entry_slot};
-ghost use Rattle.art_stages.specs.declared.stage.ScanStep.TheVariants.{Child};
+ghost use Rattle.art_control_states.specs.Scans.{Walk, ScanAt, at, words_at, frame_at, child_from, lies, in_word, entry_slot};
+ghost use Rattle.art_control_states.specs.declared.stage.ScanStep.TheVariants.{Child};
 ghost use Rattle.art_scan.specs.Sound.{is_sound_frame, is_sound_step};
-ghost use Rattle.art_scan.specs.Walks.{child_or, words_behind, frame_test, frame_slot, IsPassed};
+ghost use Rattle.art_scan.specs.Walks.{child_or, words_that_follow, frame_test, frame_slot, IsPassed};
 
 use crate::met_bytes::is_met_in;
 use crate::next_keys::{next_key4, next_key16};
-use crate::ranges::{bytes_ahead, is_behind};
+use crate::ranges::{all_are_after, bytes_ahead};
+use art_control_states::{Frame, HeldRow, ScanStep, child_slot};
 use art_rows::{Kind, index_entry};
-use art_stages::{Frame, Held, ScanStep, child_slot};
 
 /// A byte that has a slot, and the slot; the byte is 256 if there is none.
 #[derive(Clone, Copy)]
@@ -112,7 +112,7 @@ pub struct WalkedByte {
 fn next_walked(low: u64, high: u64, frame: &Frame) -> Option<WalkedByte>
     requires { is_sound_frame frame.now ≡ true }
     ensures next { (w : Walk) (other : ScanAt) → frame_at frame.now.row.kind low high w frame.now other
-        ≡ child_or frame.now result w (words_behind frame.now.row.kind low high frame.now.row w frame.now.index frame.now.words other) }
+        ≡ child_or frame.now result w (words_that_follow frame.now.row.kind low high frame.now.row w frame.now.index frame.now.words other) }
     ensures left { IfSome result (λ n. nat_le (n.next + n.left) 256 ≡ true) }
 {
     let ahead = bytes_ahead(low, frame.row, frame.byte, frame.left);
@@ -124,7 +124,7 @@ fn next_walked(low: u64, high: u64, frame: &Frame) -> Option<WalkedByte>
     if found.byte >= end {
         return None;
     }
-    if is_behind(high, frame.row, found.byte) {
+    if all_are_after(high, frame.row, found.byte) {
         return None;
     }
     Some(WalkedByte {
@@ -141,7 +141,7 @@ pub fn move_on(low: u64, high: u64, frame: &mut Frame, slot: &mut usize) -> bool
     ensures found { result ≡ true → (w : Walk) (other : ScanAt) → frame_at frame.old.row.kind low high w frame.old other
         ≡ at (Child frame.new slot.new) w }
     ensures none { result ≡ false → (w : Walk) (other : ScanAt) → frame_at frame.old.row.kind low high w frame.old other
-        ≡ words_behind frame.new.row.kind low high frame.new.row w frame.new.index frame.new.words other }
+        ≡ words_that_follow frame.new.row.kind low high frame.new.row w frame.new.index frame.new.words other }
     ensures sound { is_sound_frame frame.new ≡ true }
 {
     match next_walked(low, high, frame) {
@@ -160,7 +160,7 @@ pub fn move_on(low: u64, high: u64, frame: &mut Frame, slot: &mut usize) -> bool
 pub fn go_to_word(
     low: u64,
     high: u64,
-    row: Held,
+    row: HeldRow,
     index: u32,
     words: u32,
     step: &mut ScanStep,
@@ -171,7 +171,7 @@ pub fn go_to_word(
 {
     if words == 0 {
         false
-    } else if is_behind(high, row, 8 * index) {
+    } else if all_are_after(high, row, 8 * index) {
         false
     } else if is_met_in(low, high, row, index) {
         *step = ScanStep::Index {
@@ -187,16 +187,16 @@ pub fn go_to_word(
 
 /// In kind 48, moves the step to the next index word after this one, among this many. Returns
 /// whether there is one.
-pub fn go_behind(
+pub fn go_after(
     low: u64,
     high: u64,
-    row: Held,
+    row: HeldRow,
     index: u32,
     words: u32,
     step: &mut ScanStep,
 ) -> bool
     requires { index + words ≤ 31 }
-    ensures next { (w : Walk) (other : ScanAt) → words_behind row.kind low high row w index words other
+    ensures next { (w : Walk) (other : ScanAt) → words_that_follow row.kind low high row w index words other
         ≡ (if result then at step.new w else other) }
     ensures sound { result ≡ true → is_sound_step step.new ≡ true }
 {
@@ -219,7 +219,7 @@ pub fn go_to_child(low: u64, high: u64, frame: &Frame, step: &mut ScanStep) -> b
             *step = child_step(frame, byte);
             true
         }
-        None => go_behind(low, high, frame.row, frame.index, frame.words, step),
+        None => go_after(low, high, frame.row, frame.index, frame.words, step),
     }
 }
 

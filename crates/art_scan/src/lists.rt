@@ -1,18 +1,18 @@
 // The rows that a scan has read, the pairs that it has found, and its way.
 ghost use Rattle.std.specs.Prelude.{◌≡◌, ◌≤◌, true, length, map, All};
 ghost use Rattle.art_rows.specs.Scan.{has_row};
-ghost use Rattle.art_stages.specs.Stages.{row_at};
+ghost use Rattle.art_control_states.specs.Stages.{row_at};
 ghost use Rattle.art_scan.specs.Sound.{is_sound_frame, is_sound_step};
 
+use art_control_states::{Frame, HeldRow, ScanStep};
 use art_rows::MAX_LEAVES;
-use art_stages::{Frame, Held, ScanStep};
 use events::{Memory, Pairs};
 use std::alloc::Global;
 
 /// What a scan stores in addition to its step.
 #[derive(Drop)]
 pub struct Lists {
-    pub(crate) rows: Vec<Held>,
+    pub(crate) rows: Vec<HeldRow>,
     /// How many of the rows are released.
     pub(crate) released: usize,
     pub(crate) pairs: Vec<(u64, u64)>,
@@ -23,7 +23,7 @@ pub struct Lists {
 }
 
 /// Is a row of this base among them?
-fn is_among(rows: &[Held], base: u32) -> bool
+fn is_among(rows: &[HeldRow], base: u32) -> bool
     ensures { result ≡ has_row base (map row_at rows.now) }
 {
     match rows {
@@ -34,7 +34,7 @@ fn is_among(rows: &[Held], base: u32) -> bool
 
 impl Lists {
     ghost use Rattle.std.specs.Prelude.{◌<◌, ◌-◌, Some, None, OnOk, IfSome, [], vec_len, vec_capacity};
-    ghost use Rattle.art_stages.specs.Scans.{at, no_walk, with_held, with_frame, release_rows};
+    ghost use Rattle.art_control_states.specs.Scans.{at, no_walk, with_held, with_frame, release_rows};
     ghost use Rattle.art_scan.specs.Walks.{walk_of, with_pair, HasRoomForOneMore};
 
     /// No row, no pair and no way.
@@ -62,7 +62,7 @@ impl Lists {
     }
 
     /// Notes a row that is met. One that was met before keeps its first place.
-    pub fn meet(&mut self, row: Held)
+    pub fn meet(&mut self, row: HeldRow)
         requires { vec_len self.old.rows < vec_capacity self.old.rows }
         ensures met { walk_of self.new ≡ with_held row (walk_of self.old) }
         ensures way { self.new.way ≡ self.old.way }

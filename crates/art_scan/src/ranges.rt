@@ -2,11 +2,11 @@
 ghost use Rattle.std.specs.Prelude.{◌≡◌, ℕ, ◌+◌, ◌-◌, ◌*◌, ◌<◌, ◌≤◌, ◌^◌, true, false};
 ghost use Rattle.art_rows.specs.Words.{big_endian, info_of};
 ghost use Rattle.art_rows.specs.Scan.{can_lie};
-ghost use Rattle.art_stages.specs.Stages.{row_at};
+ghost use Rattle.art_control_states.specs.Stages.{row_at};
 ghost use Rattle.art_scan.specs.Walks.{begins_by};
 
+use art_control_states::HeldRow;
 use art_rows::{Kind, info_level};
-use art_stages::Held;
 
 /// The path of a row as a number.
 fn path_number(kind: Kind, info: u64) -> u64
@@ -39,7 +39,7 @@ fn keys_below(level: u32) -> u64
 }
 
 /// Does some key from the first to the last begin with the row's path and this byte?
-pub fn can_lie(low: u64, high: u64, row: Held, byte: u32) -> bool
+pub fn can_lie(low: u64, high: u64, row: HeldRow, byte: u32) -> bool
     requires { byte < 256 }
     ensures { result ≡ can_lie low high (row_at row) byte }
 {
@@ -51,7 +51,7 @@ pub fn can_lie(low: u64, high: u64, row: Held, byte: u32) -> bool
 /// Do all keys that begin with the row's path and this byte, or with a greater one, come after the
 /// range's last key?
 #[inline(always)]
-pub fn is_behind(high: u64, row: Held, byte: u32) -> bool
+pub fn all_are_after(high: u64, row: HeldRow, byte: u32) -> bool
     requires { byte < 256 }
     ensures behind { result ≡ true → (low y : ℕ) → byte ≤ y → can_lie low high (row_at row) y ≡ false }
     ensures not { result ≡ false → begins_by high row byte ≡ true }
@@ -77,7 +77,7 @@ fn paths_below(low: u64, level: u32) -> u64
 
 /// How many bytes from this one on are passed over. All keys that begin with the row's path and one
 /// of them come before the range's first key. Those of the next byte do not.
-pub fn bytes_ahead(low: u64, row: Held, byte: u32, left: u32) -> u32
+pub fn bytes_ahead(low: u64, row: HeldRow, byte: u32, left: u32) -> u32
     requires { byte + left ≤ 256 }
     ensures most { result ≤ left }
     ensures passed { (high y : ℕ) → byte ≤ y → y < byte + result → can_lie low high (row_at row) y ≡ false }

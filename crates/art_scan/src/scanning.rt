@@ -6,8 +6,8 @@ use crate::lists::Lists;
 use crate::steps::make_step;
 use crate::turns::{access_at, point_at};
 use crate::walks::enter;
+use art_control_states::{Entry, ScanStep, Setting};
 use art_rows::{Access, Point};
-use art_stages::{Entry, ScanStep, Setting};
 use events::{Memory, Reply};
 use std::alloc::Global;
 use std::mem;
@@ -26,10 +26,10 @@ impl Scanning {
     ghost use Rattle.std.specs.Prelude.{Some, None, OnOk, is_some};
     ghost use Rattle.art_rows.specs.Steps.{access_of, reply_of};
     ghost use Rattle.art_rows.specs.Act.{point_of};
-    ghost use Rattle.art_stages.specs.Scans.{scan_start, scan_turn};
-    ghost use Rattle.art_stages.specs.Settings.{setting_of};
+    ghost use Rattle.art_control_states.specs.Scans.{scan_start, scan_turn};
+    ghost use Rattle.art_control_states.specs.Settings.{setting_of};
     ghost use Rattle.events.specs.declared.event.Reply.TheVariants.{Pairs};
-    ghost use Rattle.art_scan.specs.Scans.{walk_in, scan_of, scan_behind, low_of, high_of, IsRoomy};
+    ghost use Rattle.art_scan.specs.Scans.{walk_in, scan_of, scan_after_word, low_of, high_of, IsRoomy};
 
     /// A scan that has made no access yet.
     pub fn begin(setting: &Setting, low: u64, high: u64) -> Scanning
@@ -87,8 +87,8 @@ impl Scanning {
         requires room { IsRoomy self.old }
         ensures low { low_of self.new ≡ low_of self.old }
         ensures high { high_of self.new ≡ high_of self.old }
-        ensures next { result ≡ None → scan_of self.new ≡ scan_behind (setting_of setting.now) self.old got }
-        ensures reply { reply_of (scan_turn (setting_of setting.now) (scan_behind (setting_of setting.now) self.old got)) ≡ result }
+        ensures next { result ≡ None → scan_of self.new ≡ scan_after_word (setting_of setting.now) self.old got }
+        ensures reply { reply_of (scan_turn (setting_of setting.now) (scan_after_word (setting_of setting.now) self.old got)) ≡ result }
         ensures over { is_some (reply_of (scan_turn (setting_of setting.now) (scan_of self.new))) ≡ is_some result }
     {
         match &mut self.lists {

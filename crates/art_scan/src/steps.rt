@@ -1,21 +1,21 @@
 // What comes after a word that a scan got.
 ghost use Rattle.std.specs.Prelude.{◌≡◌, ◌+◌, ◌<◌, true, false, nat_le, vec_len, vec_capacity, if◌then◌else◌};
-ghost use Rattle.art_stages.specs.Stages.{held};
+ghost use Rattle.art_control_states.specs.Stages.{held};
 ghost use Rattle.art_rows.specs.Words.{is_locked};
-ghost use Rattle.art_stages.specs.declared.stage.Entry.TheVariants.{Below};
-ghost use Rattle.art_stages.specs.declared.stage.ScanStep.TheVariants.{Lock, Exchange, Wait, SecondKeys};
-ghost use Rattle.art_stages.specs.Scans.{Walk, at, step_after as step_behind, enter_at, entry_at, keys_after_word, release_after};
-ghost use Rattle.art_stages.specs.Scans.{scan_start};
-ghost use Rattle.art_stages.specs.Scans.{with_frame, resume_at, visit_at, frame_of as frame_from};
-ghost use Rattle.art_stages.specs.Settings.{setting_of};
+ghost use Rattle.art_control_states.specs.declared.stage.Entry.TheVariants.{Below};
+ghost use Rattle.art_control_states.specs.declared.stage.ScanStep.TheVariants.{Lock, Exchange, Wait, SecondKeys};
+ghost use Rattle.art_control_states.specs.Scans.{Walk, at, step_after as step_behind, enter_at, entry_at, keys_after_word, release_after};
+ghost use Rattle.art_control_states.specs.Scans.{scan_start};
+ghost use Rattle.art_control_states.specs.Scans.{with_frame, resume_at, visit_at, frame_of as frame_from};
+ghost use Rattle.art_control_states.specs.Settings.{setting_of};
 ghost use Rattle.art_scan.specs.Sound.{is_sound_frame, is_sound_step};
 ghost use Rattle.art_scan.specs.Walks.{walk_of, HasRoomForOneMore};
 
 use crate::children::move_on;
 use crate::lists::Lists;
 use crate::walks::{close, enter, frame_of, go_on, keys_one, leave, visit};
+use art_control_states::{Entry, Frame, HeldRow, Keys, ScanStep, Setting};
 use art_rows::{Child, Kind, version_is_locked, version_is_obsolete};
-use art_stages::{Entry, Frame, Held, Keys, ScanStep, Setting};
 
 /// The scan starts again at the root.
 fn restart(setting: &Setting, lists: &mut Lists, step: &mut ScanStep)
@@ -42,7 +42,7 @@ fn enter_row(
 {
     match entry {
         Entry::Root => {
-            let row = Held {
+            let row = HeldRow {
                 base: setting.shape.root() as u32,
                 kind: Kind::Full,
                 info: 3,
@@ -59,7 +59,7 @@ fn keys_read(
     setting: &Setting,
     low: u64,
     high: u64,
-    row: Held,
+    row: HeldRow,
     word: u64,
     lists: &mut Lists,
     step: &mut ScanStep,
@@ -81,7 +81,7 @@ fn keys_read(
 }
 
 /// The first key word of a row of kind 16 is read.
-fn first_read(row: Held, count: u64, first: u64, step: &mut ScanStep)
+fn first_read(row: HeldRow, count: u64, first: u64, step: &mut ScanStep)
     ensures step { (w : Walk) → at step.new w ≡ at (SecondKeys row count first) w }
     ensures sound { is_sound_step step.new ≡ true }
 {
@@ -89,7 +89,7 @@ fn first_read(row: Held, count: u64, first: u64, step: &mut ScanStep)
 }
 
 /// A row is released or checked.
-fn leave_row(setting: &Setting, row: Held, got: u64, lists: &mut Lists, step: &mut ScanStep)
+fn leave_row(setting: &Setting, row: HeldRow, got: u64, lists: &mut Lists, step: &mut ScanStep)
     ensures step { at step.new (walk_of lists.new) ≡ release_after (setting_of setting.now) row (walk_of lists.old) got }
     ensures sound { is_sound_step step.new ≡ true }
 {
@@ -107,7 +107,7 @@ fn words_read(
     setting: &Setting,
     low: u64,
     high: u64,
-    row: Held,
+    row: HeldRow,
     keys: Keys,
     index: u32,
     words: u32,
@@ -145,7 +145,7 @@ fn info_read(
     ensures step { at step.new (walk_of lists.new) ≡ visit_at (setting_of setting.now) low high (held base kind info kept) (walk_of lists.old) }
     ensures sound { is_sound_step step.new ≡ true }
 {
-    let row = Held {
+    let row = HeldRow {
         base,
         kind,
         info,

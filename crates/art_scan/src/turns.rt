@@ -4,15 +4,15 @@ ghost use Rattle.art_rows.specs.Words.{locked_word};
 ghost use Rattle.art_rows.specs.Steps.{access_of};
 ghost use Rattle.art_rows.specs.Act.{point_of};
 ghost use Rattle.art_rows.specs.Rows.{lock_point as point_of_lock, locks};
-ghost use Rattle.art_stages.specs.Scans.{Walk, at, entry_base as base_of_entry, scan_turn, keys_turn, release_turn};
-ghost use Rattle.art_stages.specs.Settings.{setting_of};
+ghost use Rattle.art_control_states.specs.Scans.{Walk, at, entry_base as base_of_entry, scan_turn, keys_turn, release_turn};
+ghost use Rattle.art_control_states.specs.Settings.{setting_of};
 ghost use Rattle.art_rows.specs.declared.access.Access.TheVariants.{Load};
 ghost use Rattle.art_scan.specs.Sound.{is_sound_step, is_over};
 
-use art_rows::{Access, Kind, Point, version_locked, version_released};
-use art_stages::{
-    Entry, Held, ScanStep, Setting, count_slot, index_slot, info_slot, keys_slot, more_keys_slot,
+use art_control_states::{
+    Entry, HeldRow, ScanStep, Setting, count_slot, index_slot, info_slot, keys_slot, more_keys_slot,
 };
+use art_rows::{Access, Kind, Point, version_locked, version_released};
 
 fn entry_base(setting: &Setting, entry: Entry) -> usize
     ensures { result ≡ base_of_entry (setting_of setting.now) entry }
@@ -23,7 +23,7 @@ fn entry_base(setting: &Setting, entry: Entry) -> usize
     }
 }
 
-fn first_word(row: Held) -> usize
+fn first_word(row: HeldRow) -> usize
     ensures { access_of (keys_turn row.kind row) ≡ Some (Load result) }
 {
     match row.kind {
@@ -33,7 +33,7 @@ fn first_word(row: Held) -> usize
 }
 
 /// A row is unlocked at the end if reads are locked, and else checked.
-fn release(setting: &Setting, row: Held) -> Access
+fn release(setting: &Setting, row: HeldRow) -> Access
     ensures { access_of (release_turn (locks setting.now.variant) row) ≡ Some result }
 {
     let word = row.base as usize;
@@ -84,7 +84,7 @@ fn lock_point(setting: &Setting, entry: Entry) -> Point
     }
 }
 
-fn release_point(setting: &Setting, row: Held) -> Point
+fn release_point(setting: &Setting, row: HeldRow) -> Point
     ensures { point_of (release_turn (locks setting.now.variant) row) ≡ Some result }
 {
     let _row = row;
@@ -95,7 +95,7 @@ fn release_point(setting: &Setting, row: Held) -> Point
     }
 }
 
-fn keys_point(row: Held) -> Option<Point>
+fn keys_point(row: HeldRow) -> Option<Point>
     ensures { result ≡ point_of (keys_turn row.kind row) }
 {
     match row.kind {

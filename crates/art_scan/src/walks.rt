@@ -1,16 +1,16 @@
 // Where a scan goes on: the next child, index word or row, or its end.
 ghost use Rattle.std.specs.Prelude.{◌≡◌, ◌+◌, ◌<◌, ◌≤◌, true, vec_len, vec_capacity};
-ghost use Rattle.art_stages.specs.Automaton.{keys_one as one_word};
-ghost use Rattle.art_stages.specs.Scans.{Walk, at, with_frame, frame_of as frame_from, close_at, resume_at, row_begins, visit_at, enter_at};
-ghost use Rattle.art_stages.specs.Settings.{setting_of};
+ghost use Rattle.art_control_states.specs.Automaton.{keys_one as one_word};
+ghost use Rattle.art_control_states.specs.Scans.{Walk, at, with_frame, frame_of as frame_from, close_at, resume_at, row_begins, visit_at, enter_at};
+ghost use Rattle.art_control_states.specs.Settings.{setting_of};
 ghost use Rattle.art_scan.specs.Sound.{is_sound_frame, is_sound_step};
-ghost use Rattle.art_scan.specs.Walks.{walk_of, words_behind};
+ghost use Rattle.art_scan.specs.Walks.{walk_of, words_that_follow};
 
-use crate::children::{go_behind, go_to_child, go_to_word};
+use crate::children::{go_after, go_to_child, go_to_word};
 use crate::lists::Lists;
 use crate::met_bytes::is_met;
+use art_control_states::{Entry, Frame, HeldRow, Keys, ScanStep, Setting};
 use art_rows::Kind;
-use art_stages::{Entry, Frame, Held, Keys, ScanStep, Setting};
 
 /// A row is locked or waited for.
 pub fn enter(setting: &Setting, entry: Entry, step: &mut ScanStep)
@@ -74,24 +74,24 @@ pub fn leave(
     setting: &Setting,
     low: u64,
     high: u64,
-    row: Held,
+    row: HeldRow,
     index: u32,
     words: u32,
     lists: &mut Lists,
     step: &mut ScanStep,
 )
     requires { index + words ≤ 31 }
-    ensures step { at step.new (walk_of lists.new) ≡ words_behind row.kind low high row (walk_of lists.old) index words
+    ensures step { at step.new (walk_of lists.new) ≡ words_that_follow row.kind low high row (walk_of lists.old) index words
         (resume_at (setting_of setting.now) low high (walk_of lists.old)) }
     ensures sound { is_sound_step step.new ≡ true }
 {
-    if !go_behind(low, high, row, index, words, step) {
+    if !go_after(low, high, row, index, words, step) {
         resume(setting, low, high, lists, step);
     }
 }
 
 /// A row with what was read of it, from its first byte on.
-pub fn frame_of(row: Held, keys: Keys, index: u32, words: u32) -> Frame
+pub fn frame_of(row: HeldRow, keys: Keys, index: u32, words: u32) -> Frame
     ensures { result ≡ frame_from row keys index words }
 {
     Frame {
@@ -120,7 +120,7 @@ fn begin_row(
     setting: &Setting,
     low: u64,
     high: u64,
-    row: Held,
+    row: HeldRow,
     lists: &mut Lists,
     step: &mut ScanStep,
 )
@@ -152,7 +152,7 @@ pub fn visit(
     setting: &Setting,
     low: u64,
     high: u64,
-    row: Held,
+    row: HeldRow,
     lists: &mut Lists,
     step: &mut ScanStep,
 )

@@ -81,7 +81,7 @@ pub use Rattle.art_schedules.specs.moments.Gets.{IsCheckedGet}
 pub use Rattle.art_schedules.specs.moments.Times.{GotAt}
 pub use Rattle.art_schedules.specs.optimistic.Goes.{Agrees, Gets, Goes, GoesOn}
 pub use Rattle.art_schedules.specs.optimistic.Knows.{AllStand, HangsBelow, IsBelow, IsHeldReached, IsPast, IsReachedHere, KnowsPlace, KnowsStage}
-pub use Rattle.art_schedules.specs.optimistic.Knows.{KnowsWay, Stands, hold_taken}
+pub use Rattle.art_schedules.specs.optimistic.Knows.{KnowsWay, IsCurrent, hold_taken}
 pub use Rattle.art_schedules.specs.optimistic.Laws.{WaysBegin}
 pub use Rattle.art_schedules.specs.optimistic.Steps.{OtherStepsKeepWays, OwnFindingsStay, OwnStepsGoOn, QuietStepsKeepTrees, ScansStoreNothing}
 pub use Rattle.art_schedules.specs.optimistic.Steps.{StepsOn}
@@ -89,12 +89,12 @@ pub use Rattle.art_schedules.specs.optimistic_runs.OptimisticFits.{Finds, Ghosts
 pub use Rattle.art_schedules.specs.points.Points.{AllKeep, HasPoint, HasPoints, OneLeads, TakeEffect}
 pub use Rattle.art_schedules.specs.scan_points.ScanPoints.{AnsweredScansHavePoints}
 pub use Rattle.art_schedules.specs.stories.Fitting.{AllFit, AnswersCall, AreLed, BeginsCall, Changes, FindsAt, FindsNow, Forgets, HasItsReply}
-pub use Rattle.art_schedules.specs.stories.Fitting.{IsLedOn, IsToldStep, MakesAccess, MeansAt, Next, OfCall, OfState, OwnStep, Stays, set_at}
+pub use Rattle.art_schedules.specs.stories.Fitting.{IsLedOn, IsTraceStep, MakesAccess, MeansAt, Next, OfCall, OfState, OwnStep, Stays, set_at}
 pub use Rattle.art_schedules.specs.stories.Fitting.{the_plan}
 pub use Rattle.art_schedules.specs.stories.Laws.{StartsAreAtRest, StoriesGiveOrders}
 pub use Rattle.art_schedules.specs.stories.Stories.{Before, Changed, Found, HasKept, HasNotChanged, HasReply, HasStatus, IsInCall, IsOwnStep, IsStory}
-pub use Rattle.art_schedules.specs.stories.Stories.{Status, Tale}
-pub use Rattle.art_schedules.specs.versions.Effects.{AccessDoes, Answered, Claims, Ends, Has as Leads, IsAmong, IsBehindVersion, IsGoodAt, IsWith}
+pub use Rattle.art_schedules.specs.stories.Stories.{Status, Trace}
+pub use Rattle.art_schedules.specs.versions.Effects.{AccessDoes, Answered, Claims, Ends, Has as Leads, IsAmong, IsAfterVersion, IsGoodAt, IsWith}
 pub use Rattle.art_schedules.specs.versions.Effects.{Reads, Releases, Takes, With, Writes}
 pub use Rattle.art_schedules.specs.versions.Holding.{Each, FitsFrame, FitsPlace, FitsScan, FitsStage, FitsWork, HangsIn, HasSlot, IsFound, IsKept}
 pub use Rattle.art_schedules.specs.versions.Holding.{IsNamed, IsSlot, IsUnder, IsVersion, Knows, KnowsKey, KnowsRows, KnowsScanRows, Named, OfRows}
@@ -112,79 +112,79 @@ pub use Rattle.art_schedules.specs.work.Own.{TouchesOwn, is_claim, is_lock, is_w
 pub use Rattle.art_schedules.specs.work.Solo.{Solo, Step, Suits, claims, further, here, loads, stores}
 pub use Rattle.art_schedules.specs.work.Ways.{HangsOnWay, HasChild, IsInTree, IsOnWay, IsSame, KnowsFinding, KnowsKeys, slot_in}
 pub use Rattle.art_schedules.specs.work.Works.{FitsWords, GrownHangs, IsDoneBy, IsInsert, IsRelease, IsWorkDone, LacksByte, PairHangs, RowsOf}
-pub use Rattle.art_serial.proofs.alone.AloneLemmas.{load-same, runs-once, same-runs}
-unfoldable pub use Rattle.art_serial.proofs.alone.AloneLemmas.{give-comes, then-comes}
-pub use Rattle.art_serial.proofs.alone.DifferLemmas.{keys-differ}
-pub use Rattle.art_serial.proofs.alone.LikeLemmas.{sits}
-pub use Rattle.art_serial.proofs.alone.PlaceLemmas.{Sits, kind_at-sits, sits-inside, sits-kind_at, sits-part}
-pub use Rattle.art_serial.proofs.alone.RowRunLemmas.{unlock_all-comes}
-pub use Rattle.art_serial.proofs.alone.SeekLemmas.{absent-after, seek-reply}
-pub use Rattle.art_serial.proofs.alone.SlotLemmas.{IsChildWord, form-same, row-keys, slot-is, slot-same}
-pub use Rattle.art_serial.proofs.alone.WayLemmas.{leads-root}
-pub use Rattle.art_serial.proofs.inserts.InsertEndLemmas.{first-differs}
-pub use Rattle.art_serial.proofs.inserts.OutcomeLemmas.{child-same, split}
-pub use Rattle.art_serial.proofs.inserts.SmallLemmas.{differs-before, path_byte-small}
-pub use Rattle.art_serial.proofs.serial.OrderlyLemmas.{set-here}
-pub use Rattle.art_serial.proofs.trees.Changes.{way_byte}
-pub use Rattle.art_serial.proofs.trees.Descents.{small_at}
-pub use Rattle.art_serial.proofs.trees.InfoWords.{path_byte}
-pub use Rattle.art_serial.proofs.words.TableLemmas.{base_of-once, kind_at-base_of, row_begins, row_ends, rows_apart}
-pub use Rattle.art_serial.proofs.words.VersionLemmas.{obsolete_obsolete, obsolete_released, taken-locked}
-pub use Rattle.art_serial.proofs.words.WordLemmas.{child_of-stored}
-pub use Rattle.art_serial.proofs.writes.PairLemmas.{byte_at-small}
-pub use Rattle.art_serial.proofs.writes.StoreLemmas.{stored-at, stored-long, stored-other}
-pub use Rattle.art_serial.specs.alone.Alone.{Comes, RunsAlone, ends, goes, unlocked_rows}
-pub use Rattle.art_serial.specs.alone.Finding.{keys_in_row}
-pub use Rattle.art_serial.specs.alone.Laws.{is_seek}
-pub use Rattle.art_serial.specs.trees.Children.{ChildrenAreRead}
-pub use Rattle.art_serial.specs.trees.Trees.{AreZeroPastClaims, HasRows, IsAtRest, IsClaimed, IsUnused, LeadsTo, LeavesAreSmall, Parts, SameRow}
-pub use Rattle.art_serial.specs.trees.Trees.{SameTreesAreOne, WaysLeadToValues}
-pub use Rattle.art_serial.specs.walks.Walks.{ScansAreTheMaps}
-pub use Rattle.art_serial.specs.words.Stored.{IsStored}
-pub use Rattle.art_serial.specs.writes.Writes.{HasPut, HasSameFields, IsOutside}
-pub use Rattle.art_stages.proofs.BehindLemmas.{behind, call_next}
-pub use Rattle.art_stages.specs.Automaton.{after_with, among_at, arrived_at, below_at, beside_work, between_turn, checked_at, copies_at, end_at}
-pub use Rattle.art_stages.specs.Automaton.{entered_at, entries_at, fill_at, find_at, find_turn, found_at, grow_count_turn, grow_keys_turn}
-pub use Rattle.art_stages.specs.Automaton.{grow_leaf_turn, grow_unlocked, hold_alone, indexed_at, insert_coupled, insert_unlocked, keys_at_after}
-pub use Rattle.art_stages.specs.Automaton.{keys_one, leaf_after, leaf_work, let_go_at, moves_at, no_value, overwrite_at, overwrite_unlocked}
-pub use Rattle.art_stages.specs.Automaton.{pair_after, pair_turn, pair_work, place_coupled, put_at, put_keys_after, put_keys_turn, release_at}
-pub use Rattle.art_stages.specs.Automaton.{seek_coupled, seek_unlocked, spreads_at, stage_after, start_at, store_of, take_alone, taken_at, turn_at}
-pub use Rattle.art_stages.specs.Automaton.{work_at}
-pub use Rattle.art_stages.specs.Calls.{CallAt, OnKey, OnScan, after_all, begun_as, call_after, call_begun, call_behind, call_turn, rest_at}
-pub use Rattle.art_stages.specs.Scans.{ScanAt, Walk, at, bytes_at, child_after, child_from, close_at, entry_at, entry_base, frame_at, frame_of}
-pub use Rattle.art_stages.specs.Scans.{in_word, index_at_list, keys16, keys_after_word, keys_turn, lies, on_way, place_slot, release_rows, resume_at}
-pub use Rattle.art_stages.specs.Scans.{scan_after, scan_start, scan_turn, slot_at, step_after, visit_at, visit_list, walked, way_at, with_frame}
-pub use Rattle.art_stages.specs.Scans.{with_held, word_test, words_at}
-pub use Rattle.art_stages.specs.Stages.{byte_in, count_in, finish, held, keys_after, keys_among, keys_in, leaf_place, new_child, old_child, place_in}
-pub use Rattle.art_stages.specs.Stages.{reply_for, root_place, row_at, rows_at, rows_held, setting, value_reply}
-unfoldable pub use Rattle.art_stages.specs.Stages.{part_of, rest_in}
-pub use Rattle.art_stages.specs.declared.stage.Down.{Down}
-pub use Rattle.art_stages.specs.declared.stage.Entry.{Entry}
-pub use Rattle.art_stages.specs.declared.stage.Finding.{Finding}
-pub use Rattle.art_stages.specs.declared.stage.Finding.TheVariants.{Has, Lacks}
-pub use Rattle.art_stages.specs.declared.stage.Frame.{Frame}
-pub use Rattle.art_stages.specs.declared.stage.Growing.{Growing}
-pub use Rattle.art_stages.specs.declared.stage.Held.{Held}
-pub use Rattle.art_stages.specs.declared.stage.Hold.{Hold}
-pub use Rattle.art_stages.specs.declared.stage.Keys.{Keys, Keys as KeyWords}
-pub use Rattle.art_stages.specs.declared.stage.Outcome.{Outcome}
-pub use Rattle.art_stages.specs.declared.stage.Outcome.TheVariants.{Refused, Value}
-pub use Rattle.art_stages.specs.declared.stage.Pair.{Pair}
-pub use Rattle.art_stages.specs.declared.stage.PairWord.{PairWord}
-pub use Rattle.art_stages.specs.declared.stage.Position.{Position}
-pub use Rattle.art_stages.specs.declared.stage.ScanStep.{ScanStep}
-pub use Rattle.art_stages.specs.declared.stage.ScanStep.TheVariants.{Child as LoadChild, FirstKeys, Index, Release, SecondKeys}
-pub use Rattle.art_stages.specs.declared.stage.Spread.{Spread}
-pub use Rattle.art_stages.specs.declared.stage.Stage.{Stage}
-pub use Rattle.art_stages.specs.declared.stage.Stage.TheVariants.{Between, Check, CheckLast, ClaimGrow, ClaimPair, Exchange, Find, FindCount}
-pub use Rattle.art_stages.specs.declared.stage.Stage.TheVariants.{FindKeys, FindMore, GrowCount, GrowInfo, GrowKeys, GrowLeaf, GrowLoad, GrowStore}
-pub use Rattle.art_stages.specs.declared.stage.Stage.TheVariants.{Hang, Info, Leave, LetGo, Lock, Obsolete, Over, PutCount, PutKeys, PutLeaf, PutLoad}
-pub use Rattle.art_stages.specs.declared.stage.Stage.TheVariants.{PutMore, PutStore, Slot, SpreadIndex, SpreadLoad, SpreadStore, StorePair, Take}
-pub use Rattle.art_stages.specs.declared.stage.Stage.TheVariants.{Unlock, Wait, Write}
-pub use Rattle.art_stages.specs.declared.stage.Taking.{Taking}
-pub use Rattle.art_stages.specs.declared.stage.Target.{Target}
-pub use Rattle.art_stages.specs.declared.stage.Target.TheVariants.{Below, Root, Taken}
-pub use Rattle.art_stages.specs.declared.stage.Work.{Work}
+pub use Rattle.art_sequential.proofs.alone.AloneLemmas.{load-same, runs-once, same-runs}
+unfoldable pub use Rattle.art_sequential.proofs.alone.AloneLemmas.{give-comes, then-comes}
+pub use Rattle.art_sequential.proofs.alone.DifferLemmas.{keys-differ}
+pub use Rattle.art_sequential.proofs.alone.LikeLemmas.{sits}
+pub use Rattle.art_sequential.proofs.alone.PlaceLemmas.{Sits, kind_at-sits, sits-inside, sits-kind_at, sits-part}
+pub use Rattle.art_sequential.proofs.alone.RowRunLemmas.{unlock_all-comes}
+pub use Rattle.art_sequential.proofs.alone.SeekLemmas.{absent-after, seek-reply}
+pub use Rattle.art_sequential.proofs.alone.SlotLemmas.{IsChildWord, form-same, row-keys, slot-is, slot-same}
+pub use Rattle.art_sequential.proofs.alone.WayLemmas.{leads-root}
+pub use Rattle.art_sequential.proofs.inserts.InsertEndLemmas.{first-differs}
+pub use Rattle.art_sequential.proofs.inserts.OutcomeLemmas.{child-same, split}
+pub use Rattle.art_sequential.proofs.inserts.SmallLemmas.{differs-before, path_byte-small}
+pub use Rattle.art_sequential.proofs.serial.OrderlyLemmas.{set-here}
+pub use Rattle.art_sequential.proofs.trees.Changes.{way_byte}
+pub use Rattle.art_sequential.proofs.trees.Descents.{small_at}
+pub use Rattle.art_sequential.proofs.trees.InfoWords.{path_byte}
+pub use Rattle.art_sequential.proofs.words.TableLemmas.{base_of-once, kind_at-base_of, row_begins, row_ends, rows_apart}
+pub use Rattle.art_sequential.proofs.words.VersionLemmas.{obsolete_obsolete, obsolete_released, taken-locked}
+pub use Rattle.art_sequential.proofs.words.WordLemmas.{child_of-stored}
+pub use Rattle.art_sequential.proofs.writes.PairLemmas.{byte_at-small}
+pub use Rattle.art_sequential.proofs.writes.StoreLemmas.{stored-at, stored-long, stored-other}
+pub use Rattle.art_sequential.specs.alone.Alone.{Comes, RunsAlone, ends, goes, unlocked_rows}
+pub use Rattle.art_sequential.specs.alone.Finding.{keys_in_row}
+pub use Rattle.art_sequential.specs.alone.Laws.{is_seek}
+pub use Rattle.art_sequential.specs.trees.Children.{ChildrenAreRead}
+pub use Rattle.art_sequential.specs.trees.Trees.{AreZeroPastClaims, HasRows, IsAtRest, IsClaimed, IsUnused, LeadsTo, LeavesAreSmall, Parts, SameRow}
+pub use Rattle.art_sequential.specs.trees.Trees.{SameTreesAreOne, WaysLeadToValues}
+pub use Rattle.art_sequential.specs.walks.Walks.{ScansAreTheMaps}
+pub use Rattle.art_sequential.specs.words.Stored.{IsStored}
+pub use Rattle.art_sequential.specs.writes.Writes.{HasPut, HasSameFields, IsOutside}
+pub use Rattle.art_control_states.proofs.BehindLemmas.{behind, call_next}
+pub use Rattle.art_control_states.specs.Automaton.{after_with, among_at, arrived_at, below_at, beside_work, between_turn, checked_at, copies_at, end_at}
+pub use Rattle.art_control_states.specs.Automaton.{entered_at, entries_at, fill_at, find_at, find_turn, found_at, grow_count_turn, grow_keys_turn}
+pub use Rattle.art_control_states.specs.Automaton.{grow_leaf_turn, grow_unlocked, hold_alone, indexed_at, insert_coupled, insert_unlocked, keys_at_after}
+pub use Rattle.art_control_states.specs.Automaton.{keys_one, leaf_after, leaf_work, let_go_at, moves_at, no_value, overwrite_at, overwrite_unlocked}
+pub use Rattle.art_control_states.specs.Automaton.{pair_after, pair_turn, pair_work, place_coupled, put_at, put_keys_after, put_keys_turn, release_at}
+pub use Rattle.art_control_states.specs.Automaton.{seek_coupled, seek_unlocked, spreads_at, stage_after, start_at, store_of, take_alone, taken_at, turn_at}
+pub use Rattle.art_control_states.specs.Automaton.{work_at}
+pub use Rattle.art_control_states.specs.Calls.{CallAt, OnKey, OnScan, after_all, begun_as, call_after, call_begun, call_after_words, call_turn, rest_at}
+pub use Rattle.art_control_states.specs.Scans.{ScanAt, Walk, at, bytes_at, child_after, child_from, close_at, entry_at, entry_base, frame_at, frame_of}
+pub use Rattle.art_control_states.specs.Scans.{in_word, index_at_list, keys16, keys_after_word, keys_turn, lies, on_way, place_slot, release_rows, resume_at}
+pub use Rattle.art_control_states.specs.Scans.{scan_after, scan_start, scan_turn, slot_at, step_after, visit_at, visit_list, walked, way_at, with_frame}
+pub use Rattle.art_control_states.specs.Scans.{with_held, word_test, words_at}
+pub use Rattle.art_control_states.specs.Stages.{byte_in, count_in, finish, held, keys_after, keys_among, keys_in, leaf_place, new_child, old_child, place_in}
+pub use Rattle.art_control_states.specs.Stages.{reply_for, root_place, row_at, rows_at, rows_held, setting, value_reply}
+unfoldable pub use Rattle.art_control_states.specs.Stages.{part_of, rest_in}
+pub use Rattle.art_control_states.specs.declared.stage.Down.{Down}
+pub use Rattle.art_control_states.specs.declared.stage.Entry.{Entry}
+pub use Rattle.art_control_states.specs.declared.stage.Finding.{Finding}
+pub use Rattle.art_control_states.specs.declared.stage.Finding.TheVariants.{Has, Lacks}
+pub use Rattle.art_control_states.specs.declared.stage.Frame.{Frame}
+pub use Rattle.art_control_states.specs.declared.stage.Growing.{Growing}
+pub use Rattle.art_control_states.specs.declared.stage.HeldRow.{HeldRow}
+pub use Rattle.art_control_states.specs.declared.stage.Hold.{Hold}
+pub use Rattle.art_control_states.specs.declared.stage.Keys.{Keys, Keys as KeyWords}
+pub use Rattle.art_control_states.specs.declared.stage.Outcome.{Outcome}
+pub use Rattle.art_control_states.specs.declared.stage.Outcome.TheVariants.{Refused, Value}
+pub use Rattle.art_control_states.specs.declared.stage.Pair.{Pair}
+pub use Rattle.art_control_states.specs.declared.stage.PairWord.{PairWord}
+pub use Rattle.art_control_states.specs.declared.stage.Position.{Position}
+pub use Rattle.art_control_states.specs.declared.stage.ScanStep.{ScanStep}
+pub use Rattle.art_control_states.specs.declared.stage.ScanStep.TheVariants.{Child as LoadChild, FirstKeys, Index, Release, SecondKeys}
+pub use Rattle.art_control_states.specs.declared.stage.Spread.{Spread}
+pub use Rattle.art_control_states.specs.declared.stage.Stage.{Stage}
+pub use Rattle.art_control_states.specs.declared.stage.Stage.TheVariants.{Between, Check, CheckLast, ClaimGrow, ClaimPair, Exchange, Find, FindCount}
+pub use Rattle.art_control_states.specs.declared.stage.Stage.TheVariants.{FindKeys, FindMore, GrowCount, GrowInfo, GrowKeys, GrowLeaf, GrowLoad, GrowStore}
+pub use Rattle.art_control_states.specs.declared.stage.Stage.TheVariants.{Hang, Info, Leave, LetGo, Lock, Obsolete, Over, PutCount, PutKeys, PutLeaf, PutLoad}
+pub use Rattle.art_control_states.specs.declared.stage.Stage.TheVariants.{PutMore, PutStore, Slot, SpreadIndex, SpreadLoad, SpreadStore, StorePair, Take}
+pub use Rattle.art_control_states.specs.declared.stage.Stage.TheVariants.{Unlock, Wait, Write}
+pub use Rattle.art_control_states.specs.declared.stage.Taking.{Taking}
+pub use Rattle.art_control_states.specs.declared.stage.Target.{Target}
+pub use Rattle.art_control_states.specs.declared.stage.Target.TheVariants.{Below, Root, Taken}
+pub use Rattle.art_control_states.specs.declared.stage.Work.{Work}
 pub use Rattle.art_rows.proofs.AccessLemmas.{not_full}
 pub use Rattle.art_rows.proofs.TurnLemmas.{add-store, answers-asks, answers-same, asks-answers, asks-same, exchange-store, exchange-word}
 pub use Rattle.art_rows.proofs.TurnLemmas.{exchanges-same, load-add, load-exchange, load-store, load-word, loads-same, store-add, store-exchange}

@@ -10,21 +10,21 @@ use Rattle.command_line.specs.declared.line.ScheduleLine.{ScheduleLine}
 use Rattle.command_line.specs.declared.line.Tree.{Tree}
 use Rattle.command_line.specs.declared.line.Tree.TheVariants as trees
 use Rattle.workload.specs.declared.mix.Mix.{Mix}
-use Rattle.outcomes.specs.declared.outcome.RunOutcome.{RunOutcome}
-use Rattle.outcomes.specs.declared.outcome.RunOutcome.TheVariants.{Answered, Noted, Refused, Memory, Words, Failed}
-use Rattle.outcomes.specs.Ends.{Change, IsSound}
+use Rattle.cli_outcome.specs.declared.outcome.CommandOutcome.{CommandOutcome}
+use Rattle.cli_outcome.specs.declared.outcome.CommandOutcome.TheVariants.{Answered, Noted, Refused, Memory, Words, Failed}
+use Rattle.cli_outcome.specs.Ends.{Change, IsSound}
 use Rattle.art_rows.specs.declared.table.Shape.{Shape}
 use Rattle.art_rows.specs.declared.variant.Variant.{Variant}
 use Rattle.recorder.specs.Answers.{IsAnswerOf}
-use Rattle.plan_engines.specs.Drives.{IsDriveAnswer, IsDriveRefusal, IsTreeDriveAnswer}
-use Rattle.plan_engines.specs.Outcomes.{IsGenerateOutcome}
-use Rattle.plan_engines.specs.Schedules.{IsScheduleAnswer, IsScheduleRefusal}
-use Rattle.line_outcomes.specs.Outcomes.{IsAskedOutcome, IsWordsOutcome}
-use Rattle.line_outcomes.proofs.OutcomeLemmas.{read-words}
-use Rattle.judge_lines.specs.Outcomes.{AsksForTrees, IsJudgeLineOutcome}
+use Rattle.cli_plans.specs.Drives.{IsDriveAnswer, IsDriveRefusal, IsTreeDriveAnswer}
+use Rattle.cli_plans.specs.Outcomes.{IsGenerateOutcome}
+use Rattle.cli_plans.specs.Schedules.{IsScheduleAnswer, IsScheduleRefusal}
+use Rattle.cli_words.specs.Outcomes.{IsAskedOutcome, IsWordsOutcome}
+use Rattle.cli_words.proofs.OutcomeLemmas.{read-words}
+use Rattle.cli_dispatch.specs.Outcomes.{AsksForTrees, IsJudgeLineOutcome}
 use Rattle.bench.specs.Outcomes.{IsDrivenOutcome, IsLineOutcome, IsScheduledOutcome, variant_of}
 
-pub drawn-words : (seed : ℕ) (mix : Mix) (processes calls : ℕ) (words : List Text) (source : Change) (outcome : RunOutcome)
+pub drawn-words : (seed : ℕ) (mix : Mix) (processes calls : ℕ) (words : List Text) (source : Change) (outcome : CommandOutcome)
     → (IsGenerateOutcome seed mix processes calls outcome → IsAskedOutcome IsLineOutcome words source outcome) → IsSound source
     → IsGenerateOutcome seed mix processes calls outcome → IsWordsOutcome IsLineOutcome words source outcome
 drawn-words seed mix processes calls words source (Answered answer bytes) ask sound comes = ask comes
@@ -35,14 +35,14 @@ drawn-words seed mix processes calls words source (Words text) ask sound comes =
 drawn-words seed mix processes calls words source Failed ask sound comes = absurd comes
 
 -- the outcome of a schedule, and of a drive, is one of the words too
-pub scheduled-words : (variant : Option Variant) (shape : Shape) (limit : ℕ) (words : List Text) (source : Change) (outcome : RunOutcome)
+pub scheduled-words : (variant : Option Variant) (shape : Shape) (limit : ℕ) (words : List Text) (source : Change) (outcome : CommandOutcome)
     → (IsScheduledOutcome variant shape limit source outcome → IsAskedOutcome IsLineOutcome words source outcome)
     → IsScheduledOutcome variant shape limit source outcome → IsWordsOutcome IsLineOutcome words source outcome
 scheduled-words (Some variant) shape limit words source outcome ask comes =
     read-words IsLineOutcome (IsScheduleAnswer shape variant limit) (IsScheduleRefusal shape variant limit) words source outcome ask comes
 scheduled-words None shape limit words source outcome ask comes = absurd comes
 
-pub driven-words : (variant : Option Variant) (shape : Shape) (limit : ℕ) (words : List Text) (source : Change) (outcome : RunOutcome)
+pub driven-words : (variant : Option Variant) (shape : Shape) (limit : ℕ) (words : List Text) (source : Change) (outcome : CommandOutcome)
     → (IsDrivenOutcome variant shape limit source outcome → IsAskedOutcome IsLineOutcome words source outcome)
     → IsDrivenOutcome variant shape limit source outcome → IsWordsOutcome IsLineOutcome words source outcome
 driven-words (Some variant) shape limit words source outcome ask comes =
@@ -69,7 +69,7 @@ not-trees Replay draws schedules replays drives asks = replays refl
 not-trees (Drive asked) draws schedules replays drives asks = drives asked refl
 
 -- the outcome of a line of the judge is the judge's
-pub judged-line : (line : Line) (source : Change) (outcome : RunOutcome) → ¬ (AsksForTrees line) → IsJudgeLineOutcome line source outcome
+pub judged-line : (line : Line) (source : Change) (outcome : CommandOutcome) → ¬ (AsksForTrees line) → IsJudgeLineOutcome line source outcome
     → IsLineOutcome line source outcome
 judged-line (Check order) source outcome here comes = comes
 judged-line (Judge budget workers) source outcome here comes = comes

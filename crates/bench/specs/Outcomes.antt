@@ -9,10 +9,10 @@ use Rattle.command_line.specs.declared.line.Line.{Line}
 use Rattle.command_line.specs.declared.line.Rows.{Rows}
 use Rattle.command_line.specs.declared.line.Line.TheVariants.{Generate, Schedule, Replay, Drive}
 use Rattle.recorder.specs.Answers.{IsAnswerOf}
-use Rattle.outcomes.specs.declared.outcome.RunOutcome.{RunOutcome}
-use Rattle.outcomes.specs.Ends.{Change, IsUnused}
-use Rattle.judge_lines.specs.Outcomes.{IsJudgeLineOutcome}
-use Rattle.plan_engines.specs.Outcomes.{IsDriveOutcome, IsGenerateOutcome, IsReplayOutcome, IsScheduleOutcome, IsTreeDriveOutcome}
+use Rattle.cli_outcome.specs.declared.outcome.CommandOutcome.{CommandOutcome}
+use Rattle.cli_outcome.specs.Ends.{Change, IsUnused}
+use Rattle.cli_dispatch.specs.Outcomes.{IsJudgeLineOutcome}
+use Rattle.cli_plans.specs.Outcomes.{IsDriveOutcome, IsGenerateOutcome, IsReplayOutcome, IsScheduleOutcome, IsTreeDriveOutcome}
 
 -- the variant of a tree on shared words; the map under a lock has none
 abbrev pub variant_of : Tree → Option Variant
@@ -30,18 +30,18 @@ shape_of rows = record { rows4 = rows.rows4; rows16 = rows.rows16; rows48 = rows
 
 -- the outcome of a drive: on a tree of this shape, with at most this many steps of each call after
 -- its invocation; or at a subject that may answer as the map under a lock
-abbrev pub IsDrivenOutcome : Option Variant → Shape → ℕ → Change → RunOutcome → Type 0
+abbrev pub IsDrivenOutcome : Option Variant → Shape → ℕ → Change → CommandOutcome → Type 0
 IsDrivenOutcome (Some variant) shape limit source outcome = IsTreeDriveOutcome shape variant limit source outcome
 IsDrivenOutcome None shape limit source outcome = IsDriveOutcome IsAnswerOf source outcome
 
 -- the outcome of a schedule of at most this many turns, on a tree of this shape; the map under a
 -- lock has none
-abbrev pub IsScheduledOutcome : Option Variant → Shape → ℕ → Change → RunOutcome → Type 0
+abbrev pub IsScheduledOutcome : Option Variant → Shape → ℕ → Change → CommandOutcome → Type 0
 IsScheduledOutcome (Some variant) shape limit source outcome = IsScheduleOutcome shape variant limit source outcome
 IsScheduledOutcome None shape limit source outcome = ⊥
 
 -- the outcome of what a line asks for, whatever the number of workers
-abbrev pub IsLineOutcome : Line → Change → RunOutcome → Type 0
+abbrev pub IsLineOutcome : Line → Change → CommandOutcome → Type 0
 IsLineOutcome (Generate seed processes calls get insert remove scan lo hi) source outcome = IsUnused source
     × IsGenerateOutcome seed (record { get = get; insert = insert; remove = remove; scan = scan; lo = lo; hi = hi }) processes calls outcome
 IsLineOutcome (Schedule asked) source outcome = IsScheduledOutcome (variant_of asked.tree) (shape_of asked.rows) asked.limit source outcome

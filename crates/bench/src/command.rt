@@ -2,25 +2,25 @@
 ghost use Rattle.std.specs.Prelude.{◌≡◌, ◌<◌};
 ghost use Rattle.clap.specs.Walk.{texts};
 ghost use Rattle.command_line.specs.Lines.{IsWithinLimits};
-ghost use Rattle.outcomes.specs.Ends.{change};
-ghost use Rattle.outcomes.specs.Runs.{IsRun};
-ghost use Rattle.outcomes.specs.Statuses.{words_status};
-ghost use Rattle.line_outcomes.specs.Outcomes.{IsWordsOutcome};
+ghost use Rattle.cli_outcome.specs.Ends.{change};
+ghost use Rattle.cli_outcome.specs.Runs.{IsRun};
+ghost use Rattle.cli_outcome.specs.Statuses.{words_status};
+ghost use Rattle.cli_words.specs.Outcomes.{IsWordsOutcome};
 ghost use Rattle.bench.specs.Outcomes.{IsLineOutcome, shape_of, variant_of};
 
 use art::{Shape, Variant};
+use cli_dispatch::{ProgressDisplay, run_line};
+use cli_io::{Sink, Source};
+use cli_outcome::write_outcome;
+use cli_plans::{run_drive, run_generate, run_replay, run_schedule, run_tree_drive};
+use cli_words::asked_line;
 use command_line::{DriveLine, Line, Rows, ScheduleLine, Strategy, Tree};
-use judge_lines::{ProgressDisplay, run_line};
-use line_outcomes::asked_line;
-use outcomes::write_outcome;
-use plan_engines::{run_drive, run_generate, run_replay, run_schedule, run_tree_drive};
 use pool::OpenGate;
 use recorder::LockedMap;
 use replays::Draw;
 use std::alloc::Global;
 use std::sync::Wait;
 use std::thread::Threads;
-use streams::{Sink, Source};
 use workload::Mix;
 
 /// Does what the command line asks for, and returns the exit status. The command line begins with

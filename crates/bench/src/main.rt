@@ -8,12 +8,12 @@
 
 mod command;
 
+use cli_dispatch::TerminalProgress;
+use cli_io::{StandardError, StandardInput, StandardOutput, terminal_of};
+use cli_outcome::{CommandOutcome, write_outcome};
+use cli_words::{texts_of, words_of};
 use command::run;
-use judge_lines::TerminalProgress;
-use line_outcomes::{texts_of, words_of};
-use outcomes::{RunOutcome, write_outcome};
 use std::process::ExitCode;
-use streams::{StandardError, StandardInput, StandardOutput, terminal_of};
 
 fn main(rt: HostRuntime) -> ExitCode {
     let mut source = StandardInput::new(rt.stdin());
@@ -39,7 +39,12 @@ fn main(rt: HostRuntime) -> ExitCode {
             &texts,
             &mut progress,
         ),
-        Err(_) => write_outcome(&mut output, &mut faults, &mut hints, &RunOutcome::Memory),
+        Err(_) => write_outcome(
+            &mut output,
+            &mut faults,
+            &mut hints,
+            &CommandOutcome::Memory,
+        ),
     };
     ExitCode::from(status)
 }

@@ -3,7 +3,7 @@ use Rattle.certificate.proofs.Common.{◌≡◌, ℕ, suc, ◌+◌, ◌<◌, ◌
 use Rattle.certificate.proofs.Common.{Some, None, IsTrue, refl, sym, ap, ◌∙◌, subst, ⊎_elim, arith, ◌≢◌, All, Contains, ⊤, false≢true}
 use Rattle.certificate.proofs.Common.{cases_Bool, eqb-true, eqb-false, ne_eqb, eq-eqb, and_parts, and_from, le-leb, leb-true, none-some, same_Some}
 use Rattle.certificate.proofs.Common.{All-nil, All-cons, All-head, All-tail, All-weaker, Call, Get, Insert, Remove, Scan, Replace, Reply, Event}
-use Rattle.certificate.proofs.Common.{Invoke, Answer, Operation, Response, process_of, events_of, takes_turns, response_from, operation_of}
+use Rattle.certificate.proofs.Common.{Invoke, Answer, Operation, Response, process_of, events_of, events_alternate, response_from, operation_of}
 use Rattle.certificate.proofs.Common.{operations_from, value_at, Contains-nil, Contains-cases, Contains-first, Contains-later, Contains-filter}
 use Rattle.certificate.proofs.Common.{Contains-from_filter, recorded_call, recorded_reply, AreRecordedAs, MissesKey, IsHelperOf, recorded_invocation}
 use Rattle.certificate.proofs.Common.{recorded_answer, is_missed, missed_keys, helper, answer_to_come, recorded_event, last_after, recorded_events}
@@ -212,30 +212,30 @@ AreSmall events = All (λ e. process_of e < 64) events
 
 -- the open call of a process is answered next
 abbrev IsOpen : ℕ → List Event → Type 0
-IsOpen p events = IsTrue (takes_turns true (events_of p events))
+IsOpen p events = IsTrue (events_alternate true (events_of p events))
 
 -- each process has its events in turn from here on
 abbrev pub AreInTurn : List Event → Type 0
-AreInTurn events = (p : ℕ) → (waiting : Bool) × IsTrue (takes_turns waiting (events_of p events))
+AreInTurn events = (p : ℕ) → (waiting : Bool) × IsTrue (events_alternate waiting (events_of p events))
 
 in_turn_later : (e : Event) (events : List Event) → AreInTurn (e ∷ events) → AreInTurn events
 in_turn_later (Invoke q call) events turns p = ⊎_elim
     (λ same. let (waiting, h) = turns p in (true, later waiting (rw same at h)))
     (λ other. let (waiting, h) = turns p in (waiting, rw other at h)) (cases_Bool (q == p))
   where
-    later : (waiting : Bool) → (not waiting && takes_turns true (events_of p events)) ≡ true → takes_turns true (events_of p events) ≡ true
-    later waiting h = (and_parts (not waiting) (takes_turns true (events_of p events)) h).1
+    later : (waiting : Bool) → (not waiting && events_alternate true (events_of p events)) ≡ true → events_alternate true (events_of p events) ≡ true
+    later waiting h = (and_parts (not waiting) (events_alternate true (events_of p events)) h).1
 in_turn_later (Answer q reply) events turns p = ⊎_elim
     (λ same. let (waiting, h) = turns p in (false, later waiting (rw same at h)))
     (λ other. let (waiting, h) = turns p in (waiting, rw other at h)) (cases_Bool (q == p))
   where
-    later : (waiting : Bool) → (waiting && takes_turns false (events_of p events)) ≡ true → takes_turns false (events_of p events) ≡ true
-    later waiting h = (and_parts waiting (takes_turns false (events_of p events)) h).1
+    later : (waiting : Bool) → (waiting && events_alternate false (events_of p events)) ≡ true → events_alternate false (events_of p events) ≡ true
+    later waiting h = (and_parts waiting (events_alternate false (events_of p events)) h).1
 
 opened_by : (p : ℕ) (call : Call) (events : List Event) → AreInTurn (Invoke p call ∷ events) → IsOpen p events
 opened_by p call events turns =
     let (waiting, h) = turns p in
-    (and_parts (not waiting) (takes_turns true (events_of p events)) (rw (eq-eqb p p refl) at h)).1
+    (and_parts (not waiting) (events_alternate true (events_of p events)) (rw (eq-eqb p p refl) at h)).1
 
 -- ---- places
 

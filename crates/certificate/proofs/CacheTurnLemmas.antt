@@ -4,7 +4,7 @@ use Rattle.std.proofs.Common.{◌==◌}
 use Rattle.certificate.proofs.Common.{None, IsTrue, refl, sym, ap, ◌∙◌, subst, ⊎_elim, arith, ◌≢◌, All, AllPairs, false≢true, cases_Bool, cases_lt}
 use Rattle.certificate.proofs.Common.{eqb-true, eqb-false, ne_eqb, eq-eqb, and_parts, All-nil, All-cons, All-head, All-tail, All-contains}
 use Rattle.certificate.proofs.Common.{AllPairs-filter, AllPairs-nil, AllPairs-head, AllPairs-tail, Call, Get, Reply, Event, Invoke, Answer}
-use Rattle.certificate.proofs.Common.{process_of, events_of, takes_turns, HistoryView, recorded_reply, missed_keys, is_missed, helper}
+use Rattle.certificate.proofs.Common.{process_of, events_of, events_alternate, HistoryView, recorded_reply, missed_keys, is_missed, helper}
 use Rattle.certificate.proofs.Common.{answer_to_come, recorded_invocation, recorded_answer, last_after, recorded_events, recording_of}
 use Rattle.std.specs.Prelude.{◌/◌, ◌%◌}
 use Rattle.std.specs.List.{list_all}
@@ -41,7 +41,7 @@ module _ (fresh : ℕ) (keys : List ℕ) (q : ℕ) (small_q : q < 64) where
   own_answer p call reply = rw (none_of_answers p q (missed_keys keys call reply) (λ key. helper_above p key q small_q)) refl
 
   pub same_turns : (last : ℕ → Call) (events : List Event) (waiting : Bool)
-      → takes_turns waiting (events_of q (recorded_events fresh keys last events)) ≡ takes_turns waiting (events_of q events)
+      → events_alternate waiting (events_of q (recorded_events fresh keys last events)) ≡ events_alternate waiting (events_of q events)
   same_turns last [] waiting = refl
   same_turns last (Invoke p call ∷ events) waiting =
       let o = answer_to_come p events in
@@ -52,8 +52,8 @@ module _ (fresh : ℕ) (keys : List ℕ) (q : ℕ) (small_q : q < 64) where
       )
       (either (p == q) (call_of fresh call o) (events_of q (recorded_events fresh keys later events)) (same_turns later events))
     where
-      either : (b : Bool) (c : Call) (xs : List Event) → ((w : Bool) → takes_turns w xs ≡ takes_turns w (events_of q events))
-          → takes_turns waiting (cond b (Invoke p c ∷ []) [] ++ xs) ≡ takes_turns waiting (cond b (Invoke p call ∷ events_of q events) (events_of q events))
+      either : (b : Bool) (c : Call) (xs : List Event) → ((w : Bool) → events_alternate w xs ≡ events_alternate w (events_of q events))
+          → events_alternate waiting (cond b (Invoke p c ∷ []) [] ++ xs) ≡ events_alternate waiting (cond b (Invoke p call ∷ events_of q events) (events_of q events))
       either true c xs rest = ap (λ (x : Bool). not waiting && x) (rest true)
       either false c xs rest = rest waiting
   same_turns last (Answer p reply ∷ events) waiting =
@@ -63,8 +63,8 @@ module _ (fresh : ℕ) (keys : List ℕ) (q : ℕ) (small_q : q < 64) where
       )
       (either (p == q) (recorded_reply (last p) reply) (events_of q (recorded_events fresh keys last events)) (same_turns last events))
     where
-      either : (b : Bool) (r : Reply) (xs : List Event) → ((w : Bool) → takes_turns w xs ≡ takes_turns w (events_of q events))
-          → takes_turns waiting (cond b (Answer p r ∷ []) [] ++ xs) ≡ takes_turns waiting (cond b (Answer p reply ∷ events_of q events) (events_of q events))
+      either : (b : Bool) (r : Reply) (xs : List Event) → ((w : Bool) → events_alternate w xs ≡ events_alternate w (events_of q events))
+          → events_alternate waiting (cond b (Answer p r ∷ []) [] ++ xs) ≡ events_alternate waiting (cond b (Answer p reply ∷ events_of q events) (events_of q events))
       either true r xs rest = ap (λ (x : Bool). waiting && x) (rest false)
       either false r xs rest = rest waiting
 
@@ -85,8 +85,8 @@ module _ (fresh : ℕ) (keys : List ℕ) (distinct : AllPairs (λ a b. a ≢ b) 
       (λ yes. absurd (All-contains (λ b. k ≢ b) removed key others (has_number-Contains removed key yes) same)) (λ no. no) (cases_Bool (has removed))
 
   turns_of_invokes : (removed : List ℕ) → AllPairs (λ a b. a ≢ b) removed → (waiting : Bool) (xs : List Event)
-      → takes_turns waiting (events_of own (invokes p removed) ++ xs)
-      ≡ cond (has removed) (not waiting && takes_turns true xs) (takes_turns waiting xs)
+      → events_alternate waiting (events_of own (invokes p removed) ++ xs)
+      ≡ cond (has removed) (not waiting && events_alternate true xs) (events_alternate waiting xs)
   turns_of_invokes [] pairs waiting xs = refl
   turns_of_invokes (k ∷ removed) pairs waiting xs = ⊎_elim
       (λ same. let is = eqb-true k key same in
@@ -100,8 +100,8 @@ module _ (fresh : ℕ) (keys : List ℕ) (distinct : AllPairs (λ a b. a ≢ b) 
       rest = AllPairs-tail (λ a b. a ≢ b) k removed pairs
 
   turns_of_answers : (removed : List ℕ) → AllPairs (λ a b. a ≢ b) removed → (waiting : Bool) (xs : List Event)
-      → takes_turns waiting (events_of own (answers p removed) ++ xs)
-      ≡ cond (has removed) (waiting && takes_turns false xs) (takes_turns waiting xs)
+      → events_alternate waiting (events_of own (answers p removed) ++ xs)
+      ≡ cond (has removed) (waiting && events_alternate false xs) (events_alternate waiting xs)
   turns_of_answers [] pairs waiting xs = refl
   turns_of_answers (k ∷ removed) pairs waiting xs = ⊎_elim
       (λ same. let is = eqb-true k key same in
@@ -152,34 +152,34 @@ module _ (fresh : ℕ) (keys : List ℕ) (distinct : AllPairs (λ a b. a ≢ b) 
   past_answer q reply last events true other = rw other refl
   past_answer q reply last events false other = refl
 
-  mine_invoked : (q : ℕ) (call : Call) (events xs : List Event) → q ≡ p → takes_turns (has (keys_of keys call (answer_to_come p events))) xs ≡ true
-      → takes_turns false (events_of own (recorded_invocation fresh keys q call (answer_to_come q events)) ++ xs) ≡ true
+  mine_invoked : (q : ℕ) (call : Call) (events xs : List Event) → q ≡ p → events_alternate (has (keys_of keys call (answer_to_come p events))) xs ≡ true
+      → events_alternate false (events_of own (recorded_invocation fresh keys q call (answer_to_come q events)) ++ xs) ≡ true
   mine_invoked q call events xs is rest =
       let o = answer_to_come p events in
       let removed = keys_of keys call o in
-      subst (λ x. takes_turns false (events_of own (recorded_invocation fresh keys x call (answer_to_come x events)) ++ xs) ≡ true) (sym is)
-      (ap (λ (l : List Event). takes_turns false (l ++ xs)) (own_invocations call o)
+      subst (λ x. events_alternate false (events_of own (recorded_invocation fresh keys x call (answer_to_come x events)) ++ xs) ≡ true) (sym is)
+      (ap (λ (l : List Event). events_alternate false (l ++ xs)) (own_invocations call o)
       ∙ (turns_of_invokes removed (distinct_keys call o) false xs ∙ either (has removed) rest))
     where
-      either : (b : Bool) → takes_turns b xs ≡ true → cond b (takes_turns true xs) (takes_turns false xs) ≡ true
+      either : (b : Bool) → events_alternate b xs ≡ true → cond b (events_alternate true xs) (events_alternate false xs) ≡ true
       either true h = h
       either false h = h
 
-  mine_answered : (q : ℕ) (last : ℕ → Call) (reply : Reply) (xs : List Event) → q ≡ p → takes_turns false xs ≡ true
-      → takes_turns (has (missed_keys keys (last p) reply)) (events_of own (recorded_answer keys q (last q) reply) ++ xs) ≡ true
+  mine_answered : (q : ℕ) (last : ℕ → Call) (reply : Reply) (xs : List Event) → q ≡ p → events_alternate false xs ≡ true
+      → events_alternate (has (missed_keys keys (last p) reply)) (events_of own (recorded_answer keys q (last q) reply) ++ xs) ≡ true
   mine_answered q last reply xs is rest =
       let removed = missed_keys keys (last p) reply in
-      subst (λ x. takes_turns (has removed) (events_of own (recorded_answer keys x (last x) reply) ++ xs) ≡ true) (sym is)
-      (ap (λ (l : List Event). takes_turns (has removed) (l ++ xs)) (own_answers (last p) reply)
+      subst (λ x. events_alternate (has removed) (events_of own (recorded_answer keys x (last x) reply) ++ xs) ≡ true) (sym is)
+      (ap (λ (l : List Event). events_alternate (has removed) (l ++ xs)) (own_answers (last p) reply)
       ∙ (turns_of_answers removed (AllPairs-filter (λ a b. a ≢ b) (is_missed (last p) reply) keys distinct) (has removed) xs
       ∙ either (has removed) rest))
     where
-      either : (b : Bool) → takes_turns false xs ≡ true → cond b (b && takes_turns false xs) (takes_turns b xs) ≡ true
+      either : (b : Bool) → events_alternate false xs ≡ true → cond b (b && events_alternate false xs) (events_alternate b xs) ≡ true
       either true h = h
       either false h = h
 
-  pub helper_turns : (last : ℕ → Call) (events : List Event) (waiting : Bool) → AreSmall events → takes_turns waiting (events_of p events) ≡ true
-      → takes_turns (is_removing waiting (last p) events) (events_of own (recorded_events fresh keys last events)) ≡ true
+  pub helper_turns : (last : ℕ → Call) (events : List Event) (waiting : Bool) → AreSmall events → events_alternate waiting (events_of p events) ≡ true
+      → events_alternate (is_removing waiting (last p) events) (events_of own (recorded_events fresh keys last events)) ≡ true
   helper_turns last [] waiting small turns = refl
   helper_turns last (Invoke q call ∷ events) waiting small turns =
       let o = answer_to_come q events in
@@ -187,66 +187,66 @@ module _ (fresh : ℕ) (keys : List ℕ) (distinct : AllPairs (λ a b. a ≢ b) 
       let xs = events_of own (recorded_events fresh keys later events) in
       let q_small = All-head (λ e. process_of e < 64) (Invoke q call) events small in
       let rest = All-tail (λ e. process_of e < 64) (Invoke q call) events small in
-      subst (λ (l : List Event). takes_turns (is_removing waiting (last p) (Invoke q call ∷ events)) l ≡ true)
+      subst (λ (l : List Event). events_alternate (is_removing waiting (last p) (Invoke q call ∷ events)) l ≡ true)
       (sym (filter-append (λ e. process_of e == own) (recorded_invocation fresh keys q call o) (recorded_events fresh keys later events)))
       (⊎_elim (λ same. mine (eqb-true q p same) waiting (rw same at turns) (λ turns. helper_turns later events true rest turns))
       (λ other. others q_small other (helper_turns later events waiting rest (rw other at turns))) (cases_Bool (q == p)))
     where
-      mine : q ≡ p → (waiting : Bool) → (not waiting && takes_turns true (events_of p events)) ≡ true
-          → (takes_turns true (events_of p events) ≡ true
-          → takes_turns (has (keys_of keys (last_after last (Invoke q call) p) (answer_to_come p events)))
+      mine : q ≡ p → (waiting : Bool) → (not waiting && events_alternate true (events_of p events)) ≡ true
+          → (events_alternate true (events_of p events) ≡ true
+          → events_alternate (has (keys_of keys (last_after last (Invoke q call) p) (answer_to_come p events)))
           (events_of own (recorded_events fresh keys (last_after last (Invoke q call)) events)) ≡ true)
-          → takes_turns (is_removing waiting (last p) (Invoke q call ∷ events))
+          → events_alternate (is_removing waiting (last p) (Invoke q call ∷ events))
           (events_of own (recorded_invocation fresh keys q call (answer_to_come q events))
           ++ events_of own (recorded_events fresh keys (last_after last (Invoke q call)) events)) ≡ true
       mine is true h rest = absurd (false≢true h)
       mine is false h rest =
           let is_call : last_after last (Invoke q call) p ≡ call = rw (eq-eqb q p is) refl in
           mine_invoked q call events (events_of own (recorded_events fresh keys (last_after last (Invoke q call)) events)) is
-          (subst (λ (c : Call). takes_turns (has (keys_of keys c (answer_to_come p events)))
+          (subst (λ (c : Call). events_alternate (has (keys_of keys c (answer_to_come p events)))
           (events_of own (recorded_events fresh keys (last_after last (Invoke q call)) events)) ≡ true) is_call (rest h))
 
       others : q < 64 → (q == p) ≡ false
-          → takes_turns (is_removing waiting (last_after last (Invoke q call) p) events)
+          → events_alternate (is_removing waiting (last_after last (Invoke q call) p) events)
           (events_of own (recorded_events fresh keys (last_after last (Invoke q call)) events)) ≡ true
-          → takes_turns (is_removing waiting (last p) (Invoke q call ∷ events))
+          → events_alternate (is_removing waiting (last p) (Invoke q call ∷ events))
           (events_of own (recorded_invocation fresh keys q call (answer_to_come q events))
           ++ events_of own (recorded_events fresh keys (last_after last (Invoke q call)) events)) ≡ true
       others q_small other rest =
           let xs = events_of own (recorded_events fresh keys (last_after last (Invoke q call)) events) in
           let is_last : last_after last (Invoke q call) p ≡ last p = rw other refl in
-          ap (λ (l : List Event). takes_turns (is_removing waiting (last p) (Invoke q call ∷ events)) (l ++ xs))
+          ap (λ (l : List Event). events_alternate (is_removing waiting (last p) (Invoke q call ∷ events)) (l ++ xs))
           (other_invocation q call (answer_to_come q events) q_small (eqb-false q p other))
-          ∙ (ap (λ (b : Bool). takes_turns b xs) (past_invocation q call (last p) events waiting)
-          ∙ subst (λ (c : Call). takes_turns (is_removing waiting c events) xs ≡ true) is_last rest)
+          ∙ (ap (λ (b : Bool). events_alternate b xs) (past_invocation q call (last p) events waiting)
+          ∙ subst (λ (c : Call). events_alternate (is_removing waiting c events) xs ≡ true) is_last rest)
   helper_turns last (Answer q reply ∷ events) waiting small turns =
       let q_small = All-head (λ e. process_of e < 64) (Answer q reply) events small in
       let rest = All-tail (λ e. process_of e < 64) (Answer q reply) events small in
-      subst (λ (l : List Event). takes_turns (is_removing waiting (last p) (Answer q reply ∷ events)) l ≡ true)
+      subst (λ (l : List Event). events_alternate (is_removing waiting (last p) (Answer q reply ∷ events)) l ≡ true)
       (sym (filter-append (λ e. process_of e == own) (recorded_answer keys q (last q) reply) (recorded_events fresh keys last events)))
       (⊎_elim (λ same. mine (eqb-true q p same) waiting (rw same at turns) (λ turns. helper_turns last events false rest turns))
       (λ other. others q_small other (helper_turns last events waiting rest (rw other at turns))) (cases_Bool (q == p)))
     where
-      mine : q ≡ p → (waiting : Bool) → (waiting && takes_turns false (events_of p events)) ≡ true
-          → (takes_turns false (events_of p events) ≡ true → takes_turns false (events_of own (recorded_events fresh keys last events)) ≡ true)
-          → takes_turns (is_removing waiting (last p) (Answer q reply ∷ events))
+      mine : q ≡ p → (waiting : Bool) → (waiting && events_alternate false (events_of p events)) ≡ true
+          → (events_alternate false (events_of p events) ≡ true → events_alternate false (events_of own (recorded_events fresh keys last events)) ≡ true)
+          → events_alternate (is_removing waiting (last p) (Answer q reply ∷ events))
           (events_of own (recorded_answer keys q (last q) reply) ++ events_of own (recorded_events fresh keys last events)) ≡ true
       mine is false h rest = absurd (false≢true h)
       mine is true h rest =
           let to_come : answer_to_come p (Answer q reply ∷ events) ≡ Some reply = rw (eq-eqb q p is) refl in
-          subst (λ (o : Option Reply). takes_turns (has (keys_of keys (last p) o))
+          subst (λ (o : Option Reply). events_alternate (has (keys_of keys (last p) o))
           (events_of own (recorded_answer keys q (last q) reply) ++ events_of own (recorded_events fresh keys last events)) ≡ true) (sym to_come)
           (mine_answered q last reply (events_of own (recorded_events fresh keys last events)) is (rest h))
 
       others : q < 64 → (q == p) ≡ false
-          → takes_turns (is_removing waiting (last p) events) (events_of own (recorded_events fresh keys last events)) ≡ true
-          → takes_turns (is_removing waiting (last p) (Answer q reply ∷ events))
+          → events_alternate (is_removing waiting (last p) events) (events_of own (recorded_events fresh keys last events)) ≡ true
+          → events_alternate (is_removing waiting (last p) (Answer q reply ∷ events))
           (events_of own (recorded_answer keys q (last q) reply) ++ events_of own (recorded_events fresh keys last events)) ≡ true
       others q_small other rest =
           let xs = events_of own (recorded_events fresh keys last events) in
-          ap (λ (l : List Event). takes_turns (is_removing waiting (last p) (Answer q reply ∷ events)) (l ++ xs))
+          ap (λ (l : List Event). events_alternate (is_removing waiting (last p) (Answer q reply ∷ events)) (l ++ xs))
           (other_answer q (last q) reply q_small (eqb-false q p other))
-          ∙ (ap (λ (b : Bool). takes_turns b xs) (past_answer q reply (last p) events waiting other) ∙ rest)
+          ∙ (ap (λ (b : Bool). events_alternate b xs) (past_answer q reply (last p) events waiting other) ∙ rest)
 
 -- ---- so what is recorded of a history is well formed
 
@@ -268,7 +268,7 @@ well_formed fresh keys history turns small distinct q = ⊎_elim
     let key = (q - 64) / 64 in
     let inside : p < 64 = omega arith in
     let is : helper p key ≡ q = omega arith in
-    subst (λ x. takes_turns false (events_of x (recording_of fresh keys history).events) ≡ true) is
+    subst (λ x. events_alternate false (events_of x (recording_of fresh keys history).events) ≡ true) is
     (helper_turns fresh keys distinct p key inside (λ p. Get 0) history.events false small (turns p)))
     (cases_lt q 64)
 

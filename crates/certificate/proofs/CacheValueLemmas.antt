@@ -2,7 +2,7 @@
 use Rattle.certificate.proofs.Common.{◌≡◌, ℕ, ◌<◌, ◌≤◌, nat_lt, Bool, true, false, cond, Option, Some, None, IsTrue, inl, inr, refl, sym, ap}
 use Rattle.std.proofs.Common.{◌==◌}
 use Rattle.certificate.proofs.Common.{◌∙◌, ⊎_elim, arith, ◌⊎◌, ⊤, ne_eqb, lt-ltb, le-ltb, cases_Bool, cases_lt, false≢true, none-some, same_Some}
-use Rattle.certificate.proofs.Common.{Call, Get, Insert, Remove, Scan, Replace, Reply, is_just, is_none_or_other, value_reply, TellsOf}
+use Rattle.certificate.proofs.Common.{Call, Get, Insert, Remove, Scan, Replace, Reply, is_just, is_none_or_other, value_reply, IsAllOrPartOf}
 use Rattle.certificate.proofs.Common.{recorded_call, recorded_reply, CallBelow, ReplyBelow}
 use Rattle.events.specs.declared.event.Reply.TheVariants as replies
 use Rattle.std.specs.Prelude.{not}
@@ -22,7 +22,7 @@ next_reply call reply x = next call x
 
 -- a call of one key may have this answer at this value
 abbrev pub LegalAt : Call → Reply → Option ℕ → Type 0
-LegalAt call reply x = (reply ≡ replies.Refused) ⊎ TellsOf call (value_reply x) reply
+LegalAt call reply x = (reply ≡ replies.Refused) ⊎ IsAllOrPartOf call (value_reply x) reply
 
 -- a call names one key
 abbrev pub IsPoint : Call → Type 0

@@ -19,7 +19,7 @@ pub use Rattle.events.proofs.Lists.{Contains-later, Contains-nil, Contains-range
 pub use Rattle.events.proofs.NumberLemmas.{greatest-push, greatest_bound, has_number-Contains, has_number-from_Contains, has_number-push}
 pub use Rattle.events.proofs.NumberLemmas.{slice_get-below, some_at}
 pub use Rattle.events.proofs.RisingLemmas.{IsStrictlyIncreasing-range}
-pub use Rattle.events.specs.Events.{events_of, process_of, takes_turns}
+pub use Rattle.events.specs.Events.{events_of, process_of, events_alternate}
 pub use Rattle.events.specs.HistoryView.{HistoryView}
 pub use Rattle.events.specs.Keys.{low_key}
 pub use Rattle.events.specs.Lists.{greatest, has_number}
@@ -33,7 +33,7 @@ pub use Rattle.events.specs.declared.event.Reply.{Reply}
 pub use Rattle.events.specs.declared.operation.Operation.{Operation}
 pub use Rattle.events.specs.declared.operation.Response.{Response}
 pub use Rattle.map_object.proofs.TellLemmas.{after_reply-answer}
-pub use Rattle.map_object.specs.MapObject.{Contents, IsLegalReply, IsRising, TellsOf, after, after_reply, is_just, is_none_or_other, reply_to}
+pub use Rattle.map_object.specs.MapObject.{Contents, IsLegalReply, IsRising, IsAllOrPartOf, after, after_reply, is_just, is_none_or_other, reply_to}
 pub use Rattle.map_object.specs.MapObject.{value_at, value_reply, within}
 pub use Rattle.orders.proofs.OrderLemmas.{IsCompletedAt-below, IsLegal-append, IsLegal-back, IsLegal-front, after_calls-append, calls_at-append}
 pub use Rattle.orders.proofs.OrderLemmas.{calls_at-push}

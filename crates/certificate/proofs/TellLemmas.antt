@@ -4,7 +4,7 @@ use Rattle.certificate.proofs.Common.{Contents, value_at, is_just, value_reply, 
 use Rattle.std.proofs.Common.{◌↔◌, is_some}
 use Rattle.map_object.specs.MapObject.{is_value, misses}
 use Rattle.certificate.specs.Finds.{FindsValue, MissesValue}
-use Rattle.certificate.specs.PartialLaws.{AnswersDoCalls, AnswersThatTellLess}
+use Rattle.certificate.specs.PartialLaws.{AnswersDoCalls, PartialAnswers}
 
 pub answers_do : AnswersDoCalls
 answers_do m call reply legal answered = after_reply-answer m call reply answered
@@ -33,7 +33,7 @@ misses_value m (Remove key) = (λ h. cc, λ h. absurd h)
 misses_value m (Scan low high) = (λ h. cc, λ h. absurd h)
 misses_value m (Replace key expected value) = rw (is_other-reply expected (value_at m key)) (λ h. h, λ h. h)
 
-pub tell_by_value : AnswersThatTellLess
+pub tell_by_value : PartialAnswers
 tell_by_value m call = record {
   done = inr tt;
   found = (λ legal. ⊎_elim (λ refused. cc) (finds m call).0 legal, λ found. inr ((finds m call).1 found));

@@ -2,7 +2,7 @@
 use Rattle.certificate.proofs.Common.{◌≡◌, ℕ, suc, zero, ◌+◌, ◌<◌, true, false, Bool, cond, List, [], ◌∷◌, length, Option, Some, None, inl}
 use Rattle.certificate.proofs.Common.{inr, refl, sym, ap, ◌∙◌, subst, ⊎_elim, arith, IsTrue, ◌≢◌, slice_get, All, AllPairs, Contains}
 use Rattle.certificate.proofs.Common.{ne_eqb, eqb-true, eqb-false, All-head, All-tail, All-contains, none-some, same_Some, Call, Reply, Operation}
-use Rattle.certificate.proofs.Common.{Response, is_completed, is_before, precedes, Contents, reply_to, TellsOf, after_reply-answer, after_call}
+use Rattle.certificate.proofs.Common.{Response, is_completed, is_before, precedes, Contents, reply_to, IsAllOrPartOf, after_reply-answer, after_call}
 use Rattle.certificate.proofs.Common.{IsLegalCall, IsLegal, calls_at, IsCompletedAt, IsOrder, AllPairs-head, AllPairs-tail, Contains-nil}
 use Rattle.certificate.proofs.Common.{Contains-first, Contains-later, Contains-cases, slice_get-below, some_at, AreRelatedAs, AllPairs-filter_map}
 use Rattle.certificate.proofs.Common.{AllPairs-from_filter_map, AllPairs-weaker}
@@ -46,7 +46,7 @@ legal_from_told m call (Some r) (Some t) is legal = ⊎_elim
     (λ whole. ⊎_elim (λ t_refused. absurd (whole.0 t_refused))
     (λ t_tells.
     let same = whole_from_tells call (reply_to m call) t.reply is.1 t_tells in
-    let tells = subst (λ (w : Reply). TellsOf call w r.reply) same whole.1 in
+    let tells = subst (λ (w : Reply). IsAllOrPartOf call w r.reply) same whole.1 in
     (inr tells, after_reply-answer m call t.reply whole.0 ∙ sym (after_reply-answer m call r.reply (tells_answers m call r.reply tells))))
     legal) is.2
 

@@ -21,8 +21,8 @@ pub record TellByValue (m : Contents) (call : Call) : Type 0 where
   pub found : IsLegalReply m call replies.Found ↔ FindsValue m call
   pub other : IsLegalReply m call replies.Other ↔ MissesValue m call
 
-abbrev pub AnswersThatTellLess : Type 0
-AnswersThatTellLess = (m : Contents) (call : Call) → TellByValue m call
+abbrev pub PartialAnswers : Type 0
+PartialAnswers = (m : Contents) (call : Call) → TellByValue m call
 
 -- calls have an order exactly if they have one with some complete answers in place of the partial
 -- ones

@@ -6,8 +6,8 @@ use Rattle.std.specs.List.{AllZip}
 use Rattle.events.specs.declared.event.Call.{Call}
 use Rattle.events.specs.declared.operation.Operation.{Operation}
 use Rattle.events.specs.declared.operation.Response.{Response}
-use Rattle.events.specs.Told.{is_told}
-use Rattle.map_object.specs.MapObject.{TellsOf}
+use Rattle.events.specs.Told.{is_complete}
+use Rattle.map_object.specs.MapObject.{IsAllOrPartOf}
 
 -- a response with the complete answer in place of one that says a part of it: at the same event,
 -- and `refused` if the response is. A pending call stays pending
@@ -16,9 +16,9 @@ IsToldAs call None None = ⊤
 IsToldAs call None (Some told) = ⊥
 IsToldAs call (Some response) None = ⊥
 IsToldAs call (Some response) (Some told) =
-    (told.res ≡ response.res) × (is_told told.reply ≡ true)
+    (told.res ≡ response.res) × (is_complete told.reply ≡ true)
     × (((response.reply ≡ replies.Refused) × (told.reply ≡ replies.Refused))
-    ⊎ ((told.reply ≢ replies.Refused) × TellsOf call told.reply response.reply))
+    ⊎ ((told.reply ≢ replies.Refused) × IsAllOrPartOf call told.reply response.reply))
 
 -- a call with its response completed so
 pub record IsToldCall (a told : Operation) : Type 0 where

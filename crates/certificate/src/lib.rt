@@ -14,7 +14,7 @@ pub use checker::check;
 pub use fault::OrderFault;
 pub use laws::first_fault_is_unique;
 pub use partial_laws::{
-    answers_do_calls, answers_that_tell_less, evicted_keys_are_no_lost_writes,
-    found_after_other_is_missed, histories_of_caches_have_recordings, lost_writes_are_refuted,
-    orders_are_those_of_told_calls, recorded_caches_are_lossy_maps,
+    answers_do_calls, evicted_keys_are_no_lost_writes, found_after_other_is_missed,
+    histories_of_caches_have_recordings, lost_writes_are_refuted, orders_are_those_of_told_calls,
+    partial_answers_are_legal, recorded_caches_are_lossy_maps,
 };

@@ -1,7 +1,7 @@
 // Laws of partial answers, and of caches. Each is the contract of a function that does nothing.
 ghost use Rattle.certificate.specs.CacheLaws.{EvictedKeysAreNoLostWrites, HistoriesOfCachesHaveRecordings, LostWritesAreRefuted, RecordedCachesAreLossyMaps};
 ghost use Rattle.certificate.specs.FoundAfterOther.{FoundAfterOtherIsMissed};
-ghost use Rattle.certificate.specs.PartialLaws.{AnswersDoCalls, AnswersThatTellLess, OrdersAreThoseOfToldCalls};
+ghost use Rattle.certificate.specs.PartialLaws.{AnswersDoCalls, PartialAnswers, OrdersAreThoseOfToldCalls};
 
 /// A legal answer that is not `refused` does the call, even if it is partial.
 pub fn answers_do_calls()
@@ -11,8 +11,8 @@ pub fn answers_do_calls()
 /// `done` is legal at each call. `found` is legal exactly if the call names one key and a value is
 /// there. `other` is legal exactly at a replace whose key has another value than the expected one,
 /// or none.
-pub fn answers_that_tell_less()
-    ensures { AnswersThatTellLess }
+pub fn partial_answers_are_legal()
+    ensures { PartialAnswers }
 {}
 
 /// Calls with partial answers have an order exactly if they have one with some complete answers in

@@ -12,7 +12,7 @@ pub use Rattle.std.proofs.lemmas.List.Sums.{AllPass-from_list_all, sum_by-append
 pub use Rattle.std.proofs.lemmas.Option.{IfSome_then, get_or_from_slice_get, none-some, same_Some, slice_get_within}
 pub use Rattle.std.proofs.lemmas.Result.{err_from_is_err_and}
 pub use Rattle.std.specs.Prelude.{All, AllPairs, IfSome, slice_get, ⊤, ◌⊎◌}
-pub use Rattle.events.specs.Events.{IsWellFormed, events_of, is_invocation, process_of, takes_turns}
+pub use Rattle.events.specs.Events.{IsWellFormed, events_of, is_invocation, process_of, events_alternate}
 pub use Rattle.events.specs.Histories.{AreHistoryEvents, call_count, is_shaped, is_small}
 pub use Rattle.events.specs.HistoryFaults.{IsFirstEventFault, IsFirstFault, IsFirstFaultOf, IsFirstPairFault, IsPairRefusedAfter, IsRefusedAfter}
 pub use Rattle.events.specs.HistoryFaults.{IsRefusedFor, ends_waiting, event_fault, fault_after, has_open_call, is_above, is_call_too_many}

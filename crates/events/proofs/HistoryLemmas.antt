@@ -3,7 +3,7 @@ use Rattle.events.specs.declared.fault.HistoryFault.TheVariants as faults
 use Rattle.events.proofs.Common.{◌≡◌, ℕ, ◌+◌, ◌<◌, ◌≤◌, Bool, true, false, not, ◌&&◌, ◌||◌, ◌==◌, cond, List, [], ◌∷◌, ◌++◌, length, Some, None}
 use Rattle.events.proofs.Common.{IsTrue, refl, sym, ◌∙◌, arith, subst, eqb-true, eq-eqb, leb-false, append-nil, filter-append, list_all-append}
 use Rattle.events.proofs.Common.{sum_by-append, nat_tests, and_parts, Event, Invoke, Answer, HistoryFault, call_limit, process_of, is_invocation}
-use Rattle.events.proofs.Common.{events_of, takes_turns, IsWellFormed, is_shaped, is_small, call_count, AreHistoryEvents, ends_waiting, has_open_call}
+use Rattle.events.proofs.Common.{events_of, events_alternate, IsWellFormed, is_shaped, is_small, call_count, AreHistoryEvents, ends_waiting, has_open_call}
 use Rattle.events.proofs.Common.{is_out_of_turn, is_call_too_many, event_fault, fault_after}
 use Rattle.std.specs.List.{list_all}
 
@@ -26,21 +26,21 @@ pub has_open_call-push : (p : ℕ) (before : List Event) (e : Event)
     → has_open_call p (before ++ e ∷ []) ≡ cond (process_of e == p) (is_invocation e) (has_open_call p before)
 has_open_call-push p before e = rw (events_of-push p before e) (open_after (process_of e == p) (events_of p before) e)
 
-takes_turns-push : (w : Bool) (xs : List Event) (e : Event)
-    → takes_turns w (xs ++ e ∷ []) ≡ (takes_turns w xs && not (is_out_of_turn (ends_waiting w xs) e))
-takes_turns-push true [] (Invoke p call) = refl
-takes_turns-push false [] (Invoke p call) = refl
-takes_turns-push true [] (Answer p reply) = refl
-takes_turns-push false [] (Answer p reply) = refl
-takes_turns-push true (Invoke p call ∷ xs) e = refl
-takes_turns-push false (Invoke p call ∷ xs) e = takes_turns-push true xs e
-takes_turns-push true (Answer p reply ∷ xs) e = takes_turns-push false xs e
-takes_turns-push false (Answer p reply ∷ xs) e = refl
+events_alternate-push : (w : Bool) (xs : List Event) (e : Event)
+    → events_alternate w (xs ++ e ∷ []) ≡ (events_alternate w xs && not (is_out_of_turn (ends_waiting w xs) e))
+events_alternate-push true [] (Invoke p call) = refl
+events_alternate-push false [] (Invoke p call) = refl
+events_alternate-push true [] (Answer p reply) = refl
+events_alternate-push false [] (Answer p reply) = refl
+events_alternate-push true (Invoke p call ∷ xs) e = refl
+events_alternate-push false (Invoke p call ∷ xs) e = events_alternate-push true xs e
+events_alternate-push true (Answer p reply ∷ xs) e = events_alternate-push false xs e
+events_alternate-push false (Answer p reply ∷ xs) e = refl
 
-turns_after : (w b : Bool) (xs : List Event) (e : Event) → IsTrue (takes_turns w xs)
+turns_after : (w b : Bool) (xs : List Event) (e : Event) → IsTrue (events_alternate w xs)
     → (b ≡ true → is_out_of_turn (ends_waiting w xs) e ≡ false)
-    → IsTrue (takes_turns w (xs ++ cond b (e ∷ []) []))
-turns_after w true xs e h turn = rw (takes_turns-push w xs e, turn refl, h) refl
+    → IsTrue (events_alternate w (xs ++ cond b (e ∷ []) []))
+turns_after w true xs e h turn = rw (events_alternate-push w xs e, turn refl, h) refl
 turns_after w false xs e h turn = rw (append-nil xs) h
 
 -- well formed with one event more, where it does not come out of turn
@@ -107,7 +107,7 @@ passes_at : (test : Event → Bool) (before : List Event) (e : Event) (rest : Li
     → list_all test (before ++ e ∷ rest) ≡ true → test e ≡ true
 passes_at test before e rest h = (and_parts (test e) _ ((and_parts (list_all test before) _ (sym (list_all-append test before (e ∷ rest)) ∙ h)).1)).0
 
-in_turn_at : (w : Bool) (xs : List Event) (e : Event) (ys : List Event) → takes_turns w (xs ++ e ∷ ys) ≡ true
+in_turn_at : (w : Bool) (xs : List Event) (e : Event) (ys : List Event) → events_alternate w (xs ++ e ∷ ys) ≡ true
     → is_out_of_turn (ends_waiting w xs) e ≡ false
 in_turn_at true [] (Invoke p call) ys h = cc
 in_turn_at false [] (Invoke p call) ys h = refl
@@ -130,8 +130,8 @@ calls_before before e rest h =
     omega (arith, p, q)
 
 own_events : (before : List Event) (e : Event) (rest : List Event)
-    → takes_turns false (events_of (process_of e) (before ++ e ∷ rest)) ≡ true
-    → takes_turns false (events_of (process_of e) before ++ e ∷ events_of (process_of e) rest) ≡ true
+    → events_alternate false (events_of (process_of e) (before ++ e ∷ rest)) ≡ true
+    → events_alternate false (events_of (process_of e) before ++ e ∷ events_of (process_of e) rest) ≡ true
 own_events before e rest h =
     let own : (process_of e == process_of e) ≡ true = eq-eqb (process_of e) (process_of e) refl in
     rw own at (rw (filter-append (λ x. process_of x == process_of e) before (e ∷ rest)) at h)

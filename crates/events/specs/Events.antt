@@ -18,11 +18,11 @@ abbrev pub events_of : ℕ → List Event → List Event
 events_of p events = filter (λ e. process_of e == p) events
 
 -- whether invocations and responses take turns; `waiting` says that the first is to be a response
-abbrev pub takes_turns : Bool → List Event → Bool
-takes_turns waiting [] = true
-takes_turns waiting (Invoke p call ∷ events) = not waiting && takes_turns true events
-takes_turns waiting (Answer p reply ∷ events) = waiting && takes_turns false events
+abbrev pub events_alternate : Bool → List Event → Bool
+events_alternate waiting [] = true
+events_alternate waiting (Invoke p call ∷ events) = not waiting && events_alternate true events
+events_alternate waiting (Answer p reply ∷ events) = waiting && events_alternate false events
 
 -- the events of each process take turns, an invocation first
 abbrev pub IsWellFormed : List Event → Type 0
-IsWellFormed events = (p : ℕ) → IsTrue (takes_turns false (events_of p events))
+IsWellFormed events = (p : ℕ) → IsTrue (events_alternate false (events_of p events))

@@ -6,7 +6,7 @@ use Rattle.events.specs.declared.event.Call.TheVariants.{Get, Insert, Remove, Sc
 use Rattle.events.specs.declared.event.Event.{Event}
 use Rattle.events.specs.declared.event.Event.TheVariants.{Invoke, Answer}
 use Rattle.events.specs.HistoryView.{HistoryView}
-use Rattle.events.specs.Told.{is_told}
+use Rattle.events.specs.Told.{is_complete}
 
 -- whether a call is a replace
 abbrev pub is_replace : Call → Bool
@@ -19,7 +19,7 @@ is_replace (Replace key old new) = true
 -- whether an event is neither the invocation of a replace nor a partial answer
 abbrev pub is_plain_event : Event → Bool
 is_plain_event (Invoke p call) = not (is_replace call)
-is_plain_event (Answer p reply) = is_told reply
+is_plain_event (Answer p reply) = is_complete reply
 
 -- whether there are no pairs
 abbrev pub has_no_pairs : List (ℕ × ℕ) → Bool

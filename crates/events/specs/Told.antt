@@ -8,20 +8,20 @@ use Rattle.events.specs.declared.event.Event.{Event}
 use Rattle.events.specs.declared.event.Event.TheVariants.{Invoke, Answer}
 
 -- whether a reply is complete
-abbrev pub is_told : Reply → Bool
-is_told replies.None = true
-is_told (replies.Some value) = true
-is_told (replies.Pairs pairs) = true
-is_told replies.Refused = true
-is_told replies.Done = false
-is_told replies.Found = false
-is_told replies.Other = false
+abbrev pub is_complete : Reply → Bool
+is_complete replies.None = true
+is_complete (replies.Some value) = true
+is_complete (replies.Pairs pairs) = true
+is_complete replies.Refused = true
+is_complete replies.Done = false
+is_complete replies.Found = false
+is_complete replies.Other = false
 
 -- whether an event is not a partial answer
 abbrev pub is_told_event : Event → Bool
 is_told_event (Invoke p call) = true
-is_told_event (Answer p reply) = is_told reply
+is_told_event (Answer p reply) = is_complete reply
 
 -- whether each answer of the events is complete
-abbrev pub are_told : List Event → Bool
-are_told events = list_all is_told_event events
+abbrev pub are_complete : List Event → Bool
+are_complete events = list_all is_told_event events

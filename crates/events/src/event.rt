@@ -1,7 +1,7 @@
 // What processes and the map do: processes call the map, and the map answers.
 ghost use Rattle.std.specs.Prelude.{◌≡◌, IfOk};
 ghost use Rattle.events.specs.Histories.{pair_count};
-ghost use Rattle.events.specs.Told.{is_told};
+ghost use Rattle.events.specs.Told.{is_complete};
 
 use crate::memory::Memory;
 use std::alloc::Global;
@@ -159,8 +159,8 @@ impl Reply {
 
     /// Returns whether the reply is complete. A partial reply says only that the call was done,
     /// that its key held a value, or that a replace found another value.
-    pub fn is_told(&self) -> bool
-        ensures { result ≡ is_told self.now }
+    pub fn is_complete(&self) -> bool
+        ensures { result ≡ is_complete self.now }
     {
         !matches!(self, Reply::Done | Reply::Found | Reply::Other)
     }

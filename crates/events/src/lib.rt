@@ -26,7 +26,7 @@ pub use memory::Memory;
 pub use operation::{Operation, Response};
 pub use stamped::{append_log, history_by_stamp};
 pub use starts::is_above;
-pub use turns::Turns;
+pub use turns::HistoryBuilder;
 
 /// Processes are numbered from 0, each below this.
 pub const PROCESSES: u8 = 64;

@@ -14,13 +14,13 @@ use std::marker::Model;
 /// The starting pairs and the events of a history, taken one by one. Each is tested against those
 /// before it. Contracts see both lists.
 #[derive(Drop)]
-pub struct Turns {
+pub struct HistoryBuilder {
     start: Vec<(u64, u64)>,
     events: Vec<Event>,
     kept: OpenCalls,
 }
 
-impl Model for Turns {
+impl Model for HistoryBuilder {
     ghost use Rattle.events.specs.HistoryView.{HistoryView};
     ghost use Rattle.events.specs.Histories.{IsHistory};
     ghost use Rattle.events.specs.OpenCalls.{AreOpenAfter};
@@ -32,7 +32,7 @@ impl Model for Turns {
     ghost invariant = { λ t. IsHistory (record { start = t.start.items; events = t.events.items }) × AreOpenAfter t.events.items t.kept };
 }
 
-impl Turns {
+impl HistoryBuilder {
     ghost use Rattle.events.specs.declared.fault.HistoryFault.TheVariants as faults;
     ghost use Rattle.events.specs.Starts.{IsStart};
     ghost use Rattle.events.specs.Histories.{AreHistoryEvents, IsHistory};
@@ -40,11 +40,11 @@ impl Turns {
     ghost use Rattle.std.specs.Prelude.{◌++◌, ◌∷◌};
 
     /// Returns the state with no pair and no event yet.
-    pub fn new(alloc: Global) -> Turns
+    pub fn new(alloc: Global) -> HistoryBuilder
         ensures none { result ≡ with_no_start [] }
         ensures history { IsHistory result }
     {
-        Turns {
+        HistoryBuilder {
             start: Vec::new(alloc),
             events: Vec::new(alloc),
             kept: OpenCalls::new(),

@@ -22,7 +22,7 @@ pub use Rattle.events.specs.HistoryView.{HistoryView}
 pub use Rattle.events.specs.Limits.{process_limit, start_limit}
 pub use Rattle.events.specs.PlainHistories.{has_no_pairs, is_plain, is_plain_event, is_replace}
 pub use Rattle.events.specs.Starts.{IsStart}
-pub use Rattle.events.specs.Told.{are_told, is_told, is_told_event}
+pub use Rattle.events.specs.Told.{are_complete, is_complete, is_told_event}
 pub use Rattle.events.specs.declared.event.Call.{Call}
 pub use Rattle.events.specs.declared.event.Call.TheVariants.{Get, Insert, Remove, Replace, Scan}
 pub use Rattle.events.specs.declared.event.Event.{Event}

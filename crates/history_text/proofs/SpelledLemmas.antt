@@ -1,7 +1,7 @@
 -- Which history a text spells, by its value.
 use Rattle.history_text.proofs.Common.{One, Two, Three, ◌≡◌, ℕ, Bool, true, false, not, ◌&&◌, cond, List, [], ◌∷◌, map, Option, Some, None, Result}
 use Rattle.history_text.proofs.Common.{Ok, Err, inl, refl, sym, ap, ◌∙◌, IsTrue, list_all, and_parts, Data, Event, HistoryFault, HistoryView, Invoke}
-use Rattle.history_text.proofs.Common.{Answer, is_replace, is_plain_event, has_no_pairs, is_plain, is_told, are_told, TextVersion, has_start}
+use Rattle.history_text.proofs.Common.{Answer, is_replace, is_plain_event, has_no_pairs, is_plain, is_complete, are_complete, TextVersion, has_start}
 use Rattle.history_text.proofs.Common.{event_data, SpellEvents, document, IsDocument, start_data, start_pairs, may_stand, least_version}
 use Rattle.history_text.proofs.Common.{written_start, history_data, IsJson, SpellsAs, Spells}
 use Rattle.std.proofs.Common.{IfOk}
@@ -15,15 +15,15 @@ any_stand [] = refl
 any_stand (Invoke p call ∷ events) = any_stand events
 any_stand (Answer p reply ∷ events) = any_stand events
 
-told_stand : (events : List Event) → are_told events ≡ list_all (may_stand Two) events
+told_stand : (events : List Event) → are_complete events ≡ list_all (may_stand Two) events
 told_stand [] = refl
 told_stand (Invoke p call ∷ events) = told_stand events
-told_stand (Answer p reply ∷ events) = ap (λ b. is_told reply && b) (told_stand events)
+told_stand (Answer p reply ∷ events) = ap (λ b. is_complete reply && b) (told_stand events)
 
 plain_stand : (events : List Event) → list_all is_plain_event events ≡ list_all (may_stand One) events
 plain_stand [] = refl
 plain_stand (Invoke p call ∷ events) = ap (λ b. not (is_replace call) && b) (plain_stand events)
-plain_stand (Answer p reply ∷ events) = ap (λ b. is_told reply && b) (plain_stand events)
+plain_stand (Answer p reply ∷ events) = ap (λ b. is_complete reply && b) (plain_stand events)
 
 -- the values of events spell them in each version
 pub values_spell : (version : TextVersion) (events : List Event) → SpellEvents version (map event_data events) events
@@ -76,9 +76,9 @@ spelled_as Three history may = record {
 
 -- the least version says all of a history
 least_may_be : (history : HistoryView) → MayBe (least_version history) history
-least_may_be history = by_tests (is_plain history) refl (are_told history.events) refl
+least_may_be history = by_tests (is_plain history) refl (are_complete history.events) refl
   where
-    by_tests : (b : Bool) → is_plain history ≡ b → (c : Bool) → are_told history.events ≡ c
+    by_tests : (b : Bool) → is_plain history ≡ b → (c : Bool) → are_complete history.events ≡ c
         → MayBe (cond b One (cond c Two Three)) history
     by_tests true plain c told =
         let parts = and_parts (has_no_pairs history.start) (list_all is_plain_event history.events) plain in

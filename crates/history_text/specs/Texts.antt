@@ -16,10 +16,10 @@ use Rattle.events.specs.declared.event.Event.{Event}
 use Rattle.events.specs.declared.event.Event.TheVariants.{Invoke, Answer}
 use Rattle.events.specs.HistoryView.{HistoryView}
 use Rattle.events.specs.PlainHistories.{is_replace, is_plain}
-use Rattle.events.specs.Told.{is_told, are_told}
+use Rattle.events.specs.Told.{is_complete, are_complete}
 use Rattle.history_text.specs.declared.version.TextVersion.{TextVersion}
 use Rattle.history_text.specs.Limits.{text_limit}
-use Rattle.history_text.specs.Versions.{version_number, has_start, may_tell_less, has_notes}
+use Rattle.history_text.specs.Versions.{version_number, has_start, may_be_partial, has_notes}
 
 -- ---- the values that JSON gives them
 
@@ -79,7 +79,7 @@ SpellEvents version items events = AreSpelled (IsEventData version) items events
 -- partial answer only in version 3
 abbrev pub may_stand : TextVersion → Event → Bool
 may_stand version (Invoke p call) = has_start version || not (is_replace call)
-may_stand version (Answer p reply) = may_tell_less version || is_told reply
+may_stand version (Answer p reply) = may_be_partial version || is_complete reply
 
 -- the value of a whole text, with these items for its events, and these for its start if it has one
 abbrev pub document : TextVersion → Option (List Data) → List Data → Data
@@ -105,7 +105,7 @@ start_pairs (Some pairs) = pairs
 
 -- the lowest version that can represent a history
 abbrev pub least_version : HistoryView → TextVersion
-least_version history = if is_plain history then One else if are_told history.events then Two else Three
+least_version history = if is_plain history then One else if are_complete history.events then Two else Three
 
 -- the items of the start of a written history; none in a version without a start
 abbrev pub written_start : TextVersion → List (ℕ × ℕ) → Option (List Data)

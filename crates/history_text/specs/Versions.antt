@@ -16,10 +16,10 @@ has_start Two = true
 has_start Three = true
 
 -- whether a text of a version may have partial answers
-abbrev pub may_tell_less : TextVersion → Bool
-may_tell_less One = false
-may_tell_less Two = false
-may_tell_less Three = true
+abbrev pub may_be_partial : TextVersion → Bool
+may_be_partial One = false
+may_be_partial Two = false
+may_be_partial Three = true
 
 -- whether events of a text of a version may have a note
 abbrev pub has_notes : TextVersion → Bool

@@ -13,14 +13,14 @@ use crate::MAX_TEXT;
 use crate::compact_events::event_at;
 use crate::compact_replies::pair_at;
 use crate::version::TextVersion;
-use events::{Event, Turns};
+use events::{Event, HistoryBuilder};
 use plain_numbers::{after, number_before};
 use std::alloc::Global;
 
 /// Returns the starting pairs and the events that a text in the compact form spells, without notes,
 /// and perhaps with a line feed after it. Together they are a history. It returns nothing for any
 /// other text, for a text with a fault, and if memory runs out.
-pub fn compact_turns(alloc: Global, text: &[u8]) -> Option<Turns>
+pub fn compact_turns(alloc: Global, text: &[u8]) -> Option<HistoryBuilder>
     ensures spelled { IfSome result (Spells text.now) }
     ensures history { IfSome result IsHistory }
 {
@@ -28,7 +28,7 @@ pub fn compact_turns(alloc: Global, text: &[u8]) -> Option<Turns>
         return None;
     }
     let version = version_guess(text)?;
-    let mut turns = Turns::new(alloc);
+    let mut turns = HistoryBuilder::new(alloc);
     document_in(alloc, &mut turns, version, text)?;
     Some(turns)
 }
@@ -48,7 +48,12 @@ fn version_guess(text: &[u8]) -> Option<TextVersion> {
 
 /// Takes the starting pairs and the events of a text of a version, if the text is as
 /// `compact_turns` says.
-fn document_in(alloc: Global, turns: &mut Turns, version: TextVersion, text: &[u8]) -> Option<()>
+fn document_in(
+    alloc: Global,
+    turns: &mut HistoryBuilder,
+    version: TextVersion,
+    text: &[u8],
+) -> Option<()>
     requires none { turns.old ≡ with_no_start [] }
     requires history { IsHistory turns.old }
     ensures spelled { OnSome result (SpellsCompactly text.now turns.new) }
@@ -91,7 +96,7 @@ fn is_end(text: &[u8]) -> bool
 /// Takes the events of the array that a text begins with, and returns what is left after it.
 fn events_at<'a>(
     alloc: Global,
-    turns: &mut Turns,
+    turns: &mut HistoryBuilder,
     version: TextVersion,
     text: &'a [u8],
 ) -> Option<&'a [u8]>
@@ -115,7 +120,7 @@ fn events_at<'a>(
 /// a closing bracket. It returns what is left after that.
 fn events_in<'a>(
     alloc: Global,
-    turns: &mut Turns,
+    turns: &mut HistoryBuilder,
     version: TextVersion,
     text: &'a [u8],
 ) -> Option<&'a [u8]>
@@ -139,7 +144,7 @@ fn events_in<'a>(
     }
 }
 
-fn take(turns: &mut Turns, event: Event) -> Option<()>
+fn take(turns: &mut HistoryBuilder, event: Event) -> Option<()>
     ensures taken { OnSome result (turns.new ≡ with_event turns.old event) }
     ensures history { IsHistory turns.new }
 {
@@ -148,7 +153,7 @@ fn take(turns: &mut Turns, event: Event) -> Option<()>
 
 /// Takes the starting pairs of the array that a text begins with, if there are none yet, and returns
 /// what is left after it.
-fn start_at<'a>(turns: &mut Turns, text: &'a [u8]) -> Option<&'a [u8]>
+fn start_at<'a>(turns: &mut HistoryBuilder, text: &'a [u8]) -> Option<&'a [u8]>
     requires none { turns.old.start ≡ [] }
     requires history { IsHistory turns.old }
     ensures text { IfSome result
@@ -166,7 +171,7 @@ fn start_at<'a>(turns: &mut Turns, text: &'a [u8]) -> Option<&'a [u8]>
 
 /// Takes the starting pairs that a text begins with, if there are none yet: one or more, with a comma
 /// between two of them, before a closing bracket. It returns what is left after that.
-fn start_in<'a>(turns: &mut Turns, text: &'a [u8]) -> Option<&'a [u8]>
+fn start_in<'a>(turns: &mut HistoryBuilder, text: &'a [u8]) -> Option<&'a [u8]>
     requires { turns.old.start ≡ [] }
     ensures text { IfSome result (λ rest. text.now
         ≡ items_text false (items_of (map pair_data turns.new.start)) ++ rest.now) }
@@ -186,7 +191,7 @@ fn start_in<'a>(turns: &mut Turns, text: &'a [u8]) -> Option<&'a [u8]>
     }
 }
 
-fn take_pair(turns: &mut Turns, pair: (u64, u64)) -> Option<()>
+fn take_pair(turns: &mut HistoryBuilder, pair: (u64, u64)) -> Option<()>
     ensures taken { OnSome result (turns.new ≡ with_pair turns.old pair) }
     ensures history { IsHistory turns.new }
 {

@@ -19,7 +19,7 @@ use crate::json_text::json_of;
 use crate::parts::{is_number, items_of, three_members, two_members};
 use crate::read_event::{event_of, starting_pair};
 use crate::version::TextVersion;
-use events::{History, HistoryFault, Turns};
+use events::{History, HistoryBuilder, HistoryFault};
 use serde_json::Value;
 use std::alloc::Global;
 
@@ -70,13 +70,13 @@ fn value_of(alloc: Global, text: &[u8]) -> Result<Value, HistoryFault>
 }
 
 /// Returns the starting pairs and the events that a value spells. Together they are a history.
-fn turns_of(alloc: Global, value: &Value) -> Result<Turns, HistoryFault>
+fn turns_of(alloc: Global, value: &Value) -> Result<HistoryBuilder, HistoryFault>
     ensures spelled { IfOk result (SpellsAs (view value.now)) }
     ensures history { IfOk result IsHistory }
     ensures refused { IfErr result (IsDocumentFault (view value.now)) }
 {
     if let Some(items) = events_alone(value) {
-        return events_of(alloc, Turns::new(alloc), TextVersion::One, items);
+        return events_of(alloc, HistoryBuilder::new(alloc), TextVersion::One, items);
     }
     match start_and_events(value) {
         Some((version, pairs, items)) => turns_after(alloc, version, pairs, items),
@@ -91,7 +91,7 @@ fn turns_after(
     version: TextVersion,
     pairs: &[Value],
     items: &[Value],
-) -> Result<Turns, HistoryFault>
+) -> Result<HistoryBuilder, HistoryFault>
     requires { IsTrue (has_start version) }
     ensures spelled { IfOk result
         (SpellsAs (document version (Some (map view pairs.now)) (map view items.now))) }
@@ -144,13 +144,13 @@ pub fn version_with_start(value: &Value) -> Option<TextVersion>
 }
 
 /// The starting pairs that the values spell, before any event.
-fn start_of(alloc: Global, items: &[Value]) -> Result<Turns, HistoryFault>
+fn start_of(alloc: Global, items: &[Value]) -> Result<HistoryBuilder, HistoryFault>
     ensures spelled { IfOk result (λ h. map view items.now ≡ map pair_data h.start) }
     ensures no_event { IfOk result (λ h. h.events ≡ []) }
     ensures history { IfOk result IsHistory }
     ensures refused { IfErr result (IsPairFaultAmong (map view items.now)) }
 {
-    let mut turns = Turns::new(alloc);
+    let mut turns = HistoryBuilder::new(alloc);
     for (place, item) in items.iter().enumerate() {
         let pair = starting_pair(place, item)?;
         turns.take_pair(pair)?;
@@ -161,10 +161,10 @@ fn start_of(alloc: Global, items: &[Value]) -> Result<Turns, HistoryFault>
 /// Returns the events that the values spell, after the starting pairs. Together they are a history.
 fn events_of(
     alloc: Global,
-    start: Turns,
+    start: HistoryBuilder,
     version: TextVersion,
     items: &[Value],
-) -> Result<Turns, HistoryFault>
+) -> Result<HistoryBuilder, HistoryFault>
     requires history { IsHistory start }
     requires no_event { start.events ≡ [] }
     ensures start { IfOk result (λ h. h.start ≡ start.start) }

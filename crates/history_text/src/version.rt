@@ -1,8 +1,8 @@
 // The versions of the texts of histories.
 ghost use Rattle.std.specs.Prelude.{◌≡◌, ◌||◌, not};
 ghost use Rattle.events.specs.PlainHistories.{is_replace};
-ghost use Rattle.events.specs.Told.{is_told};
-ghost use Rattle.history_text.specs.Versions.{version_number, has_start, may_tell_less, has_notes};
+ghost use Rattle.events.specs.Told.{is_complete};
+ghost use Rattle.history_text.specs.Versions.{version_number, has_start, may_be_partial, has_notes};
 
 use events::{Call, Reply};
 
@@ -53,8 +53,8 @@ impl TextVersion {
 
     /// Returns whether a text of this version may have a reply: a partial one needs version 3.
     pub fn may_have_reply(self, reply: &Reply) -> bool
-        ensures { result ≡ (may_tell_less self || is_told reply.now) }
+        ensures { result ≡ (may_be_partial self || is_complete reply.now) }
     {
-        matches!(self, TextVersion::Three) || reply.is_told()
+        matches!(self, TextVersion::Three) || reply.is_complete()
     }
 }

@@ -5,7 +5,7 @@ ghost use Rattle.serde_json.specs.View.{view, members_view};
 ghost use Rattle.serde_json.specs.Written.{compact_text};
 ghost use Rattle.std.specs.List.{list_all};
 ghost use Rattle.events.specs.PlainHistories.{is_plain_event, is_plain};
-ghost use Rattle.events.specs.Told.{is_told_event, are_told};
+ghost use Rattle.events.specs.Told.{is_told_event, are_complete};
 ghost use Rattle.history_text.specs.Texts.{number_data, list_data, pair_data, call_data, reply_data, event_data, least_version, history_data, Spells};
 ghost use Rattle.history_text.specs.ValueFaults.{invocation_data, response_data};
 ghost use Rattle.history_text.specs.Limits.{text_limit};
@@ -72,7 +72,7 @@ fn least_version(history: &History) -> TextVersion
 {
     if is_plain(history) {
         TextVersion::One
-    } else if are_told(history.events()) {
+    } else if are_complete(history.events()) {
         TextVersion::Two
     } else {
         TextVersion::Three
@@ -102,13 +102,13 @@ fn is_plain_event(event: &Event) -> bool
 {
     match event {
         Event::Invoke { call, .. } => !matches!(call, Call::Replace(..)),
-        Event::Answer { reply, .. } => reply.is_told(),
+        Event::Answer { reply, .. } => reply.is_complete(),
     }
 }
 
 /// Returns whether each answer of the events is complete.
-fn are_told(events: &[Event]) -> bool
-    ensures { result ≡ are_told events.now }
+fn are_complete(events: &[Event]) -> bool
+    ensures { result ≡ are_complete events.now }
 {
     for event in events {
         if !is_told_event(event) {
@@ -123,7 +123,7 @@ fn is_told_event(event: &Event) -> bool
 {
     match event {
         Event::Invoke { .. } => true,
-        Event::Answer { reply, .. } => reply.is_told(),
+        Event::Answer { reply, .. } => reply.is_complete(),
     }
 }
 

@@ -2,11 +2,11 @@
 // are read; and a history.
 ghost use Rattle.std.specs.Prelude.{◌≡◌, ◌<◌};
 
+use cli_io::memory_ends::MemorySource;
 use history_text::{TextVersion, call_value, read_history, reply_value, write_history};
 use std::alloc::Global;
 use std::test::Fail;
 use stream_text::{LineBuffer, NoLine, StreamEvent, next_line, read_event_line};
-use streams::memory_ends::MemorySource;
 
 /// The lines of a text with a bar after each, and how many calls failed. At most this many bytes
 /// come at once, and a read may fail.

@@ -15,7 +15,7 @@ ghost use Rattle.machine.specs.Starting.{HasInserted, IsNotOpened};
 use crate::machines::Machine;
 use art::{Shape, TreeCall, Variant};
 use art_core::Item;
-use art_serial::starts_end;
+use art_sequential::starts_end;
 use events::{Call, Event, Memory, Reply};
 use plans::MachineFault;
 use std::alloc::Global;
@@ -58,7 +58,7 @@ fn insert_pairs(
         Err(_) => return Err(MachineFault::Memory),
     };
     let mut machine = Machine::open(alloc, shape, variant, scripts, START_TURNS)?;
-    let all = Item::Turns {
+    let all = Item::HistoryBuilder {
         process: 0,
         turns: START_TURNS + 1,
     };

@@ -4,8 +4,8 @@ use Rattle.std.proofs.Common.{◌≡◌, ◌≢◌, ℕ, true, Option, Some, Non
 use Rattle.events.specs.declared.event.Call.{Call}
 use Rattle.events.specs.declared.event.Call.TheVariants.{Get, Insert, Remove, Scan, Replace}
 use Rattle.events.specs.declared.event.Reply.{Reply}
-use Rattle.events.specs.Told.{is_told}
-use Rattle.map_object.specs.MapObject.{Contents, value_at, value_reply, reply_to, after, after_reply, TellsOf, IsLegalReply}
+use Rattle.events.specs.Told.{is_complete}
+use Rattle.map_object.specs.MapObject.{Contents, value_at, value_reply, reply_to, after, after_reply, IsAllOrPartOf, IsLegalReply}
 
 -- a value or none is no refusal
 pub value_answers : (value : Option ℕ) → value_reply value ≢ replies.Refused
@@ -21,11 +21,11 @@ reply_to_answers m (Scan low high) e = cc
 reply_to_answers m (Replace key expected value) e = value_answers (value_at m key) e
 
 -- a value, or none, is a complete reply
-value_told : (value : Option ℕ) → is_told (value_reply value) ≡ true
+value_told : (value : Option ℕ) → is_complete (value_reply value) ≡ true
 value_told None = refl
 value_told (Some value) = refl
 
-pub reply_to_told : (m : Contents) (call : Call) → is_told (reply_to m call) ≡ true
+pub reply_to_told : (m : Contents) (call : Call) → is_complete (reply_to m call) ≡ true
 reply_to_told m (Get key) = value_told (value_at m key)
 reply_to_told m (Insert key value) = value_told (value_at m key)
 reply_to_told m (Remove key) = value_told (value_at m key)
@@ -33,7 +33,7 @@ reply_to_told m (Scan low high) = refl
 reply_to_told m (Replace key expected value) = value_told (value_at m key)
 
 -- a complete reply reports of the whole answer if it is that answer, and only then
-tells_by : (call : Call) (whole : Reply) → is_told whole ≡ true → TellsOf call whole whole
+tells_by : (call : Call) (whole : Reply) → is_complete whole ≡ true → IsAllOrPartOf call whole whole
 tells_by call replies.None told = refl
 tells_by call (replies.Some value) told = refl
 tells_by call (replies.Pairs pairs) told = refl
@@ -42,10 +42,10 @@ tells_by call replies.Done told = tt
 tells_by call replies.Found told = cc
 tells_by call replies.Other told = cc
 
-pub tells_all : (m : Contents) (call : Call) (reply : Reply) → reply ≡ reply_to m call → TellsOf call (reply_to m call) reply
-tells_all m call reply is = subst (λ (r : Reply). TellsOf call (reply_to m call) r) (sym is) (tells_by call (reply_to m call) (reply_to_told m call))
+pub tells_all : (m : Contents) (call : Call) (reply : Reply) → reply ≡ reply_to m call → IsAllOrPartOf call (reply_to m call) reply
+tells_all m call reply is = subst (λ (r : Reply). IsAllOrPartOf call (reply_to m call) r) (sym is) (tells_by call (reply_to m call) (reply_to_told m call))
 
-pub whole_from_tells : (call : Call) (whole reply : Reply) → is_told reply ≡ true → TellsOf call whole reply → reply ≡ whole
+pub whole_from_tells : (call : Call) (whole reply : Reply) → is_complete reply ≡ true → IsAllOrPartOf call whole reply → reply ≡ whole
 whole_from_tells call whole replies.None told tells = tells
 whole_from_tells call whole (replies.Some value) told tells = tells
 whole_from_tells call whole (replies.Pairs pairs) told tells = tells
@@ -55,7 +55,7 @@ whole_from_tells call whole replies.Found told tells = cc
 whole_from_tells call whole replies.Other told tells = cc
 
 -- a reply that reports of what the map gives is no refusal
-pub tells_answers : (m : Contents) (call : Call) (reply : Reply) → TellsOf call (reply_to m call) reply → reply ≢ replies.Refused
+pub tells_answers : (m : Contents) (call : Call) (reply : Reply) → IsAllOrPartOf call (reply_to m call) reply → reply ≢ replies.Refused
 tells_answers m call replies.None tells e = cc
 tells_answers m call (replies.Some value) tells e = cc
 tells_answers m call (replies.Pairs pairs) tells e = cc

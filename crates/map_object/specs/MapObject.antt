@@ -95,15 +95,15 @@ misses (Replace key expected value) whole = is_none_or_other expected whole
 
 -- a reply says all that the complete answer says, or a part of it: only that the call was done, or
 -- that it found a value, or that it did not find the expected one
-abbrev pub TellsOf : Call → Reply → Reply → Type 0
-TellsOf call whole replies.Done = ⊤
-TellsOf call whole replies.Found = IsTrue (is_value whole)
-TellsOf call whole replies.Other = IsTrue (misses call whole)
-TellsOf call whole reply = reply ≡ whole
+abbrev pub IsAllOrPartOf : Call → Reply → Reply → Type 0
+IsAllOrPartOf call whole replies.Done = ⊤
+IsAllOrPartOf call whole replies.Found = IsTrue (is_value whole)
+IsAllOrPartOf call whole replies.Other = IsTrue (misses call whole)
+IsAllOrPartOf call whole reply = reply ≡ whole
 
 -- a reply is legal if it is `refused`, or if it says all or a part of the answer that the map gives
 abbrev pub IsLegalReply : Contents → Call → Reply → Type 0
-IsLegalReply m call reply = (reply ≡ replies.Refused) ⊎ TellsOf call (reply_to m call) reply
+IsLegalReply m call reply = (reply ≡ replies.Refused) ⊎ IsAllOrPartOf call (reply_to m call) reply
 
 -- the object: from m the call may do this reply and leave m2
 abbrev pub Does : Contents → Call → Reply → Contents → Type 0

@@ -15,8 +15,8 @@ use Rattle.events.specs.declared.operation.Operation.{Operation}
 use Rattle.events.specs.declared.operation.Response.{Response}
 use Rattle.events.specs.PlainHistories.{is_replace, is_plain_event, has_no_pairs}
 use Rattle.events.specs.Operations.{response_from, operation_of, operations_from, operations}
-use Rattle.events.specs.Told.{is_told}
-use Rattle.map_object.specs.MapObject.{Contents, reply_to, after, after_reply, TellsOf}
+use Rattle.events.specs.Told.{is_complete}
+use Rattle.map_object.specs.MapObject.{Contents, reply_to, after, after_reply, IsAllOrPartOf}
 use Rattle.map_object.proofs.TellLemmas.{after_reply-answer, tells_all, tells_answers, whole_from_tells}
 use Rattle.events.proofs.Lists.{All-from_contains, Contains-at}
 use Rattle.events.proofs.FilterLemmas.{Contains-from_filter_map}
@@ -27,7 +27,7 @@ use Rattle.orders.specs.Laws.{PlainHistoriesHavePlainOrders}
 -- the response is complete, if there is one
 abbrev IsToldResponse : Option Response → Type 0
 IsToldResponse None = ⊤
-IsToldResponse (Some response) = is_told response.reply ≡ true
+IsToldResponse (Some response) = is_complete response.reply ≡ true
 
 -- a call that is no replace, and whose answer is complete
 abbrev IsPlainCall : Operation → Type 0
@@ -51,7 +51,7 @@ plain_does m (Scan low high) reply next d = d
 plain_does m (Replace key expected value) reply next d = absurd d
 
 -- the pairs after an answer, and after a refusal
-after_told : (m : Contents) (call : Call) (reply : Reply) → TellsOf call (reply_to m call) reply → after_reply m call reply ≡ after m call
+after_told : (m : Contents) (call : Call) (reply : Reply) → IsAllOrPartOf call (reply_to m call) reply → after_reply m call reply ≡ after m call
 after_told m call reply tells = after_reply-answer m call reply (tells_answers m call reply tells)
 
 after_refused : (m : Contents) (call : Call) (reply : Reply) → reply ≡ replies.Refused → after_reply m call reply ≡ m
@@ -95,10 +95,10 @@ told_response p i [] plain = tt
 told_response p i (Invoke q call ∷ events) plain =
     told_response p (suc i) events (and_parts (is_plain_event (Invoke q call)) (list_all is_plain_event events) plain).1
 told_response p i (Answer q reply ∷ events) plain =
-    let parts = and_parts (is_told reply) (list_all is_plain_event events) plain in
+    let parts = and_parts (is_complete reply) (list_all is_plain_event events) plain in
     go (q == p) parts.0 (told_response p (suc i) events parts.1)
   where
-    go : (b : Bool) → is_told reply ≡ true → IsToldResponse (response_from p (suc i) events)
+    go : (b : Bool) → is_complete reply ≡ true → IsToldResponse (response_from p (suc i) events)
         → IsToldResponse (cond b (Some (record { res = i; reply = reply })) (response_from p (suc i) events))
     go true here later = here
     go false here later = later
@@ -106,7 +106,7 @@ told_response p i (Answer q reply ∷ events) plain =
 plain_from : (i : ℕ) (events : List Event) → list_all is_plain_event events ≡ true → All IsPlainCall (operations_from i events)
 plain_from i [] plain = All-nil IsPlainCall
 plain_from i (Answer p reply ∷ events) plain =
-    plain_from (suc i) events (and_parts (is_told reply) (list_all is_plain_event events) plain).1
+    plain_from (suc i) events (and_parts (is_complete reply) (list_all is_plain_event events) plain).1
 plain_from i (Invoke p call ∷ events) plain =
     let parts = and_parts (is_plain_event (Invoke p call)) (list_all is_plain_event events) plain in
     All-cons IsPlainCall (operation_of p call i events) (operations_from (suc i) events)

@@ -1,17 +1,17 @@
 -- What a call writes is what it may write, and what its status says of the text.
 use Rattle.potzendai.proofs.Common.{◌≡◌, ℕ, List, length, inl, refl, Some, HistoryView, operations, IsLinearizableHistory, Yes, No, Undecided}
-use Rattle.potzendai.proofs.Common.{RunOutcome, Answered, Noted, Refused, Memory, Words, Failed, IsBudget, IsCall, status_of, text_of, written}
+use Rattle.potzendai.proofs.Common.{CommandOutcome, Answered, Noted, Refused, Memory, Words, Failed, IsBudget, IsCall, status_of, text_of, written}
 use Rattle.judge.specs.declared.verdict.Verdict.{Verdict}
 use Rattle.judge.specs.Shown.{IsShown}
-use Rattle.outcomes.specs.Outcomes.{IsTextOutcome}
-use Rattle.outcomes.specs.HintedOutcomes.{IsHintedOutcome}
-use Rattle.history_engines.specs.Answers.{answer_of, IsHistoryRefusal, IsHintedJudgeAnswer, IsJudgeAnswer}
-use Rattle.explain_engines.specs.Answers.{IsExplainAnswer}
+use Rattle.cli_outcome.specs.Outcomes.{IsTextOutcome}
+use Rattle.cli_outcome.specs.HintedOutcomes.{IsHintedOutcome}
+use Rattle.cli_judge.specs.Answers.{answer_of, IsHistoryRefusal, IsHintedJudgeAnswer, IsJudgeAnswer}
+use Rattle.cli_explain.specs.Answers.{IsExplainAnswer}
 use Rattle.potzendai.specs.Verdicts.{SpellsLinearizable, SpellsUnlinearizable}
 use Rattle.judge.specs.declared.verdict.Verdict.TheVariants as verdicts
 
 -- an outcome is written
-pub IsCall-outcome : (IsOutcome : RunOutcome → Type 0) (budget : ℕ) (before after : List ℕ) (size status : ℕ) (outcome : RunOutcome)
+pub IsCall-outcome : (IsOutcome : CommandOutcome → Type 0) (budget : ℕ) (before after : List ℕ) (size status : ℕ) (outcome : CommandOutcome)
     → IsBudget budget → IsOutcome outcome → status ≡ status_of outcome → size ≡ length (text_of outcome)
     → after ≡ written (text_of outcome) before
     → IsCall IsOutcome budget before after size status
@@ -23,13 +23,13 @@ IsCall-outcome IsOutcome budget before after size status outcome within comes st
 }
 
 -- what is written of a verdict with its hint is written of one without
-pub record IsReportedAs (budget : ℕ) (text : List ℕ) (outcome : RunOutcome) : Type 0 where
-  pub plain : RunOutcome
+pub record IsReportedAs (budget : ℕ) (text : List ℕ) (outcome : CommandOutcome) : Type 0 where
+  pub plain : CommandOutcome
   pub comes : IsTextOutcome (IsJudgeAnswer budget) IsHistoryRefusal (Some text) plain
   pub status_is : status_of outcome ≡ status_of plain
   pub text_is : text_of outcome ≡ text_of plain
 
-pub without_note : (budget : ℕ) (text : List ℕ) (outcome : RunOutcome)
+pub without_note : (budget : ℕ) (text : List ℕ) (outcome : CommandOutcome)
     → IsHintedOutcome (IsHintedJudgeAnswer budget) IsHistoryRefusal (Some text) outcome → IsReportedAs budget text outcome
 without_note budget text (Answered answer bytes) h =
     record { plain = Answered answer bytes; comes = h.answered; status_is = refl; text_is = refl }
@@ -53,7 +53,7 @@ none_of_no budget history (verdicts.No segment) is shown = shown.no_order
 none_of_no budget history (verdicts.Undecided segment) is shown = cc
 
 -- the status of yes is that of a history with an order
-pub yes_is_linearizable : (budget : ℕ) (text : List ℕ) (outcome : RunOutcome)
+pub yes_is_linearizable : (budget : ℕ) (text : List ℕ) (outcome : CommandOutcome)
     → IsTextOutcome (IsJudgeAnswer budget) IsHistoryRefusal (Some text) outcome
     → status_of outcome ≡ 0 → SpellsLinearizable text
 yes_is_linearizable budget text (Answered Yes bytes) comes is =
@@ -72,7 +72,7 @@ yes_is_linearizable budget text (Words bytes) comes is = cc
 yes_is_linearizable budget text Failed comes is = cc
 
 -- the status of no is that of a history without
-pub no_is_unlinearizable : (budget : ℕ) (text : List ℕ) (outcome : RunOutcome)
+pub no_is_unlinearizable : (budget : ℕ) (text : List ℕ) (outcome : CommandOutcome)
     → IsTextOutcome (IsJudgeAnswer budget) IsHistoryRefusal (Some text) outcome
     → status_of outcome ≡ 1 → SpellsUnlinearizable text
 no_is_unlinearizable budget text (Answered Yes bytes) comes is = cc
@@ -91,7 +91,7 @@ no_is_unlinearizable budget text (Words bytes) comes is = cc
 no_is_unlinearizable budget text Failed comes is = cc
 
 -- the same of one that is explained
-pub explained_yes_is_linearizable : (budget : ℕ) (text : List ℕ) (outcome : RunOutcome)
+pub explained_yes_is_linearizable : (budget : ℕ) (text : List ℕ) (outcome : CommandOutcome)
     → IsTextOutcome (IsExplainAnswer budget) IsHistoryRefusal (Some text) outcome
     → status_of outcome ≡ 0 → SpellsLinearizable text
 explained_yes_is_linearizable budget text (Answered Yes bytes) comes is =
@@ -108,7 +108,7 @@ explained_yes_is_linearizable budget text Memory comes is = cc
 explained_yes_is_linearizable budget text (Words bytes) comes is = cc
 explained_yes_is_linearizable budget text Failed comes is = cc
 
-pub explained_no_is_unlinearizable : (budget : ℕ) (text : List ℕ) (outcome : RunOutcome)
+pub explained_no_is_unlinearizable : (budget : ℕ) (text : List ℕ) (outcome : CommandOutcome)
     → IsTextOutcome (IsExplainAnswer budget) IsHistoryRefusal (Some text) outcome
     → status_of outcome ≡ 1 → SpellsUnlinearizable text
 explained_no_is_unlinearizable budget text (Answered Yes bytes) comes is = cc

@@ -16,12 +16,12 @@ pub use Rattle.events.specs.Operations.{operations}
 pub use Rattle.events.specs.declared.event.Call.{Call}
 pub use Rattle.events.specs.declared.event.Reply.{Reply}
 pub use Rattle.orders.specs.Orders.{IsLinearizable, IsLinearizableHistory}
-pub use Rattle.outcomes.specs.declared.outcome.Answer.TheVariants.{No, Undecided, Yes}
-pub use Rattle.outcomes.specs.declared.outcome.RunOutcome.{RunOutcome}
-pub use Rattle.outcomes.specs.declared.outcome.RunOutcome.TheVariants.{Answered, Failed, Memory, Noted, Refused, Words}
-pub use Rattle.stream_engines.specs.EventLines.{CallHasWords, IsWord, ReplyHasWords}
-pub use Rattle.stream_engines.specs.Handed.{IsHanded}
-pub use Rattle.stream_engines.specs.declared.line_follower.LineFollower.{LineFollower}
+pub use Rattle.cli_outcome.specs.declared.outcome.Answer.TheVariants.{No, Undecided, Yes}
+pub use Rattle.cli_outcome.specs.declared.outcome.CommandOutcome.{CommandOutcome}
+pub use Rattle.cli_outcome.specs.declared.outcome.CommandOutcome.TheVariants.{Answered, Failed, Memory, Noted, Refused, Words}
+pub use Rattle.cli_follow.specs.EventLines.{CallHasWords, IsWord, ReplyHasWords}
+pub use Rattle.cli_follow.specs.Handed.{IsHanded}
+pub use Rattle.cli_follow.specs.declared.line_follower.LineFollower.{LineFollower}
 pub use Rattle.stream_text.specs.Cuts.{lines_of}
 pub use Rattle.potzendai.specs.Calls.{IsBudget, IsCall, status_of, text_of, written}
 pub use Rattle.potzendai.specs.Follows.{Follows, IsReportedSoFar, standing_of}

@@ -2,10 +2,10 @@
 use Rattle.potzendai.proofs.Common.{◌≡◌, ◌≢◌, ℕ, List, [], Option, Some, None, refl, sym, ◌∙◌, LineFollower, lines_of, Follows, standing_of, IsReportedSoFar}
 use Rattle.potzendai.proofs.Common.{SpellLinearizable, BeginUnlinearizable}
 use Rattle.std.proofs.Common.{append-nil}
-use Rattle.stream_engines.specs.declared.line_follower.LineFollower.TheVariants.{Going, Ended}
-use Rattle.stream_engines.specs.Handed.{HasEnded}
-use Rattle.stream_engines.specs.Reading.{AreLinesOf}
-use Rattle.stream_engines.specs.StreamTexts.{BeginsWith}
+use Rattle.cli_follow.specs.declared.line_follower.LineFollower.TheVariants.{Going, Ended}
+use Rattle.cli_follow.specs.Handed.{HasEnded}
+use Rattle.cli_follow.specs.Reading.{AreLinesOf}
+use Rattle.cli_follow.specs.StreamTexts.{BeginsWith}
 use Rattle.potzendai.proofs.StreamLemmas.{yes_has_order, no_has_none}
 
 -- a text with these lines begins with them

@@ -18,7 +18,7 @@ use denote.Param.{layout}
 use denote.Struct.Struct.{within}
 use denote.Struct.Owning.{shape}
 use Rattle.std.specs.contracts.impls.GlobalAllocator.TheImpl.{ghosts}
-use Rattle.stream_engines.specs.contracts.line_follower.LineFollower.{the_row}
+use Rattle.cli_follow.specs.contracts.line_follower.LineFollower.{the_row}
 use Rattle.potzendai.proofs.LooseValues.{both}
 use Rattle.potzendai.specs.contracts.handle.PotzendaiFollower as handle
 

@@ -1,16 +1,16 @@
 -- What the status of a stream says of its lines.
 use Rattle.potzendai.proofs.Common.{◌≡◌, ℕ, List, [], ◌∷◌, ◌++◌, Some, sym, ◌∙◌, subst, append_assoc, with_event, operations, IsLinearizable, Yes, No}
-use Rattle.potzendai.proofs.Common.{Undecided, RunOutcome, Answered, Noted, Refused, Memory, Words, Failed, lines_of, status_of, SpellLinearizable}
+use Rattle.potzendai.proofs.Common.{Undecided, CommandOutcome, Answered, Noted, Refused, Memory, Words, Failed, lines_of, status_of, SpellLinearizable}
 use Rattle.potzendai.proofs.Common.{BeginUnlinearizable}
 use Rattle.events.specs.declared.event.Event.{Event}
-use Rattle.monitor.specs.declared.loss.Loss.{Loss}
-use Rattle.stream_engines.specs.Answers.{GoesWrongHere}
-use Rattle.stream_engines.specs.Outcomes.{IsStreamOutcome}
-use Rattle.stream_engines.proofs.StreamLemmas.{SpellStream-push}
+use Rattle.follow_monitor.specs.declared.loss.Violation.{Violation}
+use Rattle.cli_follow.specs.Answers.{GoesWrongHere}
+use Rattle.cli_follow.specs.Outcomes.{IsStreamOutcome}
+use Rattle.cli_follow.proofs.StreamLemmas.{SpellStream-push}
 use Rattle.events.specs.declared.event.Event.TheVariants as events
 
 -- the events before the wrong answer, with it, have no order
-wrong_lines : (lines : List (List ℕ)) (loss : Loss) → GoesWrongHere lines loss → BeginUnlinearizable lines
+wrong_lines : (lines : List (List ℕ)) (loss : Violation) → GoesWrongHere lines loss → BeginUnlinearizable lines
 wrong_lines lines loss at =
     let answer = events.Answer at.process at.reply in
     record {
@@ -26,7 +26,7 @@ wrong_lines lines loss at =
     }
 
 -- the status of yes is that of lines with an order
-pub yes_has_order : (budget : ℕ) (text : List ℕ) (outcome : RunOutcome) → IsStreamOutcome budget (Some text) outcome
+pub yes_has_order : (budget : ℕ) (text : List ℕ) (outcome : CommandOutcome) → IsStreamOutcome budget (Some text) outcome
     → status_of outcome ≡ 0 → SpellLinearizable (lines_of text)
 yes_has_order budget text (Answered Yes bytes) comes is = record {
   stream = comes.stream;
@@ -52,7 +52,7 @@ yes_has_order budget text (Words bytes) comes is = cc
 yes_has_order budget text Failed comes is = cc
 
 -- the status of no is that of lines without
-pub no_has_none : (budget : ℕ) (text : List ℕ) (outcome : RunOutcome) → IsStreamOutcome budget (Some text) outcome
+pub no_has_none : (budget : ℕ) (text : List ℕ) (outcome : CommandOutcome) → IsStreamOutcome budget (Some text) outcome
     → status_of outcome ≡ 1 → BeginUnlinearizable (lines_of text)
 no_has_none budget text (Answered Yes bytes) comes is = cc
 no_has_none budget text (Answered No bytes) comes is = wrong_lines (lines_of text) comes.0 comes.1

@@ -1,13 +1,13 @@
 -- What a call on a handle leaves in it, and what it returns.
 use Rattle.std.specs.Prelude.{◌≡◌, ◌⊎◌, ℕ, List, [], length, Option, None, Some, codes}
-use Rattle.outcomes.specs.declared.outcome.RunOutcome.{RunOutcome}
-use Rattle.outcomes.specs.Lines.{line}
-use Rattle.outcomes.specs.Statuses.{memory_status, words_status}
-use Rattle.stream_engines.specs.declared.line_follower.LineFollower.{LineFollower}
-use Rattle.stream_engines.specs.declared.line_follower.LineFollower.TheVariants.{Going, Ended}
-use Rattle.stream_engines.specs.Handed.{IsHanded}
-use Rattle.stream_engines.specs.Outcomes.{IsStreamOutcome}
-use Rattle.stream_engines.specs.Reading.{AreLinesOf}
+use Rattle.cli_outcome.specs.declared.outcome.CommandOutcome.{CommandOutcome}
+use Rattle.cli_outcome.specs.Lines.{line}
+use Rattle.cli_outcome.specs.Statuses.{memory_status, words_status}
+use Rattle.cli_follow.specs.declared.line_follower.LineFollower.{LineFollower}
+use Rattle.cli_follow.specs.declared.line_follower.LineFollower.TheVariants.{Going, Ended}
+use Rattle.cli_follow.specs.Handed.{IsHanded}
+use Rattle.cli_follow.specs.Outcomes.{IsStreamOutcome}
+use Rattle.cli_follow.specs.Reading.{AreLinesOf}
 use Rattle.potzendai.specs.Calls.{IsBudget, status_of, text_of, written}
 
 -- there is a follower, to which these lines were given at this budget
@@ -46,7 +46,7 @@ closed_line = line (codes "follower: none")
 -- what is written of a follower: an outcome that `follow` can have for each text with the lines
 -- that were given
 pub record IsReportedSoFar (budget : ℕ) (lines : List (List ℕ)) (before after : List ℕ) (size status : ℕ) : Type 0 where
-  pub outcome : RunOutcome
+  pub outcome : CommandOutcome
   pub comes : (text : Option (List ℕ)) → AreLinesOf text lines → IsStreamOutcome budget text outcome
   pub status_is : status ≡ status_of outcome
   pub size_is : size ≡ length (text_of outcome)

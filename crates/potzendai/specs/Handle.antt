@@ -5,8 +5,8 @@ use denote.RawPtr.{Ptr}
 use Rattle.std.specs.Global.{Global}
 use Rattle.std.specs.Box.Ownership.{box_owns}
 use Rattle.std.specs.contracts.impls.GlobalAllocator.TheImpl.{ghosts}
-use Rattle.stream_engines.specs.declared.line_follower.LineFollower.{LineFollower}
-use Rattle.stream_engines.specs.contracts.line_follower.LineFollower.{the_row}
+use Rattle.cli_follow.specs.declared.line_follower.LineFollower.{LineFollower}
+use Rattle.cli_follow.specs.contracts.line_follower.LineFollower.{the_row}
 
 -- the allocator
 abbrev pub heap : Global

@@ -6,7 +6,7 @@ use Rattle.events.specs.HistoryView.{HistoryView}
 use Rattle.events.specs.Operations.{operations}
 use Rattle.orders.specs.Orders.{IsLinearizable}
 use Rattle.history_text.specs.declared.version.TextVersion.{TextVersion}
-use Rattle.stream_engines.specs.StreamTexts.{SpellStream}
+use Rattle.cli_follow.specs.StreamTexts.{SpellStream}
 
 -- the lines spell a stream whose events have an order
 pub record SpellLinearizable (lines : List (List ℕ)) : Type 0 where

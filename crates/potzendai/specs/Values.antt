@@ -6,7 +6,7 @@ use Rattle.events.specs.declared.event.Call.{Call}
 use Rattle.events.specs.declared.event.Call.TheVariants.{Get, Insert, Remove, Scan, Replace}
 use Rattle.events.specs.declared.event.Reply.{Reply}
 use Rattle.events.specs.declared.event.Event.TheVariants.{Invoke, Answer}
-use Rattle.stream_engines.specs.EventLines.{event_line}
+use Rattle.cli_follow.specs.EventLines.{event_line}
 use Rattle.potzendai.specs.declared.kinds.PotzendaiPair.{PotzendaiPair}
 
 -- the call of a kind; numbers that such a call does not have are ignored

@@ -2,7 +2,7 @@
 use Rattle.std.specs.Prelude.{ℕ, List}
 use Rattle.events.specs.HistoryView.{HistoryView}
 use Rattle.orders.specs.Orders.{IsLinearizableHistory}
-use Rattle.history_engines.specs.Answers.{IsTextOf}
+use Rattle.cli_judge.specs.Answers.{IsTextOf}
 
 -- the text spells a history that has an order
 abbrev pub SpellsLinearizable : List ℕ → Type 0

@@ -2,15 +2,15 @@
 ghost use Rattle.std.specs.Prelude.{◌≡◌, ◌≢◌, ℕ, List, ◌++◌, None};
 ghost use Rattle.potzendai.specs.Follows.{Follows, standing_of, IsOpening, IsReportedSoFar, IsReportedClosed};
 ghost use Rattle.potzendai.specs.Streams.{SpellLinearizable, BeginUnlinearizable};
-ghost use Rattle.stream_engines.specs.Handed.{IsHanded};
+ghost use Rattle.cli_follow.specs.Handed.{IsHanded};
 ghost use Rattle.stream_text.specs.Cuts.{lines_of};
 
 use crate::handle::{PotzendaiFollower, put, take};
 use crate::reports::{is_budget, report, report_closed, stream_status};
-use outcomes::{MEMORY, RunOutcome, WORDS};
+use cli_follow::LineFollower;
+use cli_outcome::{CommandOutcome, MEMORY, WORDS};
 use std::alloc::Global;
 use std::mem::replace;
-use stream_engines::LineFollower;
 
 /// Opens the handle for a stream, before its first line, and returns 0. Each answer will be judged
 /// by searches of at most `budget` configurations. If the handle is open, it is closed first. If
@@ -62,7 +62,7 @@ pub extern "C" fn potzendai_follow_event(
         return u32::from(WORDS);
     };
     let mut boxed = boxed;
-    let follower = replace(&mut *boxed, LineFollower::Ended(RunOutcome::Memory));
+    let follower = replace(&mut *boxed, LineFollower::Ended(CommandOutcome::Memory));
     *boxed = follower.take_lines(alloc, text);
     let status = stream_status(&boxed);
     put(alloc, handle, boxed);

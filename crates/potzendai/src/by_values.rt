@@ -4,18 +4,18 @@ ghost use Rattle.events.specs.declared.event.Reply.{Reply as Answer};
 ghost use Rattle.potzendai.specs.Follows.{Follows, standing_of};
 ghost use Rattle.potzendai.specs.Streams.{BeginUnlinearizable};
 ghost use Rattle.potzendai.specs.Values.{call_line, call_of, reply_line, reply_of};
-ghost use Rattle.stream_engines.specs.EventLines.{CallHasWords, ReplyHasWords};
-ghost use Rattle.stream_engines.specs.Handed.{HasEnded, IsHanded};
+ghost use Rattle.cli_follow.specs.EventLines.{CallHasWords, ReplyHasWords};
+ghost use Rattle.cli_follow.specs.Handed.{HasEnded, IsHanded};
 ghost use Rattle.stream_text.specs.Cuts.{lines_of};
 
 use crate::handle::{PotzendaiFollower, put, take};
 use crate::kinds::{PotzendaiPair, call_of, reply_of};
 use crate::reports::stream_status;
+use cli_follow::LineFollower;
+use cli_outcome::{CommandOutcome, WORDS};
 use events::{Call, Memory, Reply};
-use outcomes::{RunOutcome, WORDS};
 use std::alloc::Global;
 use std::mem::replace;
-use stream_engines::LineFollower;
 
 /// Takes the invocation of a call by a process, as `potzendai_follow_event` takes its line
 /// (`call_line`). The numbers after the kind are the key and the value of an insert, or both ends
@@ -46,7 +46,7 @@ pub extern "C" fn potzendai_follow_invoke(
         return u32::from(WORDS);
     };
     let mut boxed = boxed;
-    let follower = replace(&mut *boxed, LineFollower::Ended(RunOutcome::Memory));
+    let follower = replace(&mut *boxed, LineFollower::Ended(CommandOutcome::Memory));
     *boxed = take_call(alloc, follower, process, call_of(kind, key, value, other));
     let status = stream_status(&boxed);
     put(alloc, handle, boxed);
@@ -80,7 +80,7 @@ pub extern "C" fn potzendai_follow_answer_with(
         return u32::from(WORDS);
     };
     let mut boxed = boxed;
-    let follower = replace(&mut *boxed, LineFollower::Ended(RunOutcome::Memory));
+    let follower = replace(&mut *boxed, LineFollower::Ended(CommandOutcome::Memory));
     let reply = reply_of(alloc, kind, value, pairs);
     *boxed = take_answer(alloc, follower, process, reply);
     let status = stream_status(&boxed);

@@ -1,18 +1,18 @@
 // The exported calls on a history.
 ghost use Rattle.std.specs.Prelude.{◌≡◌, Some};
-ghost use Rattle.explain_engines.specs.Answers.{IsExplainAnswer};
-ghost use Rattle.history_engines.specs.Answers.{IsHistoryRefusal, IsJudgeAnswer};
-ghost use Rattle.explain_engines.specs.LocationAnswers.{IsLocateAnswer};
-ghost use Rattle.outcomes.specs.Outcomes.{IsTextOutcome};
-ghost use Rattle.picture_engines.specs.Drawings.{IsDrawAnswer};
+ghost use Rattle.cli_explain.specs.Answers.{IsExplainAnswer};
+ghost use Rattle.cli_judge.specs.Answers.{IsHistoryRefusal, IsJudgeAnswer};
+ghost use Rattle.cli_explain.specs.LocationAnswers.{IsLocateAnswer};
+ghost use Rattle.cli_outcome.specs.Outcomes.{IsTextOutcome};
+ghost use Rattle.cli_draw.specs.Drawings.{IsDrawAnswer};
 ghost use Rattle.potzendai.specs.Calls.{IsCall};
 ghost use Rattle.potzendai.specs.Verdicts.{SpellsLinearizable, SpellsUnlinearizable};
 
 use crate::reports::{is_budget, report, report_budget};
-use explain_engines::{explain_outcome, locate_outcome};
-use history_engines::judge_outcome;
+use cli_draw::{draw_outcome, whole_view};
+use cli_explain::{explain_outcome, locate_outcome};
+use cli_judge::judge_outcome;
 use judge::OneThread;
-use picture_engines::{draw_outcome, whole_view};
 use std::alloc::Global;
 
 /// Judges the history that the text spells. A search meets at most `budget` configurations of a

@@ -1,13 +1,13 @@
 // The call that draws a verdict as `bench draw` does without options.
 ghost use Rattle.std.specs.Prelude.{Some};
-ghost use Rattle.history_engines.specs.Answers.{IsHistoryRefusal};
-ghost use Rattle.outcomes.specs.Outcomes.{IsTextOutcome};
-ghost use Rattle.picture_engines.specs.Drawings.{IsUnaskedAnswer};
+ghost use Rattle.cli_judge.specs.Answers.{IsHistoryRefusal};
+ghost use Rattle.cli_outcome.specs.Outcomes.{IsTextOutcome};
+ghost use Rattle.cli_draw.specs.Drawings.{IsUnaskedAnswer};
 ghost use Rattle.potzendai.specs.Calls.{IsCall};
 
 use crate::reports::{is_budget, report, report_budget};
+use cli_draw::{draw_outcome, unasked_view};
 use judge::OneThread;
-use picture_engines::{draw_outcome, unasked_view};
 use std::alloc::Global;
 
 /// Draws the verdict on the history that the text spells, as `bench draw` does without options. If

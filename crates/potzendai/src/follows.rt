@@ -2,12 +2,12 @@
 ghost use Rattle.std.specs.Prelude.{◌≡◌, Some};
 ghost use Rattle.potzendai.specs.Calls.{IsCall};
 ghost use Rattle.potzendai.specs.Streams.{SpellLinearizable, BeginUnlinearizable};
-ghost use Rattle.stream_engines.specs.Outcomes.{IsStreamOutcome};
+ghost use Rattle.cli_follow.specs.Outcomes.{IsStreamOutcome};
 ghost use Rattle.stream_text.specs.Cuts.{lines_of};
 
 use crate::reports::{is_budget, report, report_budget};
+use cli_follow::follow_text;
 use std::alloc::Global;
-use stream_engines::follow_text;
 
 /// Follows the stream whose events the lines of the text spell, as `bench follow` does. Judges each
 /// answer when it comes, by searches of at most `budget` configurations. The text may have any

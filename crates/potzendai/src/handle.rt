@@ -1,13 +1,13 @@
 // The handle of a stream that is followed.
 ghost use Rattle.std.specs.Prelude.{◌≡◌, Option, None, Some, option_map};
-ghost use Rattle.stream_engines.specs.declared.line_follower.LineFollower.{LineFollower};
+ghost use Rattle.cli_follow.specs.declared.line_follower.LineFollower.{LineFollower};
 
 use crate::loose::Loose;
+use cli_follow::LineFollower;
 use std::alloc::Global;
 use std::marker::Model;
 use std::mem::replace;
 use std::ptr::null_mut;
-use stream_engines::LineFollower;
 
 /// A handle. If it is open, it owns a follower by a pointer to it. Contracts see the follower.
 #[repr(C)]

@@ -1,6 +1,6 @@
 // Calls and replies, by the numbers of their kinds.
 ghost use Rattle.std.specs.Prelude.{◌≡◌, ◌≢◌, List, All, IfOk, IfSome};
-ghost use Rattle.stream_engines.specs.EventLines.{CallHasWords, IsWord, ReplyHasWords};
+ghost use Rattle.cli_follow.specs.EventLines.{CallHasWords, IsWord, ReplyHasWords};
 ghost use Rattle.potzendai.specs.declared.kinds.PotzendaiPair.{PotzendaiPair};
 ghost use Rattle.potzendai.specs.Values.{call_of, pairs_of, reply_of};
 

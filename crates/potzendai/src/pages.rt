@@ -1,13 +1,13 @@
 // The call that writes a page of a verdict.
 ghost use Rattle.std.specs.Prelude.{Some};
-ghost use Rattle.history_engines.specs.Answers.{IsHistoryRefusal};
-ghost use Rattle.outcomes.specs.Outcomes.{IsTextOutcome};
-ghost use Rattle.page_engines.specs.Answers.{IsPageAnswer};
+ghost use Rattle.cli_judge.specs.Answers.{IsHistoryRefusal};
+ghost use Rattle.cli_outcome.specs.Outcomes.{IsTextOutcome};
+ghost use Rattle.cli_page.specs.Answers.{IsPageAnswer};
 ghost use Rattle.potzendai.specs.Calls.{IsCall};
 
 use crate::reports::{is_budget, report, report_budget};
+use cli_page::page_outcome;
 use judge::OneThread;
-use page_engines::page_outcome;
 use std::alloc::Global;
 
 /// Writes a page that shows the verdict on the history that the text spells, as `bench page` does.

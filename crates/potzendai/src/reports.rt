@@ -1,12 +1,12 @@
 // What a call reports to its caller.
 ghost use Rattle.std.specs.Prelude.{◌≡◌, ◌≤◌, ◌↔◌, ◌++◌, IsTrue, length};
-ghost use Rattle.outcomes.specs.Statuses.{words_status};
+ghost use Rattle.cli_outcome.specs.Statuses.{words_status};
 ghost use Rattle.potzendai.specs.Calls.{budget_line, hint_of, line_of, IsBudget, status_of, text_of, written};
 ghost use Rattle.potzendai.specs.Follows.{IsReportedClosed, standing};
 
+use cli_follow::LineFollower;
+use cli_outcome::{CommandOutcome, FAILED, MEMORY, REFUSED, WORDS};
 use judge::MAX_BUDGET;
-use outcomes::{FAILED, MEMORY, REFUSED, RunOutcome, WORDS};
-use stream_engines::LineFollower;
 
 /// Returns whether a search may have this budget.
 pub(crate) fn is_budget(budget: u32) -> bool
@@ -16,7 +16,7 @@ pub(crate) fn is_budget(budget: u32) -> bool
 }
 
 /// Writes the text of an outcome into the room, and its length into `size`. Returns its status.
-pub(crate) fn report(outcome: &RunOutcome, room: &mut [u8], size: &mut usize) -> u32
+pub(crate) fn report(outcome: &CommandOutcome, room: &mut [u8], size: &mut usize) -> u32
     ensures status { result ≡ status_of outcome.now }
     ensures size { size.new ≡ length (text_of outcome.now) }
     ensures room { room.new ≡ written (text_of outcome.now) room.old }
@@ -61,38 +61,40 @@ pub(crate) fn stream_status(follower: &LineFollower) -> u32
 }
 
 /// Returns the line of an outcome.
-fn line_of(outcome: &RunOutcome) -> &[u8]
+fn line_of(outcome: &CommandOutcome) -> &[u8]
     ensures { result.now ≡ line_of outcome.now }
 {
     match outcome {
-        RunOutcome::Answered { line, .. } | RunOutcome::Noted { line, .. } => line.as_bytes(),
-        RunOutcome::Refused { line, .. } => line.as_bytes(),
-        RunOutcome::Words(text) => text.as_bytes(),
-        RunOutcome::Memory => b"memory\n",
-        RunOutcome::Failed => b"io\n",
+        CommandOutcome::Answered { line, .. } | CommandOutcome::Noted { line, .. } =>
+            line.as_bytes(),
+        CommandOutcome::Refused { line, .. } => line.as_bytes(),
+        CommandOutcome::Words(text) => text.as_bytes(),
+        CommandOutcome::Memory => b"memory\n",
+        CommandOutcome::Failed => b"io\n",
     }
 }
 
 /// Returns the hint on a refusal. Other outcomes have none.
-fn hint_of(outcome: &RunOutcome) -> &[u8]
+fn hint_of(outcome: &CommandOutcome) -> &[u8]
     ensures { result.now ≡ hint_of outcome.now }
 {
     match outcome {
-        RunOutcome::Refused { hint, .. } => hint.as_bytes(),
+        CommandOutcome::Refused { hint, .. } => hint.as_bytes(),
         _ => b"",
     }
 }
 
 /// Returns the status of an outcome.
-fn status_of(outcome: &RunOutcome) -> u8
+fn status_of(outcome: &CommandOutcome) -> u8
     ensures { result ≡ status_of outcome.now }
 {
     match outcome {
-        RunOutcome::Answered { answer, .. } | RunOutcome::Noted { answer, .. } => answer.status(),
-        RunOutcome::Refused { .. } => REFUSED,
-        RunOutcome::Words(_) => WORDS,
-        RunOutcome::Memory => MEMORY,
-        RunOutcome::Failed => FAILED,
+        CommandOutcome::Answered { answer, .. } | CommandOutcome::Noted { answer, .. } =>
+            answer.status(),
+        CommandOutcome::Refused { .. } => REFUSED,
+        CommandOutcome::Words(_) => WORDS,
+        CommandOutcome::Memory => MEMORY,
+        CommandOutcome::Failed => FAILED,
     }
 }
 

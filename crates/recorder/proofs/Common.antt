@@ -11,7 +11,7 @@ pub use Rattle.std.proofs.lemmas.List.Sums.{get_or-le-sum_by, sum_by-append, sum
 pub use Rattle.std.specs.List.{list_all, range_with_len}
 pub use Rattle.std.specs.Prelude.{All, AllPairs, Contains, Some, flat_map, slice_get, sum_by, ◌⊎◌}
 pub use Rattle.std.specs.Vec.Iter.{into_iter_items}
-pub use Rattle.events.specs.Events.{IsWellFormed, events_of, is_invocation, process_of, takes_turns}
+pub use Rattle.events.specs.Events.{IsWellFormed, events_of, is_invocation, process_of, events_alternate}
 pub use Rattle.events.specs.Histories.{AreHistoryEvents, call_count, is_shaped, is_small}
 pub use Rattle.events.specs.declared.event.Event.{Event}
 pub use Rattle.events.proofs.FilterLemmas.{AllPairs-from_map, Contains-from_map}

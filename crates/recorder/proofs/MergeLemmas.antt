@@ -3,7 +3,7 @@ use Rattle.recorder.proofs.Common.{◌≡◌, ◌≢◌, ℕ, ◌+◌, ◌*◌, 
 use Rattle.recorder.proofs.Common.{refl, sym, ap, ◌∙◌, arith, subst, inl, inr, ⊎_elim, ne_eqb, ◌⊎◌, All, AllPairs, Contains, flat_map, sum_by}
 use Rattle.recorder.proofs.Common.{list_all, append-nil, nil_from_length, sum_by-cons, sum_by-append, get_or-le-sum_by, flat_map-cons, All-head}
 use Rattle.recorder.proofs.Common.{All-tail, All-weaker, All-contains, filter-append, AllPairs-head, AllPairs-tail, All-from_contains, Contains-nil}
-use Rattle.recorder.proofs.Common.{Contains-cases, filter_all, filter_none, Event, process_of, is_invocation, events_of, takes_turns, IsWellFormed}
+use Rattle.recorder.proofs.Common.{Contains-cases, filter_all, filter_none, Event, process_of, is_invocation, events_of, events_alternate, IsWellFormed}
 use Rattle.recorder.proofs.Common.{is_shaped, is_small, call_count, AreHistoryEvents, Stamped, by_stamp, events_by_stamp, Pass, events_in, StampsRise}
 use Rattle.recorder.proofs.Common.{process_number, log_of, events_by, draws_of, history_of}
 use Rattle.std.proofs.Common.{eq-eqb}
@@ -154,12 +154,12 @@ module _ (passes : List Pass) (apart : AreApart passes) where
 
   well-formed : IsWellFormed (history_of passes)
   well-formed q = elim (one-log q passes apart) [
-    | inl none ↦ ap (takes_turns false) (own-events q ∙ ap (λ es. events_in (by_stamp es)) none)
+    | inl none ↦ ap (events_alternate false) (own-events q ∙ ap (λ es. events_in (by_stamp es)) none)
     | inr one ↦
         let p = one.0 in
         let its = own-events q ∙ (ap (λ es. events_in (by_stamp es)) one.2 ∙ ap events_in (in-order (log_of p) p.recorded.rises)) in
         let alone = filter-events q (log_of p) ∙ ap events_in (own-kept q p one.1) in
-        ap (takes_turns false) (its ∙ sym alone) ∙ p.recorded.history.well_formed q
+        ap (events_alternate false) (its ∙ sym alone) ∙ p.recorded.history.well_formed q
   ]
 
 all-together : (test : Event → Bool) (passes : List Pass) → ((p : Pass) → list_all test (events_by p) ≡ true)

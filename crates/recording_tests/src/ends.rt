@@ -1,9 +1,9 @@
 // Streams over memory, and over readers and writers that fail.
+use cli_io::memory_ends::{MemorySink, MemorySource};
+use cli_io::{Failed, ReadFault, ReaderSource, Sink, Source, WriterSink, read_up_to, write_whole};
 use std::io;
 use std::io::{Error, ErrorKind, Read, Write};
 use std::test::Fail;
-use streams::memory_ends::{MemorySink, MemorySource};
-use streams::{Failed, ReadFault, ReaderSource, Sink, Source, WriterSink, read_up_to, write_whole};
 
 const TEXT: &[u8] = b"linearizable";
 

@@ -1,8 +1,8 @@
 // What no subcommand calls: histories of events alone, copies of segments, and the texts of faults
 // for people.
+use cli_outcome::history_fault_line;
 use events::{Call, Event, History, HistoryFault};
 use orders::Segment;
-use outcomes::history_fault_line;
 use std::test::Fail;
 
 #[test]

@@ -1,5 +1,5 @@
 // The part of an arena with which a thread runs processes.
-use crate::place::Place;
+use crate::place::SharedGroup;
 use crate::runner::Runner;
 use crate::view::Setup;
 
@@ -9,7 +9,7 @@ use crate::view::Setup;
 /// be closed.
 #[derive(Drop)]
 pub struct Pass {
-    pub(crate) place: Place,
+    pub(crate) place: SharedGroup,
     pub(crate) setup: Setup,
     pub(crate) runners: Vec<(u8, Runner)>,
 }

@@ -10,7 +10,7 @@ use atomic_table::Seat;
 /// bytes. It is used only with the core that it came from. If it is dropped, its processes are
 /// lost, and the core can't be closed.
 #[derive(Drop)]
-pub struct Place {
+pub struct SharedGroup {
     pub(crate) seat: Seat<TreeCall, Noted>,
     ghost no_slots: { seat.me.1 ≡ [] },
     ghost rising: { NumbersRise seat.me.0.view },

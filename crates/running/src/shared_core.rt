@@ -3,7 +3,7 @@ ghost use Rattle.std.specs.Prelude.{◌≡◌, ◌<◌, ◌≤◌, length, IfOk,
 ghost use Rattle.art_rows.specs.Table.{table_words};
 ghost use Rattle.running.specs.Setups.{IsSetup};
 
-use crate::place::Place;
+use crate::place::SharedGroup;
 use crate::rule::{Go, Invoke, Look, Note, Part, Respond, Scheduled};
 use crate::view::{Noted, Setup};
 use art_rows::{Access, TreeCall};
@@ -31,7 +31,7 @@ impl SharedCore {
 
     /// The words of an empty tree, and a place with all processes, none of which has begun
     /// anything. No other call takes memory, and this one fails only if memory runs out.
-    pub fn open(alloc: Global, setup: Setup) -> Result<(SharedCore, Place), Memory>
+    pub fn open(alloc: Global, setup: Setup) -> Result<(SharedCore, SharedGroup), Memory>
         requires limits { IsSetup setup }
         ensures setup { IfOk result (λ r. setup_of r.0 ≡ setup) }
         ensures own { IfOk result (λ r. IsPlaceOf r.0 r.1) }
@@ -39,13 +39,13 @@ impl SharedCore {
     {
         let words = setup.shape.opening(alloc)?;
         let (table, seat) = Table::of_words(alloc, words.as_slice(), &setup)?;
-        Ok((SharedCore { table }, Place { seat }))
+        Ok((SharedCore { table }, SharedGroup { seat }))
     }
 
     /// The place's first process invokes a call. Returns the stamp of the invocation, which is
     /// greater than all that the place shows. It is one fetch-and-add, which is one step of the
     /// core. Before it comes an exchange that leaves the words as they are and is no step.
-    pub fn invoke(&self, place: &mut Place, call: &TreeCall) -> u64
+    pub fn invoke(&self, place: &mut SharedGroup, call: &TreeCall) -> u64
         requires own { IsPlaceOf self.now place.old }
         requires idle { IsTrue (is_idle (shown place.old)) }
         requires left { 0 < calls_left (shown place.old) }
@@ -64,7 +64,7 @@ impl SharedCore {
     /// The open call of the place's first process makes its next access. Returns what the call
     /// gets: the word as it was, and 0 for a store. It is that one atomic step, which is one step
     /// of the core.
-    pub fn access(&self, place: &mut Place, access: Access) -> u64
+    pub fn access(&self, place: &mut SharedGroup, access: Access) -> u64
         requires own { IsPlaceOf self.now place.old }
         requires next { next_of (shown place.old) ≡ Some (Makes access) }
         ensures own { IsPlaceOf self.now place.new }
@@ -89,7 +89,7 @@ impl SharedCore {
     /// The open call of the place's first process is answered. Returns the stamp of the response,
     /// which is greater than all that the place shows. It is one fetch-and-add, which is one step
     /// of the core.
-    pub fn answer(&self, place: &mut Place) -> u64
+    pub fn answer(&self, place: &mut SharedGroup) -> u64
         requires own { IsPlaceOf self.now place.old }
         requires next { IsAnswered (shown place.old) }
         ensures own { IsPlaceOf self.now place.new }
@@ -102,30 +102,30 @@ impl SharedCore {
     }
 
     /// Gives the place's greatest process to a place of its own. It is one load, and no step of the core.
-    pub fn split(&self, place: &mut Place) -> Place
+    pub fn split(&self, place: &mut SharedGroup) -> SharedGroup
         requires own { IsPlaceOf self.now place.old }
         ensures own { IsPlaceOf self.now place.new × IsPlaceOf self.now result }
         ensures kept { shown place.new ≡ without_last (shown place.old) }
         ensures given { shown result ≡ last_alone (shown place.old) }
     {
         let seat = self.table.shared.split_seat::<Part>(&mut place.seat);
-        Place { seat }
+        SharedGroup { seat }
     }
 
     /// Takes in the processes of another place. It is one load, and no step of the core.
-    pub fn join(&self, place: &mut Place, other: Place)
+    pub fn join(&self, place: &mut SharedGroup, other: SharedGroup)
         requires own { IsPlaceOf self.now place.old }
         requires other { IsPlaceOf self.now other }
         ensures own { IsPlaceOf self.now place.new }
         ensures both { shown place.new ≡ merged (shown place.old) (shown other) }
     {
-        let Place { seat } = other;
+        let SharedGroup { seat } = other;
         self.table.shared.join_seat::<Part>(&mut place.seat, seat);
     }
 
     /// A look at the words. A place has no more processes than there are. If it has all, some
     /// schedule gives the state that they have now. It is one load, and no step of the core.
-    pub fn look(&self, place: &mut Place)
+    pub fn look(&self, place: &mut SharedGroup)
         requires own { IsPlaceOf self.now place.old }
         ensures own { IsPlaceOf self.now place.new }
         ensures same { shown place.new ≡ shown place.old }
@@ -137,13 +137,13 @@ impl SharedCore {
 
     /// Ends the core, for a place that has all processes: as many as there are. Some schedule gives
     /// the state that they have then.
-    pub fn close(self, place: Place)
+    pub fn close(self, place: SharedGroup)
         requires own { IsPlaceOf self place }
         requires all { length (shown place).processes ≡ (setup_of self).processes }
         ensures { Ended (setup_of self) (shown place) }
     {
         let SharedCore { table } = self;
-        let Place { seat } = place;
+        let SharedGroup { seat } = place;
         table.close_with(seat).free();
     }
 }

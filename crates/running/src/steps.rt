@@ -11,7 +11,7 @@ ghost use Rattle.running.specs.Fitting.{IsFirst, IsBeside};
 ghost use Rattle.running.specs.Steps.{is_open, HasReplied, HasInvoked};
 ghost use Rattle.running.specs.Progressed.{HasProgressed, HasStopped};
 
-use crate::place::Place;
+use crate::place::SharedGroup;
 use crate::progress::Progress;
 use crate::runner::Runner;
 use crate::shared_core::SharedCore;
@@ -37,7 +37,7 @@ impl Runner {
     pub fn begin(
         &mut self,
         core: &SharedCore,
-        place: &mut Place,
+        place: &mut SharedGroup,
         number: u8,
         setup: Setup,
         call: TreeCall,
@@ -71,7 +71,7 @@ impl Runner {
         &mut self,
         alloc: Global,
         core: &SharedCore,
-        place: &mut Place,
+        place: &mut SharedGroup,
         number: u8,
         turns: u32,
     ) -> Result<Progress, Memory>
@@ -104,7 +104,7 @@ impl Runner {
         &mut self,
         alloc: Global,
         core: &SharedCore,
-        place: &mut Place,
+        place: &mut SharedGroup,
         number: u8,
     ) -> Result<Option<Reply>, Memory>
         requires own { IsPlaceOf core.now place.old }
@@ -140,7 +140,12 @@ impl Runner {
     }
 
     /// Answers the call: draws the stamp of its response. Memory for the event is allocated before.
-    fn respond(&mut self, core: &SharedCore, place: &mut Place, number: u8) -> Result<(), Memory>
+    fn respond(
+        &mut self,
+        core: &SharedCore,
+        place: &mut SharedGroup,
+        number: u8,
+    ) -> Result<(), Memory>
         requires own { IsPlaceOf core.now place.old }
         requires first { IsFirst (shown place.old) number self.old }
         requires answered { IsAnswered self.old.doing }

@@ -34,7 +34,7 @@ pub use Rattle.events.proofs.Lists.{length-distinct, place-push, slice_get-appen
 pub use Rattle.events.proofs.NumberLemmas.{has_number-Contains, has_number-from_Contains, slice_get-below}
 pub use Rattle.events.proofs.RisingLemmas.{IsStrictlyIncreasing-range}
 pub use Rattle.events.specs.Lists.{has_number}
-pub use Rattle.map_object.specs.MapObject.{Contents, IsLegalReply, IsRising, TellsOf, above, after, below, is_just, is_value, misses, put, reply_to}
+pub use Rattle.map_object.specs.MapObject.{Contents, IsLegalReply, IsRising, IsAllOrPartOf, above, after, below, is_just, is_value, misses, put, reply_to}
 pub use Rattle.map_object.specs.MapObject.{value_at}
 pub use Rattle.memo.specs.Equality.{Decides-is_same, is_same}
 pub use Rattle.orders.proofs.OrderLemmas.{IsCompletedAt-below, after_calls-append, after_calls-push, calls_at-append}
@@ -49,7 +49,7 @@ pub use Rattle.search.specs.Links.{AreLeft, AreWithin, IsChain, LinksView, linke
 pub use Rattle.search.specs.LongestFront.{HasMetEnough, IsLongestFront, IsMetInTurn}
 pub use Rattle.search.specs.Remaining.{IsEarliestAnswer, RemainsBefore}
 pub use Rattle.search.specs.Standing.{AreLinksOf, HasMoved, IsAnsweredBefore, IsByAnswer, IsConfigurationAt, IsExhausted, IsLinkedByAnswer, IsNoLater}
-pub use Rattle.search.specs.Standing.{IsPushed, Remembers, Stands, StandsWith, first_pairs, pairs_after, places, untried}
+pub use Rattle.search.specs.Standing.{IsPushed, Remembers, Stands, IsStateBut, first_pairs, pairs_after, places, untried}
 pub use Rattle.search.specs.Undo.{restoring, undone}
 pub use Rattle.search.specs.Walk.{GoesOn, rest_of, walk_at}
 pub use Rattle.search.specs.declared.standing.Level.{Level}

@@ -4,7 +4,7 @@ use Rattle.search.proofs.Common.{inr, ⊎_elim, arith, ◌≢◌, ◌⊎◌, IsT
 use Rattle.search.proofs.Common.{append_assoc, get_or_default, All-nil, All-cons, All-head, All-tail, All-push, All-append, All-contains}
 use Rattle.search.proofs.Common.{Contains-append_left, Contains-append_right, all_pairs_push, Contains-push, none-some, same_Some, slice_get_within}
 use Rattle.search.proofs.Common.{Call, Operation, Response, has_number, is_completed, precedes, NonePrecedesItself, Contents, reply_to, is_value}
-use Rattle.search.proofs.Common.{misses, TellsOf, IsLegalReply, IsLegalCall, IsCompletedAt, IsOrder, IsLinearizable, after_calls, calls_at}
+use Rattle.search.proofs.Common.{misses, IsAllOrPartOf, IsLegalReply, IsLegalCall, IsCompletedAt, IsOrder, IsLinearizable, after_calls, calls_at}
 use Rattle.search.proofs.Common.{PrecedesAt, IsFront, Configuration, LeadsTo, is_at_or_before, IsLeastOrder, IsCounted, HasCount, AreDistinct}
 use Rattle.search.proofs.Common.{Contains-first, Contains-later, Contains-nil, Contains-cases, AllPairs-nil, has_number-Contains}
 use Rattle.search.proofs.Common.{has_number-from_Contains, IsCompletedAt-below, IsFront-nil, IsFront-next, IsFront-from_order, IsNext}
@@ -70,7 +70,7 @@ same_reply a b = ⊎_elim
     (same_pairs (pairs_of a) (pairs_of b))
 
 -- it can be decided whether a reply reports of the whole answer
-tells_told : (call : Call) (whole reply : Reply) → IsTold (TellsOf call whole reply)
+tells_told : (call : Call) (whole reply : Reply) → IsTold (IsAllOrPartOf call whole reply)
 tells_told call whole replies.None = same_reply replies.None whole
 tells_told call whole (replies.Some value) = same_reply (replies.Some value) whole
 tells_told call whole (replies.Pairs pairs) = same_reply (replies.Pairs pairs) whole
@@ -83,7 +83,7 @@ legal_told : (m : Contents) (call : Call) (response : Option Response) → IsTol
 legal_told m call None = inl tt
 legal_told m call (Some r) = by_cases (same_reply r.reply replies.Refused) (tells_told call (reply_to m call) r.reply)
   where
-    by_cases : IsTold (r.reply ≡ replies.Refused) → IsTold (TellsOf call (reply_to m call) r.reply) → IsTold (IsLegalReply m call r.reply)
+    by_cases : IsTold (r.reply ≡ replies.Refused) → IsTold (IsAllOrPartOf call (reply_to m call) r.reply) → IsTold (IsLegalReply m call r.reply)
     by_cases (inl is) k = inl (inl is)
     by_cases (inr not) (inl tells) = inl (inr tells)
     by_cases (inr not) (inr other) = inr (λ h. ⊎_elim not other h)

@@ -6,7 +6,7 @@ use Rattle.search.proofs.Common.{All-cons, All-weaker, All-contains, All-take, C
 use Rattle.search.proofs.Common.{Contains-append_cases, AllPairs-cons, none-some, Operation, is_before, NonePrecedesItself, Contents, Configuration}
 use Rattle.search.proofs.Common.{AllPairs-nil, AllPairs-append, AllPairs-front, AllPairs-back, AllPairs-across, All-front, All-back, Contains-first}
 use Rattle.search.proofs.Common.{Contains-later, Contains-cases, Contains-nil, All-from_contains, configuration_of, LeadsTo-nil, Level, LinksView}
-use Rattle.search.proofs.Common.{AreWithin, no_links, linked_last, IsChain, IsNoLater, IsByAnswer, IsLinkedByAnswer, StandsWith}
+use Rattle.search.proofs.Common.{AreWithin, no_links, linked_last, IsChain, IsNoLater, IsByAnswer, IsLinkedByAnswer, IsStateBut}
 use Rattle.std.proofs.Math.Seq.{drop-cons}
 use Rattle.search.proofs.LinkLemmas.{IsChain-push, IsNextLeft, IsNextLeft-first}
 use Rattle.search.proofs.CursorLemmas.{StandsAtCursor-open, StandsAtCursor-pass}
@@ -183,13 +183,13 @@ stopped_back calls count order (suc at) n d sorted le here =
 
 -- ---- before the first call
 
-pub StandsWith-open : (start : Contents) (calls : List Operation) (levels : List Level) (next : ℕ) (pairs : Contents)
+pub IsStateBut-open : (start : Contents) (calls : List Operation) (levels : List Level) (next : ℕ) (pairs : Contents)
     (visited : List Configuration)
     (by_number by_answer : LinksView) → NonePrecedesItself calls → levels ≡ [] → pairs ≡ start → visited ≡ configuration_of [] start ∷ []
     → next ≡ slice_index by_number.after (length calls) → length by_number.after ≡ length calls + 1
     → IsChain by_number (length calls) (range_with_len 0 (length calls)) (length calls) → length by_answer.after ≡ length calls + 1
-    → IsLinkedByAnswer calls by_answer → StandsWith start calls levels next 0 pairs visited by_number by_answer
-StandsWith-open start calls levels next pairs visited by_number by_answer apart levels_is pairs_is visited_is next_is
+    → IsLinkedByAnswer calls by_answer → IsStateBut start calls levels next 0 pairs visited by_number by_answer
+IsStateBut-open start calls levels next pairs visited by_number by_answer apart levels_is pairs_is visited_is next_is
     number_size chain answer_size
     (order, sorted, by) =
     rw (levels_is, pairs_is, visited_is, next_is) (record {

@@ -8,7 +8,7 @@ use Rattle.search.proofs.Common.{Configuration, LeadsTo, slice_get-append_left, 
 use Rattle.search.proofs.Common.{Contains-first, Contains-nil, Contains-cases, Contains-range, All-from_contains, slice_get-below, after_calls-push}
 use Rattle.search.proofs.Common.{IsStrictlyIncreasing-range, IsFront-push, IsNext, IsNext-from_front, LeadsTo-push, Level, cursor, StandsAtCursor}
 use Rattle.search.proofs.Common.{RemainsBefore, IsEarliestAnswer, LinksView, AreWithin, unlinked, put_back, AreLeft, without, undone, first_pairs}
-use Rattle.search.proofs.Common.{IsExhausted, places, pairs_after, IsConfigurationAt, Remembers, IsAnsweredBefore, IsNoLater, AreLinksOf, StandsWith}
+use Rattle.search.proofs.Common.{IsExhausted, places, pairs_after, IsConfigurationAt, Remembers, IsAnsweredBefore, IsNoLater, AreLinksOf, IsStateBut}
 use Rattle.search.proofs.Common.{untried}
 use Rattle.std.proofs.lemmas.List.Sorted.{IsPermutation-sym, IsPermutation-reverse, Contains-permutation}
 use Rattle.search.proofs.LinkLemmas.{range_below, first_or, after-end, IsChain-left, AreLeft-take, left-Contains, left-from_Contains}
@@ -150,14 +150,14 @@ module _ (start : Contents) (calls : List Operation) (apart : NonePrecedesItself
     (visited : List Configuration)
     (by_number by_answer : LinksView) where
   -- the walk goes on to the next call left
-  pub StandsWith-pass : StandsAtCursor start calls (places levels) (next + 1) visited → next < length calls
+  pub IsStateBut-pass : StandsAtCursor start calls (places levels) (next + 1) visited → next < length calls
       → (Contains (places levels) next → ⊥)
       → (IsOrder start calls (places levels) → ⊥) → first_pairs visited ≡ start → pairs ≡ pairs_after start calls (places levels)
       → IsConfigurationAt start calls visited (places levels) at
       → ((i : ℕ) (level : Level) → slice_get levels i ≡ Some level → Remembers start calls visited (places (take i levels)) level)
       → AreLinksOf calls (reverse (places levels)) by_number by_answer
-      → StandsWith start calls levels (slice_index by_number.after next) at pairs visited by_number by_answer
-  StandsWith-pass stands lt new not_order begins holds stands_at remembers links =
+      → IsStateBut start calls levels (slice_index by_number.after next) at pairs visited by_number by_answer
+  IsStateBut-pass stands lt new not_order begins holds stands_at remembers links =
       let path = places levels in
       let left = IsNextLeft-after (length calls) (reverse path) by_number links.calls_left next lt
       (λ h. new (Contains-from_reverse path next h)) in
@@ -176,7 +176,7 @@ module _ (start : Contents) (calls : List Operation) (apart : NonePrecedesItself
         links = links;
       }
 
-  module _ (s : StandsWith start calls levels next at pairs visited by_number by_answer) (lt : next < length calls)
+  module _ (s : IsStateBut start calls levels next at pairs visited by_number by_answer) (lt : next < length calls)
       (not_order : IsOrder start calls (places levels) → ⊥) where
     -- the cursor passes a call that is not a next one
     pub cursor-illegal : (a : Operation) → slice_get calls next ≡ Some a → (IsLegalCall pairs a.call a.response → ⊥)
@@ -192,9 +192,9 @@ module _ (start : Contents) (calls : List Operation) (apart : NonePrecedesItself
         (λ is_order. absurd (not_order is_order))
 
     -- a call that is passed over
-    pub StandsWith-passed : StandsAtCursor start calls (places levels) (next + 1) visited
-        → StandsWith start calls levels (slice_index by_number.after next) at pairs visited by_number by_answer
-    StandsWith-passed stands = StandsWith-pass stands lt (s.left lt) not_order s.begins s.holds s.stands_at s.remembers s.links
+    pub IsStateBut-passed : StandsAtCursor start calls (places levels) (next + 1) visited
+        → IsStateBut start calls levels (slice_index by_number.after next) at pairs visited by_number by_answer
+    IsStateBut-passed stands = IsStateBut-pass stands lt (s.left lt) not_order s.begins s.holds s.stands_at s.remembers s.links
 
     -- fewer calls are to try after it
     pub untried-passed : untried (length calls) levels (slice_index by_number.after next) < untried (length calls) levels next
@@ -295,10 +295,10 @@ module _ (start : Contents) (calls : List Operation) (apart : NonePrecedesItself
             })))
             (place-push levels level i l is)
 
-        pub StandsWith-push : StandsWith start calls (levels ++ level ∷ []) (slice_index (unlinked by_number next).after (length calls))
+        pub IsStateBut-push : IsStateBut start calls (levels ++ level ∷ []) (slice_index (unlinked by_number next).after (length calls))
             (length visited) after_pairs
             (visited ++ d ∷ []) (unlinked by_number next) (unlinked by_answer next)
-        StandsWith-push =
+        IsStateBut-push =
             let pushed = StandsAtCursor-push start calls (places levels) next visited s.cursor d IsFront-taken leads new not_order in
             let left = IsNextLeft-first (length calls) (next ∷ reverse (places levels)) (unlinked by_number next) links_pushed.calls_left in
             let out_is : next ∷ reverse (places levels) ≡ reverse (places (levels ++ level ∷ [])) =
@@ -379,7 +379,7 @@ module _ (start : Contents) (calls : List Operation) (apart : NonePrecedesItself
 
   module _ (levels : List Level) (level : Level) (next at : ℕ) (pairs : Contents) (visited : List Configuration)
       (by_number by_answer : LinksView)
-      (s : StandsWith start calls (levels ++ level ∷ []) next at pairs visited by_number by_answer)
+      (s : IsStateBut start calls (levels ++ level ∷ []) next at pairs visited by_number by_answer)
       (past : StandsAtCursor start calls (places (levels ++ level ∷ [])) (length calls) visited)
       (not_order : IsOrder start calls (places (levels ++ level ∷ [])) → ⊥) where
     before_is : places (levels ++ level ∷ []) ≡ cursor (places levels) level.place
@@ -423,12 +423,12 @@ module _ (start : Contents) (calls : List Operation) (apart : NonePrecedesItself
     answer_parts = subst (λ out. AreLeft (length calls) s.links.order out by_answer) (reverse-push levels level) s.links.answers_left
 
     -- the walk is before the call again, which it has tried
-    pub StandsWith-back : (restored : Contents) → restored ≡ undone pairs level.undo
-        → StandsWith start calls levels (slice_index (put_back by_number level.place).after level.place) level.at restored visited
+    pub IsStateBut-back : (restored : Contents) → restored ≡ undone pairs level.undo
+        → IsStateBut start calls levels (slice_index (put_back by_number level.place).after level.place) level.at restored visited
         (put_back by_number level.place)
         (put_back by_answer level.place)
-    StandsWith-back restored restored_is =
-        StandsWith-pass start calls apart levels level.place level.at restored visited (put_back by_number level.place)
+    IsStateBut-back restored restored_is =
+        IsStateBut-pass start calls apart levels level.place level.at restored visited (put_back by_number level.place)
         (put_back by_answer level.place)
         popped below-popped new not_order_before s.begins
         (restored_is ∙ ap (λ m. undone m level.undo) (s.holds ∙ ap (pairs_after start calls) before_is) ∙ remembered.undo)
@@ -460,15 +460,15 @@ module _ (start : Contents) (calls : List Operation) (apart : NonePrecedesItself
         omega (arith, less, untried-push (length calls) levels level next)
 
 -- a walk whose parts are equal to these is in the same state
-pub StandsWith-same : (start : Contents) (calls : List Operation) (levels l : List Level) (next n at a : ℕ) (pairs m : Contents)
+pub IsStateBut-same : (start : Contents) (calls : List Operation) (levels l : List Level) (next n at a : ℕ) (pairs m : Contents)
     (visited v : List Configuration)
     (by_number b by_answer d : LinksView) → l ≡ levels → n ≡ next → a ≡ at → m ≡ pairs → v ≡ visited → b ≡ by_number → d ≡ by_answer
-    → StandsWith start calls levels next at pairs visited by_number by_answer → StandsWith start calls l n a m v b d
-StandsWith-same start calls levels l next n at a pairs m visited v by_number b by_answer d l_is n_is a_is m_is v_is b_is d_is s =
-    subst (λ x. StandsWith start calls x n a m v b d) (sym l_is)
-    (subst (λ x. StandsWith start calls levels x a m v b d) (sym n_is)
-    (subst (λ x. StandsWith start calls levels next x m v b d) (sym a_is)
-    (subst (λ x. StandsWith start calls levels next at x v b d) (sym m_is)
-    (subst (λ x. StandsWith start calls levels next at pairs x b d) (sym v_is)
-    (subst (λ x. StandsWith start calls levels next at pairs visited x d) (sym b_is)
-    (subst (λ x. StandsWith start calls levels next at pairs visited by_number x) (sym d_is) s))))))
+    → IsStateBut start calls levels next at pairs visited by_number by_answer → IsStateBut start calls l n a m v b d
+IsStateBut-same start calls levels l next n at a pairs m visited v by_number b by_answer d l_is n_is a_is m_is v_is b_is d_is s =
+    subst (λ x. IsStateBut start calls x n a m v b d) (sym l_is)
+    (subst (λ x. IsStateBut start calls levels x a m v b d) (sym n_is)
+    (subst (λ x. IsStateBut start calls levels next x m v b d) (sym a_is)
+    (subst (λ x. IsStateBut start calls levels next at x v b d) (sym m_is)
+    (subst (λ x. IsStateBut start calls levels next at pairs x b d) (sym v_is)
+    (subst (λ x. IsStateBut start calls levels next at pairs visited x d) (sym b_is)
+    (subst (λ x. IsStateBut start calls levels next at pairs visited by_number x) (sym d_is) s))))))

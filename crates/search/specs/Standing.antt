@@ -68,7 +68,7 @@ pub record AreLinksOf (calls : List Operation) (out : List ℕ) (by_number by_an
   pub answers_left : AreLeft (length calls) order out by_answer
 
 -- a walk is in this state
-pub record StandsWith (start : Contents) (calls : List Operation) (levels : List Level) (next at : ℕ) (pairs : Contents)
+pub record IsStateBut (start : Contents) (calls : List Operation) (levels : List Level) (next at : ℕ) (pairs : Contents)
     (visited : List Configuration) (by_number by_answer : LinksView) : Type 0 where
   pub cursor : StandsAtCursor start calls (places levels) next visited
   pub within : next ≤ length calls
@@ -80,7 +80,7 @@ pub record StandsWith (start : Contents) (calls : List Operation) (levels : List
   pub links : AreLinksOf calls (reverse (places levels)) by_number by_answer
 
 abbrev pub Stands : Contents → List Operation → Standing → Type 0
-Stands start calls s = StandsWith start calls s.levels.items s.next s.at s.map s.memo s.calls s.answers
+Stands start calls s = IsStateBut start calls s.levels.items s.next s.at s.map s.memo s.calls s.answers
 
 -- the calls that are not tried yet, at all levels
 abbrev pub untried : ℕ → List Level → ℕ → ℕ

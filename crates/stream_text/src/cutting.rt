@@ -7,7 +7,7 @@ use crate::MAX_LINE;
 use crate::feeds::first_line_feed;
 use crate::line_buffer::LineBuffer;
 use crate::no_line::NoLine;
-use streams::Source;
+use cli_io::Source;
 
 /// Reads the next line of a source into the buffer, and returns whether there is one. The buffer
 /// may already contain the beginning of the line. If reading fails, no bytes are lost, and a later
@@ -37,7 +37,7 @@ pub fn next_line<S: Source>(buffer: &mut LineBuffer, source: &mut S) -> Result<b
             if length > MAX_LINE {
                 return Err(NoLine::TooLong);
             }
-            buffer.hand_out(length);
+            buffer.split_line(length);
             return Ok(true);
         }
         seen = buffer.bytes().len();
@@ -45,7 +45,7 @@ pub fn next_line<S: Source>(buffer: &mut LineBuffer, source: &mut S) -> Result<b
             return Err(NoLine::TooLong);
         }
         if buffer.fill(source)? == 0 {
-            buffer.hand_out(seen);
+            buffer.split_line(seen);
             return Ok(seen > 0);
         }
     }

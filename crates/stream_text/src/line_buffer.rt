@@ -5,10 +5,10 @@ ghost use Rattle.stream_text.specs.LineLimits.{line_limit};
 ghost use Rattle.stream_text.specs.LineBuffers.{GrowsBy};
 
 use crate::MAX_LINE;
-use crate::room::{buffer_of, make_room, read_behind};
+use crate::room::{buffer_of, make_room, read_after};
+use cli_io::{Failed, Source};
 use std::alloc::{AllocError, Global};
 use std::marker::Model;
-use streams::{Failed, Source};
 
 /// Twice the longest line. So a move to the front never takes more bytes than were read since the
 /// last move.
@@ -75,7 +75,7 @@ impl LineBuffer {
 
     /// Makes the first `count` bytes the line. Drops them from the bytes, with the next byte if
     /// there is one.
-    pub fn hand_out(&mut self, count: usize)
+    pub fn split_line(&mut self, count: usize)
         requires { count ≤ length self.old.bytes }
         ensures { self.new ≡ record { line = take count self.old.bytes; bytes = drop (count + 1) self.old.bytes } }
     {
@@ -103,7 +103,7 @@ impl LineBuffer {
         self.line_end = 0;
         self.from = from;
         self.to = to;
-        let count = read_behind(source, &mut self.buffer, to)?;
+        let count = read_after(source, &mut self.buffer, to)?;
         self.to = to + count;
         Ok(count)
     }

@@ -1,7 +1,7 @@
 // Why no line was read.
 ghost use Rattle.std.specs.Prelude.{◌≡◌};
 
-use streams::Failed;
+use cli_io::Failed;
 
 /// Why no line was read. No bytes are lost.
 #[derive(Clone, Copy, Debug, PartialEq, Eq)]

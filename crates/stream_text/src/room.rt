@@ -3,8 +3,8 @@ ghost use Rattle.std.specs.Prelude.{◌≡◌, ◌+◌, ◌-◌, ◌<◌, ◌≤
 ghost use Rattle.std.specs.List.{between};
 ghost use Rattle.std.specs.Io.KnownBytes.{Consumes, IsAtEnd, Keeps};
 
+use cli_io::{Failed, Source};
 use std::alloc::{AllocError, Global};
-use streams::{Failed, Source};
 
 /// Returns a buffer of this many bytes.
 pub fn buffer_of(alloc: Global, size: usize) -> Result<Vec<u8>, AllocError>
@@ -31,7 +31,7 @@ pub fn make_room(buffer: &mut [u8], from: usize, to: usize) -> (usize, usize)
 }
 
 /// Reads once, into the room from a place on. The bytes before that place stay as they are.
-pub fn read_behind<S: Source>(source: &mut S, buffer: &mut [u8], to: usize) -> Result<usize, Failed>
+pub fn read_after<S: Source>(source: &mut S, buffer: &mut [u8], to: usize) -> Result<usize, Failed>
     requires room { to < length buffer.old }
     requires few { S.failures source.old < u64.MAX }
     ensures before { take to buffer.new ≡ take to buffer.old }

@@ -5,7 +5,7 @@ use Rattle.art_schedules.proofs.Common.{cases_Bool, lt-ltb, ltb-true, or_left, o
 use Rattle.art_schedules.proofs.Common.{FortyEight, Full, row_words, rows_of, table_words, base_of, kind_at, kind_at-base_of, row_begins}
 use Rattle.art_schedules.proofs.Common.{row_ends, rows_apart, numbers, SameWords, is_busy, calm_after}
 use Rattle.std.specs.Prelude.{◌⊎◌}
-use Rattle.art_serial.proofs.writes.GrowSixteenLemmas.{entry-at}
+use Rattle.art_sequential.proofs.writes.GrowSixteenLemmas.{entry-at}
 use Rattle.art_schedules.specs.calm.Calm.{lies_at, lies_below, is_of_busy_row}
 
 as-many : (f : ℕ → ℕ) (first n : ℕ) → length (map f (numbers first n)) ≡ n

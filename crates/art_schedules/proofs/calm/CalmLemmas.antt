@@ -4,7 +4,7 @@ use Rattle.art_schedules.proofs.Common.{inr, arith, ne_eqb, slice_index, All, So
 use Rattle.art_schedules.proofs.Common.{Kind, row_words, table_words, claims_of, base_of, kind_at, is_locked, is_obsolete, released_word}
 use Rattle.art_schedules.proofs.Common.{some-words, claims-few, kind_at-base_of, row_begins, rows_apart, small_at, taken-locked}
 use Rattle.art_schedules.proofs.Common.{obsolete_obsolete, obsolete_released, IsOutside, IsClaimed, AreZeroPastClaims, Variant, Optimistic}
-use Rattle.art_schedules.proofs.Common.{Store, locks, Held, setting, Process, State, OfRows, IsKept, IsGoodAt, IsAmong, IsWith, IsOpen, stage_of}
+use Rattle.art_schedules.proofs.Common.{Store, locks, HeldRow, setting, Process, State, OfRows, IsKept, IsGoodAt, IsAmong, IsWith, IsOpen, stage_of}
 use Rattle.art_schedules.proofs.Common.{IsSettled, IsSound, IsSteady, SameWords, filled_by, held_by}
 use Rattle.art_schedules.proofs.versions.KnownLemmas.{held-is-kept}
 use Rattle.art_schedules.proofs.versions.MoveLemmas.{settled-row, true-false}
@@ -14,7 +14,7 @@ use Rattle.art_schedules.proofs.versions.WordFacts.{version-free}
 use Rattle.art_schedules.proofs.Common.{RowFilled, RowTaken, RowReleased, CalmChange, CalmStays, CalmFilled, CalmReleased, CalmStep}
 use Rattle.std.specs.Prelude.{◌⊎◌}
 use Rattle.std.proofs.lemmas.List.Elements.{All-from_get_or}
-use Rattle.art_serial.proofs.words.VersionLemmas.{even-free}
+use Rattle.art_sequential.proofs.words.VersionLemmas.{even-free}
 use Rattle.art_core.specs.Meaning.{AllUnlocked}
 use Rattle.art_schedules.specs.versions.Holding.{IsVersion}
 use Rattle.art_schedules.proofs.versions.ChangeLemmas.{good-more}
@@ -25,7 +25,7 @@ use Rattle.art_schedules.proofs.calm.VersionLemmas.{VersionChange, Stays, IsTake
 use Rattle.art_schedules.proofs.calm.VersionLemmas.{obsolete-stays, BusySettled}
 
 -- a version that is kept in the optimistic tree is not obsolete
-pub kept-live : (variant : Variant) (P : OfRows) (x : Held) → IsKept (locks variant) P x → (variant ≡ Optimistic)
+pub kept-live : (variant : Variant) (P : OfRows) (x : HeldRow) → IsKept (locks variant) P x → (variant ≡ Optimistic)
     ⊎ (is_obsolete x.kept ≡ false)
     → is_obsolete x.kept ≡ false
 kept-live variant P x k (inl e) = go (subst (λ v. IsVersion (locks v) x.kept) e k.0)
@@ -75,7 +75,7 @@ module _ (variant : Variant) (shape : Shape) (n m : ℕ) (s later : State) (h : 
         ∙ (free-parts (slice_index later.words base) free).1
   ]
 
-  held : (r : ℕ) (call : Call) (w : Process) → IsOpen later r call w → (x : Held) → IsAmong x (held_by variant shape call w)
+  held : (r : ℕ) (call : Call) (w : Process) → IsOpen later r call w → (x : HeldRow) → IsAmong x (held_by variant shape call w)
       → (variant ≡ Optimistic) ⊎ (is_obsolete x.kept ≡ false) → slice_index after x.base ≡ x.kept
   held r call w o x a known =
       busy-row x.base x.kind row (locked-busy (slice_index later.words x.base) locked) x.base (omega arith)
@@ -184,7 +184,7 @@ module _ (variant : Variant) (shape : Shape) (n m : ℕ) (s later : State) (h : 
   ]
 
   -- one row has another version
-  module _ (x : Held) (kept : IsKept (locks variant) (IsSettled variant shape s) x)
+  module _ (x : HeldRow) (kept : IsKept (locks variant) (IsSettled variant shape s) x)
       (others : (other : ℕ) → other ≢ x.base → slice_index later.words other ≡ slice_index s.words other) where
     its-row : kind_at shape x.base ≡ Some x.kind
     its-row = settled-row variant shape s x.base x.kind kept.1

@@ -2,7 +2,7 @@
 use Rattle.art_schedules.proofs.Common.{◌≡◌, ◌≢◌, ℕ, ◌+◌, ◌^◌, ◌<◌, ◌≤◌, Bool, true, false, List, [], length, refl, ap, sym, subst, ◌∙◌, inl}
 use Rattle.art_schedules.proofs.Common.{inr, arith, eq-eqb, ne_eqb, ◌==◌, slice_get, slice_index, slice_set, Option, Some, None, if◌then◌else◌}
 use Rattle.art_schedules.proofs.Common.{cases_eq, same_Some, none-some, Call, Shape, claims_of, locked_word, claims-few, Variant, Access, Load}
-use Rattle.art_schedules.proofs.Common.{Store, Add, Point, Turn, Asks, Answers, Setting, locks, act, word_of, asks-same, asks-answers, Held}
+use Rattle.art_schedules.proofs.Common.{Store, Add, Point, Turn, Asks, Answers, Setting, locks, act, word_of, asks-same, asks-answers, HeldRow}
 use Rattle.art_schedules.proofs.Common.{CallAt, call_turn, call_after, call_begun, setting, Process, told, Plan, State, Move, Invokes, Responds}
 use Rattle.art_schedules.proofs.Common.{after_move, moved, move_of, invocation, next_call, move_from, word_of_move, new_word, step, is-moved}
 use Rattle.art_schedules.proofs.Common.{stored-at, set-here, OfRows, Named, IsKept, holds, Reads, Writes, Ends, Releases, Takes, Claims}
@@ -57,7 +57,7 @@ module _ (variant : Variant) (shape : Shape) (root : 1 ≤ shape.rows256) (n : �
     abbrev later : Access → Process
     later a = after_move p (Makes a) (now a) q
 
-    has-at : (Q : OfRows) (a : Access) (hs : List Held) (fs : List Named) → Has Q c (call_after c place (told a (now a))) hs fs
+    has-at : (Q : OfRows) (a : Access) (hs : List HeldRow) (fs : List Named) → Has Q c (call_after c place (told a (now a))) hs fs
         → Has Q c (stage_of variant shape call (later a)) hs fs
     has-at Q a hs fs has = subst (λ x. Has Q c x hs fs) (sym (after-more c (call_begun c) q.got (told a (now a)))) has
 
@@ -69,7 +69,7 @@ module _ (variant : Variant) (shape : Shape) (root : 1 ≤ shape.rows256) (n : �
     abbrev asks-for : (a : Access) (mark : Option Point) → call_turn c place ≡ Asks a mark → AsksFor variant shape s p a
     asks-for a mark e = record { call = call; process = q; is_open = record { own = here; is_open = is-open }; mark = mark; turn = e }
 
-    holds-then : (a : Access) (rows : List Held) → holds c (stage_of variant shape call (later a)) ≡ rows
+    holds-then : (a : Access) (rows : List HeldRow) → holds c (stage_of variant shape call (later a)) ≡ rows
         → HoldsThen variant shape (moved s p q (Makes a)) p call rows
     holds-then a rows e = record {
       process = later a;
@@ -82,7 +82,7 @@ module _ (variant : Variant) (shape : Shape) (root : 1 ≤ shape.rows256) (n : �
     }
 
     -- the call does not hold a row whose version is still the one that it kept
-    apart : (x y : Held) → IsKept (locks variant) P x → slice_index s.words x.base ≡ x.kept → IsAmong y (holds c place) → y.base ≢ x.base
+    apart : (x y : HeldRow) → IsKept (locks variant) P x → slice_index s.words x.base ≡ x.kept → IsAmong y (holds c place) → y.base ≢ x.base
     apart x y k is a same =
         let locked = h.locked p call q (record { own = here; is_open = is-open }) y a in
         let kept = held-is-kept P c place (h.knows p call q (record { own = here; is_open = is-open })) y a in

@@ -4,7 +4,7 @@ use Rattle.art_schedules.proofs.Common.{Gives, IsFull, IsRun, Plan, State, nowhe
 use Rattle.art_schedules.proofs.versions.FreshLemmas.{fresh-at}
 use Rattle.art_schedules.proofs.versions.RunLemmas.{idle-idle, start-sound}
 use Rattle.art_schedules.proofs.Common.{calm_after, calm_of, IsCalm, CalmStep}
-use Rattle.art_schedules.specs.calm.Calm.{calm_behind, calm_on}
+use Rattle.art_schedules.specs.calm.Calm.{calm_after_step, calm_on}
 use Rattle.art_schedules.specs.calm.Laws.{CalmGoes}
 use Rattle.art_schedules.proofs.calm.SmallRunLemmas.{small-words}
 use Rattle.art_schedules.proofs.calm.SettledLemmas.{settled-at}
@@ -12,29 +12,29 @@ use Rattle.art_schedules.proofs.calm.CalmLemmas.{calm-kept, calm-step, calm-firs
 use Rattle.art_schedules.proofs.calm.InductionLemmas.{run-begins, last-step, before-last, along, step-of-run}
 
 on-append : (plan : Plan) (schedule : List ℕ) (p : ℕ) (s t : State) (calm : List ℕ) → run_on plan (Some s) schedule ≡ Some t
-    → calm_on plan (Some s) calm (schedule ++ p ∷ []) ≡ calm_behind plan.shape (calm_on plan (Some s) calm schedule) (step plan t p)
+    → calm_on plan (Some s) calm (schedule ++ p ∷ []) ≡ calm_after_step plan.shape (calm_on plan (Some s) calm schedule) (step plan t p)
 on-append plan [] p s t calm e = go (step plan s p) refl
   where
     go : (o : Option State) → step plan s p ≡ o
-        → calm_on plan (step plan s p) (calm_behind plan.shape calm (step plan s p)) [] ≡ calm_behind plan.shape calm (step plan t p)
+        → calm_on plan (step plan s p) (calm_after_step plan.shape calm (step plan s p)) [] ≡ calm_after_step plan.shape calm (step plan t p)
     go None f =
-        ap (λ o. calm_on plan o (calm_behind plan.shape calm o) []) f
-        ∙ (ap (calm_behind plan.shape calm) (sym f) ∙ ap (λ u. calm_behind plan.shape calm (step plan u p)) (same_Some _ _ e))
+        ap (λ o. calm_on plan o (calm_after_step plan.shape calm o) []) f
+        ∙ (ap (calm_after_step plan.shape calm) (sym f) ∙ ap (λ u. calm_after_step plan.shape calm (step plan u p)) (same_Some _ _ e))
     go (Some u) f =
-        ap (λ o. calm_on plan o (calm_behind plan.shape calm o) []) f
-        ∙ (ap (calm_behind plan.shape calm) (sym f) ∙ ap (λ u. calm_behind plan.shape calm (step plan u p)) (same_Some _ _ e))
+        ap (λ o. calm_on plan o (calm_after_step plan.shape calm o) []) f
+        ∙ (ap (calm_after_step plan.shape calm) (sym f) ∙ ap (λ u. calm_after_step plan.shape calm (step plan u p)) (same_Some _ _ e))
 on-append plan (q ∷ schedule) p s t calm e = go (step plan s q) refl (λ u. on-append plan schedule p u t)
   where
     go : (o : Option State) → step plan s q ≡ o
         → ((u : State) (calm : List ℕ) → run_on plan (Some u) schedule ≡ Some t
-        → calm_on plan (Some u) calm (schedule ++ p ∷ []) ≡ calm_behind plan.shape (calm_on plan (Some u) calm schedule) (step plan t p))
-        → calm_on plan (Some s) calm ((q ∷ schedule) ++ p ∷ []) ≡ calm_behind plan.shape
+        → calm_on plan (Some u) calm (schedule ++ p ∷ []) ≡ calm_after_step plan.shape (calm_on plan (Some u) calm schedule) (step plan t p))
+        → calm_on plan (Some s) calm ((q ∷ schedule) ++ p ∷ []) ≡ calm_after_step plan.shape
         (calm_on plan (Some s) calm (q ∷ schedule)) (step plan t p)
     go None f rest = absurd (nowhere plan schedule t (ap (λ o. run_on plan o schedule) (sym f) ∙ e))
     go (Some u) f rest =
-        ap (λ o. calm_on plan o (calm_behind plan.shape calm o) (schedule ++ p ∷ [])) f
+        ap (λ o. calm_on plan o (calm_after_step plan.shape calm o) (schedule ++ p ∷ [])) f
         ∙ (rest u (calm_after plan.shape calm u.words) (ap (λ o. run_on plan o schedule) (sym f) ∙ e)
-        ∙ ap (λ o. calm_behind plan.shape (calm_on plan o (calm_behind plan.shape calm o) schedule) (step plan t p)) (sym f))
+        ∙ ap (λ o. calm_after_step plan.shape (calm_on plan o (calm_after_step plan.shape calm o) schedule) (step plan t p)) (sym f))
 
 -- after one step more
 pub calm-next : (plan : Plan) (words schedule : List ℕ) (p : ℕ) (s t : State) → Gives plan (opened_on plan words) schedule s
@@ -43,7 +43,7 @@ pub calm-next : (plan : Plan) (words schedule : List ℕ) (p : ℕ) (s t : State
 unfolding calm_of
 calm-next plan words schedule p s t e f =
     on-append plan schedule p (opened_on plan words) s words e
-    ∙ ap (calm_behind plan.shape (calm_on plan (Some (opened_on plan words)) words schedule)) f
+    ∙ ap (calm_after_step plan.shape (calm_on plan (Some (opened_on plan words)) words schedule)) f
 
 pub calm-goes : (plan : Plan) (words : List ℕ) → CalmGoes plan words
 unfolding calm_of

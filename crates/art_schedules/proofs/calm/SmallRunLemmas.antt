@@ -15,7 +15,7 @@ use Rattle.std.proofs.lemmas.List.Elements.{All-replicate}
 use Rattle.art_rows.specs.Table.{IsWithinLimits}
 use Rattle.art_rows.specs.declared.access.Access.TheVariants.{Exchange}
 use Rattle.art_core.specs.Core.{Makes}
-use Rattle.art_serial.specs.writes.Writes.{AreSmall}
+use Rattle.art_sequential.specs.writes.Writes.{AreSmall}
 use Rattle.art_schedules.proofs.calm.SmallStageLemmas.{SmallAt, SmallTurn, IsFine, call-after-small, call-turn-small, begun-small}
 use Rattle.art_schedules.proofs.calls.ScriptLemmas.{AreTreeCalls, next-tree}
 

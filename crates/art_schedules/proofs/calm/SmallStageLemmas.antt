@@ -6,7 +6,7 @@ use Rattle.art_schedules.proofs.Common.{Empty, ChildRow, Leaf, rows_of, base_of,
 use Rattle.art_schedules.proofs.Common.{locked_word, released_word, obsolete_word, key_bytes, entries_of, place_of, child_of, child_word}
 use Rattle.art_schedules.proofs.Common.{row_word, keys4_word, keys16_word, more_keys16_word, entries_word, with_key, key_byte-small}
 use Rattle.art_schedules.proofs.Common.{differs-before, path_byte, Store, Swap, Turn, Asks, numbers, Setting, is_insert, is_full, locks, key_of}
-use Rattle.art_schedules.proofs.Common.{path_differs_at, overwriting, new_leaf, next_kind, new_entry, keys_differ_at, Held, KeyWords, Finding}
+use Rattle.art_schedules.proofs.Common.{path_differs_at, overwriting, new_leaf, next_kind, new_entry, keys_differ_at, HeldRow, KeyWords, Finding}
 use Rattle.art_schedules.proofs.Common.{Has, Lacks, Position, Down, Hold, Pair, Work, Taking, Target, Root, Below, Taken, PairWord, Growing}
 use Rattle.art_schedules.proofs.Common.{Spread, Outcome, Refused, Stage, Lock, Exchange, Wait, Leave, Between, Info, Find, FindKeys, FindMore}
 use Rattle.art_schedules.proofs.Common.{FindCount, Slot, Check, CheckLast, LetGo, Take, Write, ClaimPair, StorePair, PutLoad, PutStore, PutLeaf}
@@ -21,15 +21,15 @@ use Rattle.art_schedules.proofs.Common.{entries_at, fill_at, leaf_after, keys_at
 use Rattle.art_schedules.proofs.Common.{put_keys_turn, grow_keys_turn, grow_leaf_turn, grow_count_turn, store_of, Walk, at, scan_turn, keys_turn}
 use Rattle.art_schedules.proofs.Common.{CallAt, OnKey, OnScan, begun_as, call_after, call_turn}
 use Rattle.art_schedules.proofs.versions.WordFacts.{count-most}
-use Rattle.art_serial.proofs.words.WordLemmas.{again_below}
+use Rattle.art_sequential.proofs.words.WordLemmas.{again_below}
 use Rattle.art_rows.specs.Rows.{releases_early, leaves_out_check, takes_unchecked}
 use Rattle.art_rows.specs.Updates.{lesser, greater, Under}
-use Rattle.art_stages.specs.declared.stage.Work.TheVariants as work
-use Rattle.art_stages.specs.declared.stage.PairWord.TheVariants as pair_word
-use Rattle.art_stages.specs.declared.stage.ScanStep.TheVariants as scan
-use Rattle.art_stages.specs.Stages.{keys_before}
-use Rattle.art_stages.specs.Automaton.{take_at, down_from, words_at}
-use Rattle.art_stages.specs.Scans.{release_turn}
+use Rattle.art_control_states.specs.declared.stage.Work.TheVariants as work
+use Rattle.art_control_states.specs.declared.stage.PairWord.TheVariants as pair_word
+use Rattle.art_control_states.specs.declared.stage.ScanStep.TheVariants as scan
+use Rattle.art_control_states.specs.Stages.{keys_before}
+use Rattle.art_control_states.specs.Automaton.{take_at, down_from, words_at}
+use Rattle.art_control_states.specs.Scans.{release_turn}
 use Rattle.art_schedules.proofs.calm.SmallWordLemmas.{grown-info, pair-info, differ-level, two-keys, keys4-with, keys-few, keys16-with}
 use Rattle.art_schedules.proofs.calm.SmallWordLemmas.{entries-with, entries-new}
 
@@ -116,7 +116,7 @@ small-end : (l : Bool) (o : Option Outcome) → SmallStage (end_at l o)
 small-end l None = small-start l
 small-end l (Some outcome) = tt
 
-small-release : (l : Bool) (o : Option Held) (outcome : Option Outcome) → SmallStage (release_at l o outcome)
+small-release : (l : Bool) (o : Option HeldRow) (outcome : Option Outcome) → SmallStage (release_at l o outcome)
 small-release l None outcome = small-end l outcome
 small-release l (Some n) outcome = tt
 
@@ -140,27 +140,27 @@ module _ (c : Setting) (fine : IsFine c) where
   small-take : (t : Taking) → SmallWork t.work → SmallStage (take_at c t)
   small-take t s = if-small (takes_unchecked c.variant) (Lock (Taken t) true) (Take t) s s
 
-  small-alone : (n : Held) (w : Work) → SmallWork w → SmallStage (take_alone c n w)
+  small-alone : (n : HeldRow) (w : Work) → SmallWork w → SmallStage (take_alone c n w)
   small-alone n w s = small-take (record { row = n; held = None; below = None; work = w }) s
 
-  small-taken : (above below : Option Held) (w : Work) (n : Held) → SmallWork w → SmallStage (taken_at c above below w n)
+  small-taken : (above below : Option HeldRow) (w : Work) (n : HeldRow) → SmallWork w → SmallStage (taken_at c above below w n)
   small-taken above None w n s = small-work (record { row = n; above = above }) w s
   small-taken above (Some m) w n s = small-take (record { row = m; held = Some n; below = None; work = w }) s
 
   small-pair : (slot key value : ℕ) → SmallChild (Leaf key value) → SmallWork (pair_work c slot key value)
   small-pair slot key value s = (differ-level key (key_of c.call), key_byte-small key (keys_differ_at key (key_of c.call)), s)
 
-  small-overwrite : (n : Held) (slot value : ℕ) (o : Option ℕ) → ((word : ℕ) → o ≡ Some word → word < 2 ^ 64)
+  small-overwrite : (n : HeldRow) (slot value : ℕ) (o : Option ℕ) → ((word : ℕ) → o ≡ Some word → word < 2 ^ 64)
       → SmallStage (overwrite_at n slot value o)
   small-overwrite n slot value None few = tt
   small-overwrite n slot value (Some word) few = few word refl
 
-  small-overwritten : (n : Held) (slot value : ℕ) (o : Option ℕ) → ((word : ℕ) → o ≡ Some word → word < 2 ^ 64)
+  small-overwritten : (n : HeldRow) (slot value : ℕ) (o : Option ℕ) → ((word : ℕ) → o ≡ Some word → word < 2 ^ 64)
       → SmallStage (overwrite_unlocked c n slot value o)
   small-overwritten n slot value None few = tt
   small-overwritten n slot value (Some word) few = small-alone n (work.Write slot word (Some value)) (few word refl)
 
-  seeks-coupled : (e : Bool) (n : Held) (f : Finding) → SmallFinding f → SmallStage (seek_coupled e c n f)
+  seeks-coupled : (e : Bool) (n : HeldRow) (f : Finding) → SmallFinding f → SmallStage (seek_coupled e c n f)
   seeks-coupled e n (Lacks keys) s = tt
   seeks-coupled e n (Has slot Empty) s = tt
   seeks-coupled e n (Has slot (Leaf key value)) s =
@@ -169,7 +169,7 @@ module _ (c : Setting) (fine : IsFine c) where
   seeks-coupled e n (Has slot (ChildRow base kind)) s =
       if-small e (Leave (down_from n slot base kind)) (Lock (Below (down_from n slot base kind)) true) s s
 
-  inserts-coupled : (n : Held) (f : Finding) → SmallFinding f → SmallStage (insert_coupled c n f)
+  inserts-coupled : (n : HeldRow) (f : Finding) → SmallFinding f → SmallStage (insert_coupled c n f)
   inserts-coupled n (Lacks keys) s = small-work (hold_alone n) (work.Put keys) tt
   inserts-coupled n (Has slot Empty) s = fine.leaf
   inserts-coupled n (Has slot (Leaf key value)) s =
@@ -178,7 +178,7 @@ module _ (c : Setting) (fine : IsFine c) where
       (small-work (hold_alone n) (pair_work c slot key value) (small-pair slot key value s))
   inserts-coupled n (Has slot (ChildRow base kind)) s = s
 
-  small-let-go : (n : Held) (o : Option Held) (slot : ℕ) (f : Finding) → SmallFinding f → SmallStage (let_go_at c n o slot f)
+  small-let-go : (n : HeldRow) (o : Option HeldRow) (slot : ℕ) (f : Finding) → SmallFinding f → SmallStage (let_go_at c n o slot f)
   small-let-go n None slot f s = inserts-coupled n f s
   small-let-go n (Some above) slot f s = s
 
@@ -188,7 +188,7 @@ module _ (c : Setting) (fine : IsFine c) where
       if-small (is_full (row_at p.row) (count_in p.row.kind keys)) (ClaimGrow (record { row = p.row; above = p.above }) p.slot keys)
       (let_go_at c p.row p.above p.slot (Lacks keys)) tt (small-let-go p.row p.above p.slot (Lacks keys) tt)
 
-  seeks-unlocked : (n : Held) (f : Finding) → SmallFinding f → SmallStage (seek_unlocked c n f)
+  seeks-unlocked : (n : HeldRow) (f : Finding) → SmallFinding f → SmallStage (seek_unlocked c n f)
   seeks-unlocked n (Lacks keys) s = tt
   seeks-unlocked n (Has slot Empty) s = tt
   seeks-unlocked n (Has slot (Leaf key value)) s =
@@ -196,7 +196,7 @@ module _ (c : Setting) (fine : IsFine c) where
       (small-overwritten n slot value (overwriting c.call value) (fine.over value)) tt
   seeks-unlocked n (Has slot (ChildRow base kind)) s = s
 
-  grows-unlocked : (n : Held) (o : Option Held) (slot : ℕ) (keys : KeyWords) → SmallStage (grow_unlocked c n o slot keys)
+  grows-unlocked : (n : HeldRow) (o : Option HeldRow) (slot : ℕ) (keys : KeyWords) → SmallStage (grow_unlocked c n o slot keys)
   grows-unlocked n None slot keys = small-alone n (work.Grow slot keys) tt
   grows-unlocked n (Some above) slot keys = small-take (record { row = above; held = None; below = Some n; work = work.Grow slot keys }) tt
 
@@ -259,7 +259,7 @@ module _ (c : Setting) (fine : IsFine c) where
   small-entered l i e (Below d) v s = small-arrived l i e d v s
   small-entered l i e (Taken t) v s = small-taken t.held t.below t.work (held t.row.base t.row.kind t.row.info v) s
 
-  small-below : (l i : Bool) (d : Down) (m : Held) (o : Option ℕ) → row_word m.base < 2 ^ 64 → ((x : ℕ) → o ≡ Some x → x ≤ 3)
+  small-below : (l i : Bool) (d : Down) (m : HeldRow) (o : Option ℕ) → row_word m.base < 2 ^ 64 → ((x : ℕ) → o ≡ Some x → x ≤ 3)
       → SmallStage (below_at l i c d m o)
   small-below l i d m None s few = tt
   small-below true false d m (Some x) s few = tt
@@ -269,7 +269,7 @@ module _ (c : Setting) (fine : IsFine c) where
       if-small (nat_le x (row_at d.above).level) (Wait Root) (take_alone c d.above (beside_work d.slot m x)) tt
       (small-alone d.above (beside_work d.slot m x) (few x refl, path_byte m.kind m.info x, s))
 
-  differs-few : (m : Held) (x : ℕ) → path_differs_at c (row_at m) ≡ Some x → x ≤ 3
+  differs-few : (m : HeldRow) (x : ℕ) → path_differs_at c (row_at m) ≡ Some x → x ≤ 3
   differs-few m x e = let less = differs-before (row_at m).path (key_bytes (key_of c.call)) x e in omega (arith, less)
 
   small-pair-after : (h : Hold) (p : Pair) (base : ℕ) (word : PairWord) → SmallPair p → row_word base < 2 ^ 64
@@ -386,7 +386,7 @@ module _ (c : Setting) (fine : IsFine c) where
 
   -- What is stored.
 
-  released-small : (n : Held) → released_word n.kept < 2 ^ 64
+  released-small : (n : HeldRow) → released_word n.kept < 2 ^ 64
   released-small n = omega arith
 
   locked-small : (v : ℕ) → locked_word v < 2 ^ 64
@@ -399,13 +399,13 @@ module _ (c : Setting) (fine : IsFine c) where
   between-small true d = released-small d.above
   between-small false d = tt
 
-  find-small : (kind : Kind) (n : Held) → SmallTurn (find_turn kind c n)
+  find-small : (kind : Kind) (n : HeldRow) → SmallTurn (find_turn kind c n)
   find-small Four n = tt
   find-small Sixteen n = tt
   find-small FortyEight n = tt
   find-small Full n = tt
 
-  byte-small : (n : Held) → byte_in c n < 256
+  byte-small : (n : HeldRow) → byte_in c n < 256
   byte-small n = key_byte-small (key_of c.call) (row_at n).level
 
   new-byte : (p : Pair) → (new_child c p).byte < 256
@@ -519,13 +519,13 @@ module _ (c : Setting) (fine : IsFine c) where
   turn-small (Over outcome) s = tt
 
   -- a scan stores versions alone
-  scan-keys-small : (kind : Kind) (n : Held) → SmallTurn (keys_turn kind n)
+  scan-keys-small : (kind : Kind) (n : HeldRow) → SmallTurn (keys_turn kind n)
   scan-keys-small Four n = tt
   scan-keys-small Sixteen n = tt
   scan-keys-small FortyEight n = tt
   scan-keys-small Full n = tt
 
-  scan-release-small : (l : Bool) (n : Held) → SmallTurn (release_turn l n)
+  scan-release-small : (l : Bool) (n : HeldRow) → SmallTurn (release_turn l n)
   scan-release-small true n = released-small n
   scan-release-small false n = tt
 

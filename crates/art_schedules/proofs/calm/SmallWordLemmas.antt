@@ -12,9 +12,9 @@ use Rattle.art_rows.specs.Words.{packed, low_bytes, Info, kind_code, entry_of}
 use Rattle.art_rows.proofs.ByteLemmas.{entries-most, place-within}
 use Rattle.art_rows.proofs.KindLemmas.{code-few}
 use Rattle.art_rows.proofs.WriterLemmas.{length-low_bytes}
-use Rattle.art_serial.proofs.words.ByteLemmas.{AreBytes, packed-most, keys16_below, bytes-small, low_bytes-small, key_bytes-small}
-use Rattle.art_serial.proofs.words.KeyLemmas.{All-with_key, length-with_key}
-use Rattle.art_serial.proofs.writes.GrowSixteenLemmas.{length-numbers, entry-absent, entry-some}
+use Rattle.art_sequential.proofs.words.ByteLemmas.{AreBytes, packed-most, keys16_below, bytes-small, low_bytes-small, key_bytes-small}
+use Rattle.art_sequential.proofs.words.KeyLemmas.{All-with_key, length-with_key}
+use Rattle.art_sequential.proofs.writes.GrowSixteenLemmas.{length-numbers, entry-absent, entry-some}
 use Rattle.art_schedules.proofs.versions.WordFacts.{among-most}
 
 -- Infos.

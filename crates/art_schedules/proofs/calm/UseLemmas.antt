@@ -1,7 +1,7 @@
 -- What becomes of calm in a step, by what the open call does in it.
 use Rattle.art_schedules.proofs.Common.{◌≡◌, ◌≢◌, ℕ, ◌≤◌, List, [], ◌∷◌, ap, sym, subst, ◌∙◌, arith, slice_index, Option, Some, same_Some, Call}
 use Rattle.art_schedules.proofs.Common.{Shape, Kind, kind_at, released_word, rows_apart, IsOutside, Variant, Access, Store, Point, Turn, Asks}
-use Rattle.art_schedules.proofs.Common.{locks, asks-same, Held, call_turn, setting, Process, State, IsKept, IsAmong, IsBehindVersion, IsOpen}
+use Rattle.art_schedules.proofs.Common.{locks, asks-same, HeldRow, call_turn, setting, Process, State, IsKept, IsAmong, IsAfterVersion, IsOpen}
 use Rattle.art_schedules.proofs.Common.{AsksFor, CalmChange, IsSettled, IsSound, filled_by, held_by, stage_of}
 use Rattle.art_schedules.proofs.versions.KnownLemmas.{held-is-kept}
 use Rattle.art_schedules.proofs.versions.MoveLemmas.{settled-row}
@@ -56,7 +56,7 @@ module _ (variant : Variant) (shape : Shape) (n : ℕ) (s : State) (h : IsSound 
     its-word other v asks = same-word (asks-same (sym stores ∙ its-turn (Store other v) asks))
 
     -- the call stores after the version of a row that it holds
-    pub with-written : (x : Held) → IsAmong x (held_by variant shape call q) → IsBehindVersion x.base x.kind word → Stays
+    pub with-written : (x : HeldRow) → IsAmong x (held_by variant shape call q) → IsAfterVersion x.base x.kind word → Stays
     with-written x among behind = go step.change
       where
         kept : IsKept (locks variant) (IsSettled variant shape s) x
@@ -80,7 +80,7 @@ module _ (variant : Variant) (shape : Shape) (n : ℕ) (s : State) (h : IsSound 
             (sym (its-word y.base (released_word y.kept) asks)))
 
     -- the call stores after the version of the row that it fills
-    pub with-filled : (base : ℕ) (kind : Kind) → filled_by variant shape call q ≡ (base, kind) ∷ [] → IsBehindVersion base kind word
+    pub with-filled : (base : ℕ) (kind : Kind) → filled_by variant shape call q ≡ (base, kind) ∷ [] → IsAfterVersion base kind word
         → (other : ℕ) → 5 ≤ other → other ≢ word → slice_index after other ≡ slice_index calm other
     with-filled base kind filled behind other high differs = go step.change
       where
@@ -95,7 +95,7 @@ module _ (variant : Variant) (shape : Shape) (n : ℕ) (s : State) (h : IsSound 
             (sym (its-word y.base (released_word y.kept) asks)))
 
     -- the call stores the version of a row that it holds
-    pub with-released : (x : Held) → IsAmong x (held_by variant shape call q) → word ≡ x.base
+    pub with-released : (x : HeldRow) → IsAmong x (held_by variant shape call q) → word ≡ x.base
         → (other : ℕ) → 5 ≤ other → IsOutside x.base x.kind other → slice_index after other ≡ slice_index calm other
     with-released x among version other high outside = go step.change
       where

@@ -2,7 +2,7 @@
 use Rattle.art_schedules.proofs.Common.{◌≡◌, ◌≢◌, ℕ, ◌+◌, ◌/◌, ◌%◌, true, false, ap, sym, subst, ◌∙◌, inl, inr, arith, ne_eqb, ◌==◌, slice_index}
 use Rattle.art_schedules.proofs.Common.{Some, cases_eq, or_from, or_left, or_right, same_Some, Shape, Kind, kind_at, is_locked, is_obsolete}
 use Rattle.art_schedules.proofs.Common.{released_word, obsolete_word, some-words, row_begins, rows_apart, taken-locked, obsolete_obsolete}
-use Rattle.art_schedules.proofs.Common.{obsolete_released, Variant, locks, Held, setting, State, IsKept, IsBehindVersion, IsHeld, stage_of}
+use Rattle.art_schedules.proofs.Common.{obsolete_released, Variant, locks, HeldRow, setting, State, IsKept, IsAfterVersion, IsHeld, stage_of}
 use Rattle.art_schedules.proofs.Common.{IsSettled, IsSound, IsSteady, held_by, is_busy}
 use Rattle.art_schedules.proofs.versions.KnownLemmas.{held-is-kept}
 use Rattle.art_schedules.proofs.versions.MoveLemmas.{settled-row}
@@ -26,7 +26,7 @@ free-busy v l o = or_from (is_locked v) (is_obsolete v) l o
 
 -- the row that has a word after another's version has another base
 pub not-behind : (shape : Shape) (base b word : ℕ) (kind k : Kind) → kind_at shape base ≡ Some kind → kind_at shape b ≡ Some k
-    → IsBehindVersion b k word
+    → IsAfterVersion b k word
     → base ≢ word
 not-behind shape base b word kind k e row behind same =
     let one = rows_apart shape base b kind k word e row (omega (arith, same)) (omega (arith, same, some-words kind))
@@ -61,7 +61,7 @@ pub data VersionChange (variant : Variant) (shape : Shape) (s later : State) (ba
 module _ (variant : Variant) (shape : Shape) (n : ℕ) (s : State) (h : IsSound variant shape n s) (p : ℕ) (later : State)
     (base : ℕ) (kind : Kind)
     (row : kind_at shape base ≡ Some kind) where
-  settled-here : (x : Held) → base ≡ x.base → IsKept (locks variant) (IsSettled variant shape s) x → IsSettled variant shape s base kind
+  settled-here : (x : HeldRow) → base ≡ x.base → IsKept (locks variant) (IsSettled variant shape s) x → IsSettled variant shape s base kind
   settled-here x e k =
       let its = settled-row variant shape s x.base x.kind k.1 in
       subst (λ l. IsSettled variant shape s base l) (same_Some x.kind kind (sym its ∙ (ap (kind_at shape) (sym e) ∙ row)))

@@ -8,8 +8,8 @@ use Rattle.art_schedules.proofs.Common.{KeepsTree, EffectsFollow, IsGoneBy, Come
 use Rattle.std.proofs.Common.{slice_index, subst₂}
 use Rattle.map_object.specs.MapObject.{below, above}
 use Rattle.art_core.specs.Forms.{IsTree}
-use Rattle.art_serial.specs.trees.Trees.{SameTree, IsPair, HasRowMore, IsGrown, HasRowInPlace, LeavesArePut, LeavesAreRemoved, PairsAreHung}
-use Rattle.art_serial.specs.trees.Trees.{GrownRowsAreHung}
+use Rattle.art_sequential.specs.trees.Trees.{SameTree, IsPair, HasRowMore, IsGrown, HasRowInPlace, LeavesArePut, LeavesAreRemoved, PairsAreHung}
+use Rattle.art_sequential.specs.trees.Trees.{GrownRowsAreHung}
 use Rattle.art_schedules.specs.changes.Rows.{IsFilled}
 use Rattle.art_schedules.specs.changes.Effects.{IsPutOn, IsRemovedFrom, IsPairHung, IsGrownHung}
 use Rattle.art_schedules.proofs.changes.FollowLemmas.{follows-by, kept-trees-follow}

@@ -4,7 +4,7 @@ use Rattle.art_schedules.proofs.Common.{base_of, info_at, info_of, is_locked, is
 use Rattle.art_schedules.proofs.Common.{SameTreesAreOne, IsClaimed, Sits, sits-inside, kind_at-sits, sits, Follows, KeptTreesFollow, IsGoneBy}
 use Rattle.art_schedules.proofs.Common.{ComesInBy}
 use Rattle.std.proofs.Common.{slice_index}
-use Rattle.art_serial.proofs.trees.Changes.{way_later}
+use Rattle.art_sequential.proofs.trees.Changes.{way_later}
 use Rattle.art_schedules.specs.changes.Laws.{LowWordsKeep}
 
 -- a tree at rest of these rows, with their infos, follows

@@ -4,9 +4,9 @@ use Rattle.art_schedules.proofs.Common.{cases_eq, Shape, Kind, Child, row_words,
 use Rattle.art_schedules.proofs.Common.{child_of, two-words, Reached, IsAtRest, SameRow, IsClaimed, AreZeroPastClaims, ChildrenAreRead, Sits}
 use Rattle.art_schedules.proofs.Common.{sits-part, sits-inside, sits-kind_at, kind_at-sits, sits, split, OneRow, HasNewChild}
 use Rattle.std.proofs.Common.{slice_index, Some}
-use Rattle.art_serial.specs.trees.Trees.{ChangesAt}
+use Rattle.art_sequential.specs.trees.Trees.{ChangesAt}
 use Rattle.art_schedules.specs.versions.Steady as steady
-use Rattle.art_serial.proofs.inserts.HungLemmas.{word-changes}
+use Rattle.art_sequential.proofs.inserts.HungLemmas.{word-changes}
 use Rattle.art_schedules.specs.changes.Laws.{RowsAreByWords, SlotsAreChildren, SlotsAreWritten}
 
 -- a claimed row sits in the table

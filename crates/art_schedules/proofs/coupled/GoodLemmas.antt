@@ -1,6 +1,6 @@
 -- Rows that are held stay in the calm tree, and were not obsolete when they were taken.
 use Rattle.art_schedules.proofs.Common.{◌≡◌, ℕ, List, [], ◌∷◌, ◌++◌, inl, inr, ap, sym, subst, ◌∙◌, true, false, slice_index, Option, Some}
-use Rattle.art_schedules.proofs.Common.{cases_eq, false≢true, same_Some, Call, Contents, Kind, kind_at, is_obsolete, Coupled, Held, setting}
+use Rattle.art_schedules.proofs.Common.{cases_eq, false≢true, same_Some, Call, Contents, Kind, kind_at, is_obsolete, Coupled, HeldRow, setting}
 use Rattle.art_schedules.proofs.Common.{IsAmong, IsHeld, IsOpen, IsSettled, Plan, Process, Reached, State, held_by, stage_of}
 use Rattle.art_schedules.proofs.versions.KnownLemmas.{held-is-kept}
 use Rattle.art_schedules.proofs.Common.{ComesInBy, Effect, Follows, IsCoupledStep, IsGoneBy, TakesLive, calm_of, pairs_by}
@@ -27,7 +27,7 @@ module _ (plan : Plan) (start : Contents) (words schedule : List ℕ) (p : ℕ) 
   module _ (n : ℕ) (pairs : Contents) (effect : Option Effect)
       (follows : Follows plan.shape n calm after pairs (IsGoneBy effect) (ComesInBy effect))
       (dead : (b : ℕ) → IsGoneBy effect b → is_obsolete (slice_index t.words b) ≡ true) where
-    still-good : (r : ℕ) (call : Call) (q : Process) → IsOpen t r call q → (x : Held) → IsAmong x (held_by Coupled plan.shape call q)
+    still-good : (r : ℕ) (call : Call) (q : Process) → IsOpen t r call q → (x : HeldRow) → IsAmong x (held_by Coupled plan.shape call q)
         → IsInTree plan.shape calm x → IsInTree plan.shape after x
     still-good r call q o x a good = record {
       reached = (follows.rows x.base x.kind).1 (inl (good.reached, stays));
@@ -39,13 +39,13 @@ module _ (plan : Plan) (start : Contents) (words schedule : List ℕ) (p : ℕ) 
 
   module _ (good : GoodOf plan.shape s p calm) (live : TakesLive plan.shape s p) (takes : TakesReached plan.shape s p calm)
       (call : Call) (q : Process)
-      (o : IsOpen t p call q) (x : Held) (a : IsAmong x (held_by Coupled plan.shape call q)) where
+      (o : IsOpen t p call q) (x : HeldRow) (a : IsAmong x (held_by Coupled plan.shape call q)) where
     row : kind_at plan.shape x.base ≡ Some x.kind
     row = settled-row Coupled plan.shape t x.base x.kind (held-is-kept (IsSettled Coupled plan.shape t) (setting plan.shape Coupled call)
         (stage_of Coupled plan.shape call q) (f.behind.knows p call q o) x a).1
 
     -- with the base and the version of a good row it is one
-    as-good : (y : Held) (kind : Kind) → Reached plan.shape calm y.base kind → is_obsolete y.kept ≡ false
+    as-good : (y : HeldRow) (kind : Kind) → Reached plan.shape calm y.base kind → is_obsolete y.kept ≡ false
         → y.base ≡ x.base → y.kept ≡ x.kept
         → IsInTree plan.shape calm x
     as-good y kind reached alive base kept =

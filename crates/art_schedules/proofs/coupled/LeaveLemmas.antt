@@ -3,7 +3,7 @@ use Rattle.art_schedules.proofs.Common.{◌≡◌, ◌⊎◌, inl, inr, ℕ, ◌
 use Rattle.art_schedules.proofs.Common.{arith, slice_index, Option, Some, cases_eq, false≢true, same_Some, Call, Reply, Contents, Shape, Kind}
 use Rattle.art_schedules.proofs.Common.{kind_at, is_locked, is_obsolete, locked_word, released_word, obsolete_word, row_begins, Coupled, Store}
 use Rattle.art_schedules.proofs.Common.{Swap, Point, Asks, store-word, load-store, add-store, exchange-store, load-exchange, store-exchange}
-use Rattle.art_schedules.proofs.Common.{answers-asks, stores-same, Held, Hold, Stage, Lock, Exchange, Between, LetGo, Obsolete, Unlock, ScanStep}
+use Rattle.art_schedules.proofs.Common.{answers-asks, stores-same, HeldRow, Hold, Stage, Lock, Exchange, Between, LetGo, Obsolete, Unlock, ScanStep}
 use Rattle.art_schedules.proofs.Common.{setting, turn_at, hold_alone, no_value, release_at, at, scan_turn, CallAt, OnKey, OnScan, call_turn}
 use Rattle.art_schedules.proofs.Common.{call_after, Process, Plan, State, step, Reached, child_on, child-same, taken-locked, obsolete_released}
 use Rattle.art_schedules.proofs.Common.{Knows, holds, all_of, lock_of, locks_of, rows_of_hold, IsAmong, IsOpen, IsHeld, IsSettled, stage_of}
@@ -17,7 +17,7 @@ use Rattle.art_schedules.proofs.Common.{ObsoleteLeave, HeldAreLive, TakesLive, M
 use Rattle.art_schedules.proofs.Common.{ObsoleteRowsLeave, RestsHaveNone, ChildRow}
 use Rattle.art_rows.specs.declared.access.Point.TheVariants as point
 use Rattle.art_rows.proofs.TurnLemmas.{add-exchange}
-use Rattle.art_stages.specs.declared.stage.ScanStep.TheVariants as scan
+use Rattle.art_control_states.specs.declared.stage.ScanStep.TheVariants as scan
 use Rattle.art_schedules.proofs.calm.VersionLemmas.{not-behind, locked-same, released-free, obsolete-free}
 use Rattle.art_schedules.proofs.calm.CalmLemmas.{claimed-row}
 use Rattle.art_schedules.proofs.work.OwnLemmas.{rows-known}
@@ -50,7 +50,7 @@ lock-stores shape call (OnScan low high x) word value mark e = go x.step e
 -- What a call that stores the version of a row is at: one of the stages that release a row that it holds, or the one that makes a row
 -- obsolete.
 data Releases (shape : Shape) (call : Call) (x : CallAt) (base value : ℕ) : Type 0 where
-  ByUnlock : (n : Held) → IsAmong (lock_of n) (holds (setting shape Coupled call) x) → value ≡ released_word n.kept
+  ByUnlock : (n : HeldRow) → IsAmong (lock_of n) (holds (setting shape Coupled call) x) → value ≡ released_word n.kept
       → Releases shape call x base value
   ByObsolete : (h : Hold) → x ≡ OnKey (Obsolete h) → base ≡ h.row.base → Releases shape call x base value
 
@@ -71,23 +71,23 @@ releases-at shape call (OnScan low high x) base value mark e turn = go x.step e 
 
 -- Where a row comes from that is held after a step of process p: it was held before, from the same
 -- version, or p takes it in the step.
-pub data HeldFrom (shape : Shape) (s : State) (p : ℕ) (x : Held) : Type 0 where
+pub data HeldFrom (shape : Shape) (s : State) (p : ℕ) (x : HeldRow) : Type 0 where
   HeldBefore : (h : IsHeld Coupled shape s x.base) → h.row.kept ≡ x.kept → HeldFrom shape s p x
-  TakenNow : (y : Held) → AsksFor Coupled shape s p (Swap y.base y.kept (locked_word y.kept))
+  TakenNow : (y : HeldRow) → AsksFor Coupled shape s p (Swap y.base y.kept (locked_word y.kept))
       → slice_index s.words y.base ≡ y.kept → y.base ≡ x.base
       → y.kept ≡ x.kept → HeldFrom shape s p x
 
 module _ (shape : Shape) (root : 1 ≤ shape.rows256) (s t : State) (p : ℕ) (first calm after : List ℕ)
     (f : Facts shape s t p first calm after) where
   -- a row that is held has its version locked
-  held-locked : (r : ℕ) (call : Call) (q : Process) → IsOpen t r call q → (x : Held) → IsAmong x (held_by Coupled shape call q)
+  held-locked : (r : ℕ) (call : Call) (q : Process) → IsOpen t r call q → (x : HeldRow) → IsAmong x (held_by Coupled shape call q)
       → is_locked (slice_index t.words x.base) ≡ true
   held-locked r call q o x a =
       let kept = held-is-kept (IsSettled Coupled shape t) (setting shape Coupled call) (stage_of Coupled shape call q)
       (f.behind.knows r call q o) x a in
       ap is_locked (f.behind.locked r call q o x a) ∙ taken-locked x.kept (version-free true x.kept kept.0)
 
-  pub held-from : (r : ℕ) (call : Call) (q : Process) → IsOpen t r call q → (x : Held) → IsAmong x (held_by Coupled shape call q)
+  pub held-from : (r : ℕ) (call : Call) (q : Process) → IsOpen t r call q → (x : HeldRow) → IsAmong x (held_by Coupled shape call q)
       → HeldFrom shape s p x
   held-from r call q o x a = go f.goes.rows
     where
@@ -124,7 +124,7 @@ module _ (shape : Shape) (root : 1 ≤ shape.rows256) (s t : State) (p : ℕ) (f
         | inr d ↦ stayed (others x.base d)
       ]
         where
-          free : (y : Held) (value : ℕ) → is_locked y.kept ≡ false → (value ≡ released_word y.kept) ⊎ (value ≡ obsolete_word y.kept)
+          free : (y : HeldRow) (value : ℕ) → is_locked y.kept ≡ false → (value ≡ released_word y.kept) ⊎ (value ≡ obsolete_word y.kept)
               → is_locked value ≡ false
           free y value un (inl e) = ap is_locked e ∙ released-free y.kept (version-free true y.kept un)
           free y value un (inr e) = ap is_locked e ∙ obsolete-free y.kept (version-free true y.kept un)
@@ -219,12 +219,12 @@ module _ (plan : Plan) (start : Contents) (words schedule : List ℕ) (p : ℕ) 
       (goes : TreeGoesOn plan.shape t.words calm after pairs effect) (live : HeldAreLive plan.shape s)
       (by : LeavesBy plan.shape s t p calm effect leaving next) (leave : ObsoleteLeave plan.shape s calm leaving) where
     -- a row that is held is reached after the step as before it, with the same children
-    not-gone : (r : ℕ) (call : Call) (q : Process) → IsOpen t r call q → (x : Held) → IsAmong x (held_by Coupled plan.shape call q)
+    not-gone : (r : ℕ) (call : Call) (q : Process) → IsOpen t r call q → (x : HeldRow) → IsAmong x (held_by Coupled plan.shape call q)
         → is_obsolete x.kept ≡ false → IsGoneBy effect x.base → ⊥
     not-gone r call q o x a alive gone =
         false≢true (sym (held-live plan.shape s t p words calm after f r call q o x a alive) ∙ goes.gone x.base gone)
 
-    still-hangs : (r : ℕ) (call : Call) (q : Process) → IsOpen t r call q → (x : Held) → IsAmong x (held_by Coupled plan.shape call q)
+    still-hangs : (r : ℕ) (call : Call) (q : Process) → IsOpen t r call q → (x : HeldRow) → IsAmong x (held_by Coupled plan.shape call q)
         → (byte : ℕ) → byte < 256
         → (base : ℕ) (kind : Kind) → child_on plan.shape calm x.base x.kind byte ≡ ChildRow base kind
         → child_on plan.shape after x.base x.kind byte ≡ ChildRow base kind
@@ -300,7 +300,7 @@ module _ (plan : Plan) (start : Contents) (words schedule : List ℕ) (p : ℕ) 
         y : MakesLeave plan.shape calm x.hold (next p)
         y = by.makes x.call x.hold x.at
 
-        held-there : (r : Held) → IsAmong r (locks_of (rows_of_hold x.hold)) → IsAmong r (held_by Coupled plan.shape x.call x.at.process)
+        held-there : (r : HeldRow) → IsAmong r (locks_of (rows_of_hold x.hold)) → IsAmong r (held_by Coupled plan.shape x.call x.at.process)
         held-there r a = subst (λ z. IsAmong r (holds (setting plan.shape Coupled x.call) z)) (sym x.at.at) a
 
         above-held : IsAmong (lock_of y.0.above) (held_by Coupled plan.shape x.call x.at.process)

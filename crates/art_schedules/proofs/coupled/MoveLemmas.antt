@@ -5,7 +5,7 @@ use Rattle.art_schedules.proofs.Common.{Get, Insert, Remove, Scan, Replace, Repl
 use Rattle.art_schedules.proofs.Common.{table_words, kind_at, root_base, claims_of, is_locked, is_obsolete, locked_word, released_word}
 use Rattle.art_schedules.proofs.Common.{some-words, claims-few, key_byte-small, Coupled, Access, Load, Store, Swap, Point, Asks, Answers}
 use Rattle.art_schedules.proofs.Common.{word_of, Setting, key_of, is_insert, is_scan, locks, asks-same, load-exchange, store-exchange}
-use Rattle.art_schedules.proofs.Common.{load-store, exchange-store, exchange-word, exchanges-same, store-word, answers-asks, Held, Keys, Hold}
+use Rattle.art_schedules.proofs.Common.{load-store, exchange-store, exchange-word, exchanges-same, store-word, answers-asks, HeldRow, Keys, Hold}
 use Rattle.art_schedules.proofs.Common.{Down, Work, Target, Root, Below, Taken, Stage, Lock, Exchange, Between, Info, Find, FindKeys, FindMore}
 use Rattle.art_schedules.proofs.Common.{FindCount, Slot, LetGo, Unlock, Over, row_at, byte_in, setting, count_in, place_in, turn_at, find_turn}
 use Rattle.art_schedules.proofs.Common.{between_turn, stage_after, work_at, put_at, moves_at, OnKey, call_turn, call_after, begun_as, Process}
@@ -22,8 +22,8 @@ use Rattle.art_schedules.proofs.Common.{CallsBegin, CallsGoOn, CallsStay, FoundI
 use Rattle.art_schedules.proofs.Common.{IsCoupledStep, WaysTakeReached, SeekersAreNotAnswered, ChildRow}
 use Rattle.std.proofs.Common.{All}
 use Rattle.std.specs.Prelude.{length}
-use Rattle.art_stages.specs.declared.stage.Work.TheVariants as work
-use Rattle.art_stages.specs.Stages.{target_base}
+use Rattle.art_control_states.specs.declared.stage.Work.TheVariants as work
+use Rattle.art_control_states.specs.Stages.{target_base}
 use Rattle.art_schedules.proofs.calm.VersionLemmas.{free-busy}
 use Rattle.art_schedules.proofs.changes.RowLemmas.{steady-row}
 use Rattle.art_schedules.specs.coupled.Knows.{IsBelow, KnowsStage, KnowsWay}
@@ -65,7 +65,7 @@ works-hold i c h (work.Pair p) = refl
 works-hold i c h (work.Put keys) = puts-hold i h.row.kind c h keys
 works-hold i c h (work.Grow slot keys) = refl
 
-find-loads : (kind : Kind) (c : Setting) (n : Held) → (word : ℕ) × (find_turn kind c n ≡ Asks (Load word) None)
+find-loads : (kind : Kind) (c : Setting) (n : HeldRow) → (word : ℕ) × (find_turn kind c n ≡ Asks (Load word) None)
 find-loads Four c n = (_, refl)
 find-loads Sixteen c n = (_, refl)
 find-loads FortyEight c n = (_, refl)
@@ -75,7 +75,7 @@ find-loads Full c n = (_, refl)
 data DoesAt (c : Setting) (i : Bool) (stage : Stage) : Type 0 where
   DoesLoad : (word : ℕ) → (mark : Option Point) → turn_at c stage ≡ Asks (Load word) mark → DoesAt c i stage
   DoesSwap : (t : Target) → (v : ℕ) → stage ≡ Exchange t v → DoesAt c i stage
-  DoesRelease : (h : Held) → (mark : Option Point) → IsAmong h (held_at_stage true i stage)
+  DoesRelease : (h : HeldRow) → (mark : Option Point) → IsAmong h (held_at_stage true i stage)
       → turn_at c stage ≡ Asks (Store h.base (released_word h.kept)) mark
       → DoesAt c i stage
   DoesAnswer : (r : Reply) → turn_at c stage ≡ Answers r → DoesAt c i stage
@@ -283,7 +283,7 @@ module _ (shape : Shape) (s t : State) (p : ℕ) (first calm after : List ℕ) (
         → filled_by Coupled shape call q ≡ (b, k) ∷ [] → ⊥
     none-filled found stage at k b kind e = no-items (sym (fills-none found c (is_insert call) calm stage k) ∙ (ap fills (sym at) ∙ e))
 
-    its-held : (stage : Stage) → stage_of Coupled shape call q ≡ OnKey stage → (h : Held)
+    its-held : (stage : Stage) → stage_of Coupled shape call q ≡ OnKey stage → (h : HeldRow)
         → IsAmong h (held_at_stage true (is_insert call) stage)
         → IsAmong (lock_of h) (held_by Coupled shape call q)
     its-held stage at h a = subst (λ x. IsAmong (lock_of h) (holds c x)) (sym at)
@@ -296,13 +296,13 @@ module _ (shape : Shape) (s t : State) (p : ℕ) (first calm after : List ℕ) (
     words-stay found stage at k = own-same shape s t p first calm after f call q o (none-filled found stage at k) stores
       where
         stores : (word value : ℕ) (mark : Option Point) → call_turn c (stage_of Coupled shape call q) ≡ Asks (Store word value) mark
-            → (y : Held) × IsAmong y (held_by Coupled shape call q) × (word ≡ y.base)
+            → (y : HeldRow) × IsAmong y (held_by Coupled shape call q) × (word ≡ y.base)
         stores word value mark e = go (knows-does found c refl (is_insert call) calm stage k)
           where
             here : turn_at c stage ≡ Asks (Store word value) mark
             here = ap (call_turn c) (sym at) ∙ e
 
-            go : DoesAt c (is_insert call) stage → (y : Held) × IsAmong y (held_by Coupled shape call q) × (word ≡ y.base)
+            go : DoesAt c (is_insert call) stage → (y : HeldRow) × IsAmong y (held_by Coupled shape call q) × (word ≡ y.base)
             go (DoesLoad other l x) = absurd (load-store (sym x ∙ here))
             go (DoesSwap t u x) = absurd (exchange-store (ap (turn_at c) (sym x) ∙ here))
             go (DoesAnswer reply x) = absurd (answers-asks (sym x ∙ here))
@@ -377,7 +377,7 @@ module _ (plan : Plan) (start : Contents) (words schedule : List ℕ) (p : ℕ) 
 
   -- the rows that the call holds after the step are still
   rows-still : (call : Call) (r : ℕ) (effect : Option Effect) (next : Stage) (x : IsAtStage Coupled plan.shape t r call (OnKey next))
-      → ((h : Held) → IsAmong (lock_of h) (held_by Coupled plan.shape call x.process) → SameRow s.words t.words h.base h.kind
+      → ((h : HeldRow) → IsAmong (lock_of h) (held_by Coupled plan.shape call x.process) → SameRow s.words t.words h.base h.kind
       × (IsGoneBy effect h.base → ⊥))
       → Each (IsStill calm s.words after t.words effect) (held_at_stage true (is_insert call) next)
   rows-still call r effect next x same = each-among _ (held_at_stage true (is_insert call) next) (λ h a.
@@ -436,7 +436,7 @@ module _ (plan : Plan) (start : Contents) (words schedule : List ℕ) (p : ℕ) 
       knows-then o x = ways-are-kept plan.shape call (f.count + 2) calm s.words after t.words m None o (stage_after its stage got)
           own-follows own-still-rows x
 
-      own-of : (hs : List Held) → Each (IsStill calm s.words after t.words None) hs → Each (IsHeldLive calm s.words) hs
+      own-of : (hs : List HeldRow) → Each (IsStill calm s.words after t.words None) hs → Each (IsHeldLive calm s.words) hs
           → Each (IsHeldLive after t.words) hs
       own-of [] x o = tt
       own-of (y ∷ hs) x o = (own-still calm s.words after t.words y x.0.row x.0.same o.0, own-of hs x.1 o.1)
@@ -450,7 +450,7 @@ module _ (plan : Plan) (start : Contents) (words schedule : List ℕ) (p : ℕ) 
           work)
           own-still-rows in
           Works hold work e (begins-kept its (f.count + 2) calm after m (IsGoneBy None) (ComesInBy None) own-follows hold work
-          (each-map (λ (x : Held) y. y.row) (rows_of_hold hold) still) (each-map (λ (x : Held) y. y.stays) (rows_of_hold hold) still) b)
+          (each-map (λ (x : HeldRow) y. y.row) (rows_of_hold hold) still) (each-map (λ (x : HeldRow) y. y.stays) (rows_of_hold hold) still) b)
           (own-of (rows_of_hold hold) still own)
 
 pub calls-go-on : KeptTreesFollow → WaysLeadToValues → LeavesAreSmall → CallsGoOn
@@ -493,7 +493,7 @@ others-leave-ways plan start words schedule p s t claims m r call stage found pa
     next : IsAtStage Coupled plan.shape t r call (OnKey stage)
     next = record { process = at.process; is_open = others-open plan p r s t call at.process h.run.made apart at.is_open; at = at.at }
 
-    live : (x : Held) → IsAmong x (held_at_stage true (is_insert call) stage) → is_obsolete x.kept ≡ false
+    live : (x : HeldRow) → IsAmong x (held_at_stage true (is_insert call) stage) → is_obsolete x.kept ≡ false
     live x a = (among-each _ x (held_at_stage true (is_insert call) stage) a k.rows).live
 
     still : Each (IsStill (calm_of plan words schedule) s.words (calm_of plan words (schedule ++ p ∷ [])) t.words effect)

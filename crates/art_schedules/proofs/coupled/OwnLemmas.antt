@@ -5,14 +5,14 @@ use Rattle.art_schedules.proofs.Common.{Four, Sixteen, FortyEight, Full, Empty, 
 use Rattle.art_schedules.proofs.Common.{more_keys_at, index_at, count_at, child_at, is_locked, key_bytes, first_difference, keys4_of, keys16_of}
 use Rattle.art_schedules.proofs.Common.{place_of, entries_of, child_of, child_word, count_of, seven-words, key_byte-small, Coupled, is_tree_call}
 use Rattle.art_schedules.proofs.Common.{Setting, key_of, is_insert, is_scan, path_differs_at, new_leaf, overwriting, keys_differ_at, not_full}
-use Rattle.art_schedules.proofs.Common.{Held, Keys, Finding, Has, Lacks, Position, Down, Target, Root, Below, Taken, Stage, Lock, Exchange}
+use Rattle.art_schedules.proofs.Common.{HeldRow, Keys, Finding, Has, Lacks, Position, Down, Target, Root, Below, Taken, Stage, Lock, Exchange}
 use Rattle.art_schedules.proofs.Common.{Between, Info, Find, FindKeys, FindMore, FindCount, Slot, LetGo, Write, ClaimPair, ClaimGrow, Unlock}
 use Rattle.art_schedules.proofs.Common.{Over, row_at, held, root_place, byte_in, keys_among, count_in, setting, after_with, seek_coupled}
 use Rattle.art_schedules.proofs.Common.{insert_coupled, place_coupled, let_go_at, found_at, among_at, find_at, below_at, entered_at, hold_alone}
 use Rattle.art_schedules.proofs.Common.{no_value, pair_work, overwrite_at, keys_one, release_at, root, Means, HasForm, level_in, path_in}
 use Rattle.art_schedules.proofs.Common.{IsAtRest, LeadsTo, WaysLeadToValues, LeavesAreSmall, is_seek, leads-root, keys-differ, absent-after}
 use Rattle.art_schedules.proofs.Common.{seek-reply, first-differs, path_byte-small, Each, IsUnder, FitsPlace, FitsStage, all_of, held_at_place}
-use Rattle.art_schedules.proofs.Common.{IsBehindVersion, KnowsTarget, LacksByte, held_at_stage, rows_of_target}
+use Rattle.art_schedules.proofs.Common.{IsAfterVersion, KnowsTarget, LacksByte, held_at_stage, rows_of_target}
 use Rattle.art_schedules.proofs.versions.KeyLemmas.{slot-behind}
 use Rattle.art_schedules.proofs.versions.WordFacts.{count-most}
 use Rattle.art_schedules.proofs.Common.{KnowsInfo, KnowsAt, KnowsReply, IsHeldLive, slot_in, KnowsKeys, KnowsFinding, IsOnWay, HasChild}
@@ -20,10 +20,10 @@ use Rattle.art_schedules.proofs.Common.{HangsOnWay}
 use Rattle.std.proofs.Common.{◌==◌, slice_index, Option, Some, None, if◌then◌else◌}
 use Rattle.events.specs.declared.event.Reply.TheVariants as reply
 use Rattle.map_object.specs.MapObject.{value_reply}
-use Rattle.art_stages.specs.declared.stage.Work.TheVariants as work
-use Rattle.art_stages.specs.Automaton.{words_at}
-use Rattle.art_serial.proofs.alone.WayLemmas.{leads-below}
-use Rattle.art_serial.proofs.trees.Bytes.{never_differs}
+use Rattle.art_control_states.specs.declared.stage.Work.TheVariants as work
+use Rattle.art_control_states.specs.Automaton.{words_at}
+use Rattle.art_sequential.proofs.alone.WayLemmas.{leads-below}
+use Rattle.art_sequential.proofs.trees.Bytes.{never_differs}
 use Rattle.art_schedules.specs.versions.Holding.{HasRoom}
 use Rattle.art_schedules.proofs.versions.WordFacts.{full-not-less}
 use Rattle.art_schedules.specs.coupled.Knows.{IsBelow, HangsBelow, KnowsPlace, KnowsStage, KnowsWay}
@@ -36,7 +36,7 @@ use Rattle.art_schedules.proofs.effects.ValueLemmas.{byte-in-small, overwritten}
 -- ---- words, bytes and calls
 
 -- a word of a row that the call holds, after its version, is the calm one
-pub own-word : (calm words : List ℕ) (n : Held) → IsHeldLive calm words n → (word : ℕ) → IsBehindVersion n.base n.kind word
+pub own-word : (calm words : List ℕ) (n : HeldRow) → IsHeldLive calm words n → (word : ℕ) → IsAfterVersion n.base n.kind word
     → slice_index words word ≡ slice_index calm word
 own-word calm words n own word behind =
     let is : n.base + (word - n.base) ≡ word = omega (arith, behind.0) in
@@ -49,7 +49,7 @@ module _ (shape : Shape) (call : Call) (tree : is_tree_call call ≡ true) (key-
   abbrev c : Setting
   c = setting shape Coupled call
 
-  abbrev Own : Held → Type 0
+  abbrev Own : HeldRow → Type 0
   Own h = IsHeldLive calm words h
 
   abbrev To : Stage → Type 0
@@ -64,7 +64,7 @@ module _ (shape : Shape) (call : Call) (tree : is_tree_call call ≡ true) (key-
     rows = subst (λ j. Each Own (held_at_stage true j stage)) (sym e) rows;
   }
 
-  leads-on : (h : Held) (slot base : ℕ) (kind : Kind) → HangsOnWay c calm h slot (ChildRow base kind)
+  leads-on : (h : HeldRow) (slot base : ℕ) (kind : Kind) → HangsOnWay c calm h slot (ChildRow base kind)
       → first_difference (path_in calm base kind) (key_bytes (key_of call)) ≡ None
       → LeadsTo shape calm (key_of call) base kind (slice_index (key_bytes (key_of call)) (level_in calm base kind))
   leads-on h slot base kind (on, at) none = leads-below shape n calm rest on.leads (byte-in-small c h)
@@ -80,10 +80,10 @@ module _ (shape : Shape) (call : Call) (tree : is_tree_call call ≡ true) (key-
     finds-none none =
         (inr (sym (seek-reply m call seeks-key ∙ ap value_reply none)), sym (absent-after m call seeks-key means.rising none))
 
-    unlocks : (h : Held) → IsOnWay c calm h → Own h → value_at m (key_of call) ≡ None → To (Unlock (hold_alone h) (Some no_value))
+    unlocks : (h : HeldRow) → IsOnWay c calm h → Own h → value_at m (key_of call) ≡ None → To (Unlock (hold_alone h) (Some no_value))
     unlocks h on own none = Finds reply.None (finds-none none) (knows false e (Some reply.None) _ (refl, refl, on.leads.reached) (own, tt))
 
-    overwrites : (h : Held) (slot k v : ℕ) (o : Option ℕ) → overwriting call v ≡ o → IsOnWay c calm h → Own h
+    overwrites : (h : HeldRow) (slot k v : ℕ) (o : Option ℕ) → overwriting call v ≡ o → IsOnWay c calm h → Own h
         → HasChild c calm h slot (Leaf k v)
         → k ≡ key_of call → To (overwrite_at h slot v o)
     overwrites h slot k v None f on own at is =
@@ -93,7 +93,7 @@ module _ (shape : Shape) (call : Call) (tree : is_tree_call call ≡ true) (key-
     overwrites h slot k v (Some word) f on own at is = Works (hold_alone h) (work.Write slot word (Some v)) refl
         (overwritten c tree h slot (Leaf k v) word (Some v) on at (is, refl, inr f)) (own, tt)
 
-    seeks : (h : Held) (f : Finding) → IsOnWay c calm h → Own h → KnowsFinding false c calm h f → To (seek_coupled false c h f)
+    seeks : (h : HeldRow) (f : Finding) → IsOnWay c calm h → Own h → KnowsFinding false c calm h f → To (seek_coupled false c h f)
     seeks h (Lacks keys) on own none = unlocks h on own (no-slot c rest means ways h on none)
     seeks h (Has slot Empty) on own at = unlocks h on own (empty-slot c rest means ways h slot on at)
     seeks h (Has slot (Leaf k v)) on own at = go (k == key_of call) refl
@@ -107,7 +107,7 @@ module _ (shape : Shape) (call : Call) (tree : is_tree_call call ≡ true) (key-
   -- ---- an insert after FIND
 
   module _ (e : is_insert call ≡ true) where
-    alone : (h : Held) (f : Finding) → IsOnWay c calm h → Own h → KnowsFinding true c calm h f → HasRoom h f → To (insert_coupled c h f)
+    alone : (h : HeldRow) (f : Finding) → IsOnWay c calm h → Own h → KnowsFinding true c calm h f → HasRoom h f → To (insert_coupled c h f)
     alone h (Lacks keys) on own lacks room = Works (hold_alone h) (work.Put keys) refl
         (record {
           call = tree;
@@ -162,14 +162,14 @@ module _ (shape : Shape) (call : Call) (tree : is_tree_call call ≡ true) (key-
             (own, tt)
     alone h (Has slot (ChildRow base kind)) on own at room = GoesOn (knows true e None _ (on, at) (own, tt))
 
-    lets-go : (h : Held) (above : Option Held) (slot : ℕ) (f : Finding) → HangsBelow c calm h slot above → IsOnWay c calm h
+    lets-go : (h : HeldRow) (above : Option HeldRow) (slot : ℕ) (f : Finding) → HangsBelow c calm h slot above → IsOnWay c calm h
         → Each Own (h ∷ all_of above)
         → KnowsFinding true c calm h f
         → HasRoom h f → To (let_go_at c h above slot f)
     lets-go h None slot f up on own at room = alone h f on own.0 at room
     lets-go h (Some a) slot f up on own at room = GoesOn (knows true e None _ (on, at, up.0.leads.reached) own)
 
-    grows : (h : Held) (above : Option Held) (slot : ℕ) (keys : Keys) → IsOnWay c calm h → Each Own (h ∷ all_of above)
+    grows : (h : HeldRow) (above : Option HeldRow) (slot : ℕ) (keys : Keys) → IsOnWay c calm h → Each Own (h ∷ all_of above)
         → HangsBelow c calm h slot above → IsUnder above h slot → LacksByte c h keys calm → count_in h.kind keys ≡ capacity h.kind
         → To (ClaimGrow (record { row = h; above = above }) slot keys)
     grows h None slot keys on own up under lacks full = absurd (full-slot calm h.base h.kind (byte_in c h) under lacks.absent)
@@ -202,7 +202,7 @@ module _ (shape : Shape) (call : Call) (tree : is_tree_call call ≡ true) (key-
   found false e p f on own under at = seeks e p.row f on own.0 at
   found true e p f on own under at = inserts e p f on own under at
 
-  lacks : (i : Bool) (h : Held) (keys : Keys) → LacksByte c h keys calm → KnowsKeys i c calm h keys
+  lacks : (i : Bool) (h : HeldRow) (keys : Keys) → LacksByte c h keys calm → KnowsKeys i c calm h keys
   lacks true h keys l = l
   lacks false h keys l = l.absent
 
@@ -217,7 +217,7 @@ module _ (shape : Shape) (call : Call) (tree : is_tree_call call ≡ true) (key-
       go None none = found i e p (Lacks keys) on own under (lacks i p.row keys (lack none))
       go (Some place) some = GoesOn (knows i e None _ (on, some) own)
 
-  abbrev place : ℕ → Kind → ℕ → ℕ → Option Held → ℕ → Position
+  abbrev place : ℕ → Kind → ℕ → ℕ → Option HeldRow → ℕ → Position
   place base kind info was above slot = record { row = held base kind info was; above = above; slot = slot }
 
   on-way : (i : Bool) (p : Position) → KnowsPlace i c calm p → IsOnWay c calm p.row
@@ -227,7 +227,7 @@ module _ (shape : Shape) (call : Call) (tree : is_tree_call call ≡ true) (key-
   form-of : (i : Bool) (p : Position) → KnowsPlace i c calm p → HasForm calm p.row.base p.row.kind
   form-of i p k = rest.tree.form p.row.base p.row.kind (on-way i p k).leads.reached
 
-  four : (i : Bool) → is_insert call ≡ i → (base info was : ℕ) (above : Option Held) (slot w : ℕ)
+  four : (i : Bool) → is_insert call ≡ i → (base info was : ℕ) (above : Option HeldRow) (slot w : ℕ)
       → KnowsPlace i c calm (place base Four info was above slot)
       → Each Own (held_at_place true i (place base Four info was above slot)) → FitsPlace (place base Four info was above slot)
       → w ≡ slice_index calm (keys_at base) → To (words_at true i false c (place base Four info was above slot) (keys_one w))
@@ -238,7 +238,7 @@ module _ (shape : Shape) (call : Call) (tree : is_tree_call call ≡ true) (key-
       (ap (λ v. option_map (child_at Four base) (place_of x (keys4_of v))) (sym is))
       (λ none. record { form = form-of i p on; absent = none; keys = ap keys4_of is; count = ap (λ v. length (keys4_of v)) is })
 
-  sixteen : (i : Bool) → is_insert call ≡ i → (base info was : ℕ) (above : Option Held) (slot count first second : ℕ)
+  sixteen : (i : Bool) → is_insert call ≡ i → (base info was : ℕ) (above : Option HeldRow) (slot count first second : ℕ)
       → KnowsPlace i c calm (place base Sixteen info was above slot)
       → Each Own (held_at_place true i (place base Sixteen info was above slot)) → FitsPlace (place base Sixteen info was above slot)
       → count ≡ slice_index calm (count_at Sixteen base) → first ≡ slice_index calm (keys_at base)
@@ -256,7 +256,7 @@ module _ (shape : Shape) (call : Call) (tree : is_tree_call call ≡ true) (key-
       (ap (λ ks. option_map (child_at Sixteen base) (place_of x ks)) (sym same))
       (λ none. record { form = form-of i p on; absent = none; keys = same; count = ap (λ ks. length ks) same })
 
-  indexed : (i : Bool) → is_insert call ≡ i → (base info was : ℕ) (above : Option Held) (slot w : ℕ)
+  indexed : (i : Bool) → is_insert call ≡ i → (base info was : ℕ) (above : Option HeldRow) (slot w : ℕ)
       → KnowsPlace i c calm (place base FortyEight info was above slot)
       → Each Own (held_at_place true i (place base FortyEight info was above slot)) → FitsPlace (place base FortyEight info was above slot)
       → w ≡ slice_index calm (index_at base (byte_in c (held base FortyEight info was)))
@@ -297,7 +297,7 @@ module _ (shape : Shape) (call : Call) (tree : is_tree_call call ≡ true) (key-
       go false f = GoesOn (knows i e None _ (on, slot-is false f) own)
 
   -- FIND's first word
-  finds : (i : Bool) → is_insert call ≡ i → (base : ℕ) (kind : Kind) (info was : ℕ) (above : Option Held) (slot w : ℕ)
+  finds : (i : Bool) → is_insert call ≡ i → (base : ℕ) (kind : Kind) (info was : ℕ) (above : Option HeldRow) (slot w : ℕ)
       → KnowsPlace i c calm (place base kind info was above slot) → Each Own (held_at_place true i (place base kind info was above slot))
       → FitsPlace (place base kind info was above slot) → Gets c calm words (Find (place base kind info was above slot)) w
       → To (find_at true i false kind c (place base kind info was above slot) w)
@@ -361,7 +361,7 @@ module _ (shape : Shape) (call : Call) (tree : is_tree_call call ≡ true) (key-
   })
 
   -- the count of a row of kind 48, which an insert asks for
-  counted : (i : Bool) → is_insert call ≡ i → (base : ℕ) (kind : Kind) (info was : ℕ) (above : Option Held) (slot index w : ℕ)
+  counted : (i : Bool) → is_insert call ≡ i → (base : ℕ) (kind : Kind) (info was : ℕ) (above : Option HeldRow) (slot index w : ℕ)
       → kind ≡ FortyEight
       → KnowsPlace i c calm (place base kind info was above slot)
       → index ≡ slice_index calm (index_at base (byte_in c (held base kind info was)))
@@ -440,7 +440,7 @@ module _ (shape : Shape) (call : Call) (tree : is_tree_call call ≡ true) (key-
   abbrev calm-info : Down → ℕ
   calm-info d = slice_index calm (info_at d.base)
 
-  abbrev row-below : Down → ℕ → Held
+  abbrev row-below : Down → ℕ → HeldRow
   row-below d kept = held d.base d.kind (calm-info d) kept
 
   arrives : (i : Bool) → is_insert call ≡ i → (d : Down) (kept : ℕ) → KnowsInfo i c calm d → Each Own (held_at_stage true i (Info d kept))
@@ -500,7 +500,7 @@ module _ (shape : Shape) (call : Call) (tree : is_tree_call call ≡ true) (key-
   below-own d kept true own = own.0
   below-own d kept false own = own.0
 
-  more : (i : Bool) → is_insert call ≡ i → (base : ℕ) (kind : Kind) (info was : ℕ) (above : Option Held)
+  more : (i : Bool) → is_insert call ≡ i → (base : ℕ) (kind : Kind) (info was : ℕ) (above : Option HeldRow)
       (slot count first w : ℕ) → kind ≡ Sixteen
       → KnowsPlace i c calm (place base kind info was above slot) → count ≡ slice_index calm (count_at Sixteen base)
       → first ≡ slice_index calm (keys_at base)
@@ -587,7 +587,7 @@ module _ (shape : Shape) (call : Call) (calm words : List ℕ) (r : Reply) where
       ∙ own-word calm words (held d.base d.kind 0 kept) own.0 (info_at d.base) (omega arith, omega (arith, seven-words d.kind))))
       (go (path_differs_at here (row_at (row-below))) k.1.1.1)
     where
-      row-below : Held
+      row-below : HeldRow
       row-below = held d.base d.kind (slice_index calm (info_at d.base)) kept
 
       go : (o : Option ℕ) → o ≡ Some k.1.1.0 → Knows false (below_at true false here d row-below o)

@@ -2,8 +2,8 @@
 use Rattle.art_schedules.proofs.Common.{◌≡◌, ◌≢◌, ◌⊎◌, inl, inr, ℕ, ◌+◌, ◌/◌, ◌%◌, ◌^◌, ◌<◌, ◌≤◌, List, [], ◌∷◌, refl, ap, sym, subst, ◌∙◌, true}
 use Rattle.art_schedules.proofs.Common.{false, arith, slice_index, Option, Some, cases_eq, cases_lt, same_Some, Call, Shape, Kind, kind_at}
 use Rattle.art_schedules.proofs.Common.{row_words, claims_of, is_obsolete, released_word, some-words, claims-few, rows_apart, row_begins}
-use Rattle.art_schedules.proofs.Common.{Coupled, Access, Store, Point, Turn, Asks, Held, call_turn, setting, Process, State, Reached, IsAtRest}
-use Rattle.art_schedules.proofs.Common.{SameRow, sits-kind_at, sits, obsolete_released, IsOutside, IsAmong, IsBehindVersion, IsOpen, IsSettled}
+use Rattle.art_schedules.proofs.Common.{Coupled, Access, Store, Point, Turn, Asks, HeldRow, call_turn, setting, Process, State, Reached, IsAtRest}
+use Rattle.art_schedules.proofs.Common.{SameRow, sits-kind_at, sits, obsolete_released, IsOutside, IsAmong, IsAfterVersion, IsOpen, IsSettled}
 use Rattle.art_schedules.proofs.Common.{AsksFor, RowChange, filled_by, held_by, is_busy, stage_of}
 use Rattle.art_schedules.proofs.versions.KnownLemmas.{held-is-kept}
 use Rattle.art_schedules.proofs.versions.MoveLemmas.{settled-row}
@@ -16,12 +16,12 @@ use Rattle.art_schedules.proofs.changes.FollowLemmas.{low-words-keep}
 use Rattle.art_schedules.proofs.changes.RowLemmas.{steady-row}
 use Rattle.art_schedules.proofs.coupled.MadeLemmas.{Facts}
 
-row-word : (base j : ℕ) (kind : Kind) → 1 ≤ j → j < row_words kind → IsBehindVersion base kind (base + j)
+row-word : (base j : ℕ) (kind : Kind) → 1 ≤ j → j < row_words kind → IsAfterVersion base kind (base + j)
 row-word base j kind low high = (omega (arith, low), omega (arith, high))
 
 module _ (shape : Shape) (s t : State) (p : ℕ) (first calm after : List ℕ) (f : Facts shape s t p first calm after) where
   -- a row that a call holds is settled
-  pub kept-row : (r : ℕ) (call : Call) (q : Process) → IsOpen s r call q → (x : Held) → IsAmong x (held_by Coupled shape call q)
+  pub kept-row : (r : ℕ) (call : Call) (q : Process) → IsOpen s r call q → (x : HeldRow) → IsAmong x (held_by Coupled shape call q)
       → IsSettled Coupled shape s x.base x.kind
   kept-row r call q o x a =
       (held-is-kept (IsSettled Coupled shape s) (setting shape Coupled call) (stage_of Coupled shape call q)
@@ -29,15 +29,15 @@ module _ (shape : Shape) (s t : State) (p : ℕ) (first calm after : List ℕ) (
 
   -- After its version a row keeps its words, where the step writes to no such word of it.
   pub rows-same : (base : ℕ) (kind : Kind) → kind_at shape base ≡ Some kind
-      → ((word value : ℕ) (asks : AsksFor Coupled shape s p (Store word value)) (x : Held)
+      → ((word value : ℕ) (asks : AsksFor Coupled shape s p (Store word value)) (x : HeldRow)
       → IsAmong x (held_by Coupled shape asks.call asks.process)
-      → IsBehindVersion x.base x.kind word → x.base ≡ base → ⊥)
+      → IsAfterVersion x.base x.kind word → x.base ≡ base → ⊥)
       → ((word value : ℕ) (asks : AsksFor Coupled shape s p (Store word value)) (b : ℕ) (k : Kind)
       → filled_by Coupled shape asks.call asks.process ≡ (b, k) ∷ [] → b ≡ base → ⊥)
       → SameRow s.words t.words base kind
   rows-same base kind row written filled j low high = go f.goes.rows
     where
-      behind : IsBehindVersion base kind (base + j)
+      behind : IsAfterVersion base kind (base + j)
       behind = row-word base j kind low high
 
       go : RowChange Coupled shape s p t → slice_index t.words (base + j) ≡ slice_index s.words (base + j)
@@ -60,7 +60,7 @@ module _ (shape : Shape) (s t : State) (p : ℕ) (first calm after : List ℕ) (
 
   -- ---- a step of another process leaves the rows of this one
 
-  pub others-same : (r : ℕ) (call : Call) (q : Process) → r ≢ p → IsOpen s r call q → (x : Held) → IsAmong x (held_by Coupled shape call q)
+  pub others-same : (r : ℕ) (call : Call) (q : Process) → r ≢ p → IsOpen s r call q → (x : HeldRow) → IsAmong x (held_by Coupled shape call q)
       → SameRow s.words t.words x.base x.kind
   others-same r call q apart o x a = rows-same x.base x.kind (settled-row Coupled shape s x.base x.kind (kept-row r call q o x a))
       (λ word value asks y among behind same.
@@ -68,7 +68,7 @@ module _ (shape : Shape) (s t : State) (p : ℕ) (first calm after : List ℕ) (
       (λ word value asks b k fills same. (kept-row r call q o x a).unfilled p asks.call asks.process asks.is_open b k fills (sym same))
 
   -- calm has the words of a row that is held after the step as before it
-  pub held-calm : (r : ℕ) (call : Call) (q : Process) → IsOpen t r call q → (x : Held) → IsAmong x (held_by Coupled shape call q)
+  pub held-calm : (r : ℕ) (call : Call) (q : Process) → IsOpen t r call q → (x : HeldRow) → IsAmong x (held_by Coupled shape call q)
       → SameRow calm after x.base x.kind
   held-calm r call q o x a =
       let settled = (held-is-kept (IsSettled Coupled shape t) (setting shape Coupled call) (stage_of Coupled shape call q)
@@ -77,7 +77,7 @@ module _ (shape : Shape) (s t : State) (p : ℕ) (first calm after : List ℕ) (
       (record { holder = r; call = call; process = q; is_open = o; row = x; among = a; is = refl }))
 
   -- a row that is held from a version that was not obsolete is not obsolete
-  pub held-live : (r : ℕ) (call : Call) (q : Process) → IsOpen t r call q → (x : Held) → IsAmong x (held_by Coupled shape call q)
+  pub held-live : (r : ℕ) (call : Call) (q : Process) → IsOpen t r call q → (x : HeldRow) → IsAmong x (held_by Coupled shape call q)
       → is_obsolete x.kept ≡ false → is_obsolete (slice_index t.words x.base) ≡ false
   held-live r call q o x a live = ap is_obsolete (f.behind.locked r call q o x a) ∙ (locked-same x.kept ∙ live)
 
@@ -106,7 +106,7 @@ module _ (shape : Shape) (s t : State) (p : ℕ) (first calm after : List ℕ) (
         subst (λ x. filled_by Coupled shape x q ≡ (base, kind) ∷ []) (its-call a asks)
         (subst (λ w. filled_by Coupled shape asks.call w ≡ (base, kind) ∷ []) (its-process a asks) e)
 
-    its-held : (a : Access) (asks : AsksFor Coupled shape s p a) (x : Held) → IsAmong x (held_by Coupled shape asks.call asks.process)
+    its-held : (a : Access) (asks : AsksFor Coupled shape s p a) (x : HeldRow) → IsAmong x (held_by Coupled shape asks.call asks.process)
         → IsAmong x (held_by Coupled shape call q)
     its-held a asks x e =
         subst (λ c. IsAmong x (held_by Coupled shape c q)) (its-call a asks)
@@ -115,7 +115,7 @@ module _ (shape : Shape) (s t : State) (p : ℕ) (first calm after : List ℕ) (
     -- where it stores at most the version of a row that it holds, and fills none
     pub own-same : ((b : ℕ) (k : Kind) → filled_by Coupled shape call q ≡ (b, k) ∷ [] → ⊥)
         → ((word value : ℕ) (mark : Option Point) → turn ≡ Asks (Store word value) mark
-        → (y : Held) × IsAmong y (held_by Coupled shape call q) × (word ≡ y.base))
+        → (y : HeldRow) × IsAmong y (held_by Coupled shape call q) × (word ≡ y.base))
         → (base : ℕ) (kind : Kind) → kind_at shape base ≡ Some kind → SameRow s.words t.words base kind
     own-same none stores base kind row = rows-same base kind row
         (λ word value asks x among behind same.
@@ -137,7 +137,7 @@ module _ (shape : Shape) (s t : State) (p : ℕ) (first calm after : List ℕ) (
         (without-store Coupled shape f.count s f.sound p t calm after f.goes call q o none)
 
     -- calm's tree stays if the call releases a row that it holds and has not written to
-    pub keeps-released : (n : ℕ) → IsAtRest shape n calm → All (λ w. w < 2 ^ 64) after → (x : Held)
+    pub keeps-released : (n : ℕ) → IsAtRest shape n calm → All (λ w. w < 2 ^ 64) after → (x : HeldRow)
         → IsAmong x (held_by Coupled shape call q)
         → IsHeldLive calm s.words x → SameRow s.words t.words x.base x.kind → slice_index t.words x.base ≡ released_word x.kept
         → (mark : Option Point)

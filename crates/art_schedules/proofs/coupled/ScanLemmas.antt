@@ -3,7 +3,7 @@ use Rattle.art_schedules.proofs.Common.{◌≡◌, ℕ, zero, suc, ◌+◌, ◌-
 use Rattle.art_schedules.proofs.Common.{Bool, true, false, arith, eqb-true, option_map, map, filter, slice_index, Option, Some, None, and_parts}
 use Rattle.art_schedules.proofs.Common.{none-some, Scan, Shape, Kind, Four, Sixteen, FortyEight, Full, Child, Empty, ChildRow, Leaf, root_base}
 use Rattle.art_schedules.proofs.Common.{keys_at, more_keys_at, index_at, count_at, child_at, is_locked, keys4_of, keys16_of, place_of}
-use Rattle.art_schedules.proofs.Common.{entries_of, child_of, Coupled, Load, Point, Asks, Setting, bytes_of, with_leaf, has_row, Held, KeyWords}
+use Rattle.art_schedules.proofs.Common.{entries_of, child_of, Coupled, Load, Point, Asks, Setting, bytes_of, with_leaf, has_row, HeldRow, KeyWords}
 use Rattle.art_schedules.proofs.Common.{Frame, Entry, ScanStep, FirstKeys, SecondKeys, Index, LoadChild, Release, row_at, held, setting}
 use Rattle.art_schedules.proofs.Common.{keys_one, Walk, ScanAt, at, on_way, walked, frame_of, keys16, in_word, scan_turn, release_rows, slot_at}
 use Rattle.art_schedules.proofs.Common.{bytes_at, index_at_list, words_at, place_slot, child_from, word_test, lies, frame_at, way_at, resume_at}
@@ -11,9 +11,9 @@ use Rattle.art_schedules.proofs.Common.{with_frame, with_held, visit_list, visit
 use Rattle.art_schedules.proofs.Common.{Reached, root, below, child_in, slot_of, IsAtRest, Each, ReadsHeld, is_lock, KnowsWords, KnowsFrame}
 use Rattle.art_schedules.proofs.Common.{KnowsEntry, KnowsTree}
 use Rattle.std.proofs.Common.{◌==◌, if◌then◌else◌}
-use Rattle.art_stages.specs.declared.stage.Entry.TheVariants.{Root, Below}
-use Rattle.art_stages.specs.declared.stage.ScanStep.TheVariants.{Lock, Exchange, Wait, Info, Keys, Over}
-use Rattle.art_stages.specs.Scans.{close_at, row_begins}
+use Rattle.art_control_states.specs.declared.stage.Entry.TheVariants.{Root, Below}
+use Rattle.art_control_states.specs.declared.stage.ScanStep.TheVariants.{Lock, Exchange, Wait, Info, Keys, Over}
+use Rattle.art_control_states.specs.Scans.{close_at, row_begins}
 use Rattle.art_schedules.proofs.versions.ByteLemmas.{index-small}
 use Rattle.art_schedules.specs.coupled.Scanning.{HangsOnHeld, ScansKnowTrees}
 
@@ -52,7 +52,7 @@ module _ (shape : Shape) (low high n : ℕ) (calm : List ℕ) (rest : IsAtRest s
       go true t later = slot-good (slots x) t refl later
       go false t later = later
 
-  words-good : (r : Held) (w : Walk) (j m : ℕ) (other : ScanAt) → Reached shape calm r.base r.kind → r.kind ≡ FortyEight
+  words-good : (r : HeldRow) (w : Walk) (j m : ℕ) (other : ScanAt) → Reached shape calm r.base r.kind → r.kind ≡ FortyEight
       → Known w.way → Good other
       → Good (words_at low high r w j m other)
   words-good r w j zero other reached is way rest = rest
@@ -117,7 +117,7 @@ module _ (shape : Shape) (low high n : ℕ) (calm : List ℕ) (rest : IsAtRest s
   closed : (w : Walk) → Good (close_at c w)
   closed w = go w.rows
     where
-      go : (hs : List Held) → Good (release_rows hs w.pairs)
+      go : (hs : List HeldRow) → Good (release_rows hs w.pairs)
       go [] = record { step = tt; way = tt }
       go (x ∷ hs) = record { step = tt; way = tt }
 
@@ -141,11 +141,11 @@ module _ (shape : Shape) (low high n : ℕ) (calm : List ℕ) (rest : IsAtRest s
       (record { reached = reached; words = tt; fits = omega arith; few = omega arith }) way (resumed w
       way)
 
-  listed : (r : Held) (w : Walk) (xs : List ℕ) → Reached shape calm r.base r.kind → Known w.way → Good (visit_list c low high r w xs)
+  listed : (r : HeldRow) (w : Walk) (xs : List ℕ) → Reached shape calm r.base r.kind → Known w.way → Good (visit_list c low high r w xs)
   listed r w [] reached way = resumed w way
   listed r w (x ∷ xs) reached way = begins r.base r.kind r.info r.kept w reached way
 
-  visited : (r : Held) (w : Walk) → Reached shape calm r.base r.kind → Known w.way → Good (visit_at c low high r w)
+  visited : (r : HeldRow) (w : Walk) → Reached shape calm r.base r.kind → Known w.way → Good (visit_at c low high r w)
   visited r w reached way = listed r (with_held r w) (bytes_of low high (row_at r)) reached (go (has_row r.base (map row_at w.rows)))
     where
       go : (b : Bool) → Known (if b then w else record { rows = w.rows ++ r ∷ []; pairs = w.pairs; way = w.way }).way
@@ -248,7 +248,7 @@ module _ (shape : Shape) (low high n : ℕ) (calm : List ℕ) (rest : IsAtRest s
   })
   next (Release r) w word reads k got = go w.rows
     where
-      go : (hs : List Held) → Good (release_rows hs w.pairs)
+      go : (hs : List HeldRow) → Good (release_rows hs w.pairs)
       go [] = record { step = tt; way = tt }
       go (x ∷ hs) = record { step = tt; way = tt }
   next Over w word reads k got = k

@@ -1,7 +1,7 @@
 -- What a call knows on its way stays so, whatever other calls do.
 use Rattle.art_schedules.proofs.Common.{ℕ, List, [], ◌∷◌, Bool, true, false, sym, ap, ◌∙◌, subst, arith, inl, Option, Some, None, Contents}
 use Rattle.art_schedules.proofs.Common.{Reply, Kind, ChildRow, key_bytes, first_difference, seven-words, Coupled, Setting, key_of, is_insert}
-use Rattle.art_schedules.proofs.Common.{Held, Position, Down, Target, Root, Below, Taken, Stage, Lock, Exchange, Between, Info, Find, FindKeys}
+use Rattle.art_schedules.proofs.Common.{HeldRow, Position, Down, Target, Root, Below, Taken, Stage, Lock, Exchange, Between, Info, Find, FindKeys}
 use Rattle.art_schedules.proofs.Common.{FindMore, FindCount, Slot, LetGo, Unlock, Over, setting, SameRow, LeadsTo, Each, held_at_place}
 use Rattle.art_schedules.proofs.Common.{rows_of_target, all_of, held_at_stage, IsGoneBy, IsStill, Follows, KnowsTarget, KnowsInfo, KnowsReply}
 use Rattle.art_schedules.proofs.Common.{KnowsAt, IsHeldLive}
@@ -12,10 +12,10 @@ use Rattle.art_schedules.proofs.effects.WayLemmas.{on-way, slot-still, hangs-sti
 
 module _ (c : Setting) (n : ℕ) (calm after : List ℕ) (pairs : Contents) (gone : ℕ → Type 0) (fresh : ℕ → Kind → Type 0)
     (follows : Follows c.shape n calm after pairs gone fresh) where
-  abbrev Still : Held → Type 0
+  abbrev Still : HeldRow → Type 0
   Still h = SameRow calm after h.base h.kind × (gone h.base → ⊥)
 
-  above-still : (h : Held) (slot : ℕ) (above : Option Held) → Each Still (all_of above) → HangsBelow c calm h slot above
+  above-still : (h : HeldRow) (slot : ℕ) (above : Option HeldRow) → Each Still (all_of above) → HangsBelow c calm h slot above
       → HangsBelow c after h slot above
   above-still h slot None still k = tt
   above-still h slot (Some a) still k = hangs-still c follows a slot (ChildRow h.base h.kind) still.0 k
@@ -92,7 +92,7 @@ module _ (c : Setting) (n : ℕ) (calm after : List ℕ) (pairs : Contents) (gon
   at-still (Some r) i stage still k = reply-still r i stage still k
 
 -- a row that is the call's own stays so
-pub own-still : (calm words after later : List ℕ) (h : Held) → SameRow calm after h.base h.kind → SameRow words later h.base h.kind
+pub own-still : (calm words after later : List ℕ) (h : HeldRow) → SameRow calm after h.base h.kind → SameRow words later h.base h.kind
     → IsHeldLive calm words h
     → IsHeldLive after later h
 own-still calm words after later h row same own = record {
@@ -108,12 +108,12 @@ ways-are-kept shape call n calm words after later pairs effect found stage follo
   rows = own (held_at_stage true (is_insert call) stage) still k.rows;
 }
   where
-    rows : (hs : List Held) → Each (IsStill calm words after later effect) hs
+    rows : (hs : List HeldRow) → Each (IsStill calm words after later effect) hs
         → Each (λ h. SameRow calm after h.base h.kind × (IsGoneBy effect h.base → ⊥)) hs
     rows [] still = tt
     rows (h ∷ hs) still = ((still.0.row, still.0.stays), rows hs still.1)
 
-    own : (hs : List Held) → Each (IsStill calm words after later effect) hs → Each (IsHeldLive calm words) hs
+    own : (hs : List HeldRow) → Each (IsStill calm words after later effect) hs → Each (IsHeldLive calm words) hs
         → Each (IsHeldLive after later) hs
     own [] still k = tt
     own (h ∷ hs) still k = (own-still calm words after later h still.0.row still.0.same k.0, own hs still.1 k.1)

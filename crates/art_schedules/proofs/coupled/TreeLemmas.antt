@@ -1,17 +1,17 @@
 -- What a scan knows of the calm tree stays so, whatever other calls do.
 use Rattle.art_schedules.proofs.Common.{◌≡◌, ℕ, ◌+◌, ◌*◌, ◌<◌, List, [], ◌∷◌, refl, sym, ap, ◌∙◌, subst, inl, arith, slice_index, Option}
-use Rattle.art_schedules.proofs.Common.{Contents, Shape, Kind, Four, Sixteen, FortyEight, Full, index_at, Held, KeyWords, Frame, Entry, ScanStep}
+use Rattle.art_schedules.proofs.Common.{Contents, Shape, Kind, Four, Sixteen, FortyEight, Full, index_at, HeldRow, KeyWords, Frame, Entry, ScanStep}
 use Rattle.art_schedules.proofs.Common.{FirstKeys, SecondKeys, Index, LoadChild, Release, Reached, IsAtRest, SameRow, sits-kind_at, sits}
 use Rattle.art_schedules.proofs.Common.{row-keys, slot-same, child-same, Each, IsAmong, Effect, IsGoneBy, ComesInBy, Follows, IsWalked}
 use Rattle.art_schedules.proofs.Common.{ReadsWalked, KnowsWords, KnowsFrame, KnowsEntry, KnowsStep, StaysAt}
-use Rattle.art_stages.specs.declared.stage.Entry.TheVariants.{Root, Below}
-use Rattle.art_stages.specs.declared.stage.ScanStep.TheVariants.{Lock, Exchange, Wait, Info, Keys, Over}
+use Rattle.art_control_states.specs.declared.stage.Entry.TheVariants.{Root, Below}
+use Rattle.art_control_states.specs.declared.stage.ScanStep.TheVariants.{Lock, Exchange, Wait, Info, Keys, Over}
 use Rattle.art_schedules.specs.coupled.Scanning.{ScansKeepTrees}
 
 module _ (shape : Shape) (claims n : ℕ) (calm after : List ℕ) (pairs : Contents) (effect : Option Effect)
     (rest : IsAtRest shape claims calm)
-    (follows : Follows shape n calm after pairs (IsGoneBy effect) (ComesInBy effect)) (rows : List Held)
-    (still : (h : Held) → IsAmong h rows → StaysAt shape calm after effect h.base) where
+    (follows : Follows shape n calm after pairs (IsGoneBy effect) (ComesInBy effect)) (rows : List HeldRow)
+    (still : (h : HeldRow) → IsAmong h rows → StaysAt shape calm after effect h.base) where
   -- a row of the calm tree that stays
   reached-still : (base : ℕ) (kind : Kind) → Reached shape calm base kind → StaysAt shape calm after effect base
       → SameRow calm after base kind × Reached shape after base kind
@@ -19,7 +19,7 @@ module _ (shape : Shape) (claims n : ℕ) (calm after : List ℕ) (pairs : Conte
       let x = stays kind (sits-kind_at shape base kind (sits shape claims calm rest r)) in
       (x.0, (follows.rows base kind).1 (inl (r, x.1)))
 
-  walked-still : (r : Held) → IsWalked r rows → Reached shape calm r.base r.kind → SameRow calm after r.base r.kind
+  walked-still : (r : HeldRow) → IsWalked r rows → Reached shape calm r.base r.kind → SameRow calm after r.base r.kind
       × Reached shape after r.base r.kind
   walked-still r (row, among, same) reached =
       reached-still r.base r.kind reached (subst (StaysAt shape calm after effect) same (still row among))

@@ -2,15 +2,15 @@
 use Rattle.art_schedules.proofs.Common.{◌≡◌, ◌≢◌, ◌⊎◌, inl, inr, ℕ, zero, suc, ◌<◌, ◌≤◌, List, [], ◌∷◌, length, refl, sym, ap, ◌∙◌, subst, arith}
 use Rattle.art_schedules.proofs.Common.{Access, Coupled, Option, Reply, Scan, Shape, Some, cases_eq, cases_lt, length-set, reply_to}
 use Rattle.art_schedules.proofs.versions.ChangeLemmas.{index-other}
-use Rattle.art_schedules.proofs.Common.{Store, released_word, Point, Asks, Answers, word_of, Setting, Held, Frame, ScanStep, setting, Walk, at}
+use Rattle.art_schedules.proofs.Common.{Store, released_word, Point, Asks, Answers, word_of, Setting, HeldRow, Frame, ScanStep, setting, Walk, at}
 use Rattle.art_schedules.proofs.Common.{CallAt, OnScan, rest_at, call_after, call_begun, call_next, changed, told, got_by, words_after}
 use Rattle.art_schedules.proofs.Common.{RunsAlone, ends, goes, same-runs, ScansAreTheMaps, stored-at, Suits, Alone, SameOn, WalksAreTheMaps}
 use Rattle.art_schedules.proofs.Common.{IsOver}
 use Rattle.std.proofs.Common.{slice_index, slice_set}
 use Rattle.events.specs.declared.event.Reply.TheVariants as reply
 use Rattle.art_rows.specs.declared.access.Point.TheVariants as point
-use Rattle.art_stages.specs.declared.stage.ScanStep.TheVariants as scan
-use Rattle.art_stages.proofs.BehindLemmas.{behind}
+use Rattle.art_control_states.specs.declared.stage.ScanStep.TheVariants as scan
+use Rattle.art_control_states.proofs.BehindLemmas.{behind}
 use Rattle.art_schedules.proofs.work.SoloLemmas.{suits-on, runs-behind}
 use Rattle.art_schedules.specs.coupled.Walks.{here, further, WalksStay}
 
@@ -37,7 +37,7 @@ set-word words later word v x long same = go (cases_eq x word) (cases_lt word (l
         past)))
     go (inr d) most = index-other later word v x d ∙ (same ∙ sym (index-other words word v x d))
 
-module _ (c : Setting) (rows : List Held) (at0 : CallAt) (calm after : List ℕ) (long : length after ≡ length calm)
+module _ (c : Setting) (rows : List HeldRow) (at0 : CallAt) (calm after : List ℕ) (long : length after ≡ length calm)
     (same : SameOn rows calm after) where
   stays : {x : CallAt} {now : List ℕ} → Alone c rows at0 calm x now
       → (later : List ℕ) × Alone c rows at0 after x later × SameOn rows now later × (length later ≡ length now)
@@ -64,14 +64,14 @@ walks-stay c rows at0 x calm after now long same alone = stays c rows at0 calm a
 
 -- ---- the end of a walk
 
-alone-suits : (c : Setting) (rows : List Held) (at0 : CallAt) (w0 : List ℕ) {at : CallAt} {now : List ℕ} → Alone c rows at0 w0 at now
+alone-suits : (c : Setting) (rows : List HeldRow) (at0 : CallAt) (w0 : List ℕ) {at : CallAt} {now : List ℕ} → Alone c rows at0 w0 at now
     → Suits c at0 → Suits c at
 alone-suits c rows at0 w0 here s = s
 alone-suits c rows at0 w0 (further {at = earlier} {now = before} alone a mark asks within) s =
     suits-on c earlier (got_by a before) (alone-suits c rows at0 w0
     alone s)
 
-alone-runs : (c : Setting) (rows : List Held) (at0 : CallAt) (w0 last : List ℕ) (r : Reply) {at : CallAt} {now : List ℕ}
+alone-runs : (c : Setting) (rows : List HeldRow) (at0 : CallAt) (w0 last : List ℕ) (r : Reply) {at : CallAt} {now : List ℕ}
     → Alone c rows at0 w0 at now
     → Suits c at0
     → RunsAlone (rest_at c at0) w0 last r → RunsAlone (rest_at c at) now last r
@@ -97,7 +97,7 @@ module _ (shape : Shape) (low high : ℕ) where
   over-answers w now last r (goes a p h k) = absurd (asks-not (sym h ∙ call_next c (OnScan low high (at scan.Over w))))
 
   -- a scan that releases its rows answers its pairs
-  release-answers : (rows : List Held) (n : Held) (pairs : List (ℕ × ℕ)) (way : List Frame) (now last : List ℕ) (r : Reply)
+  release-answers : (rows : List HeldRow) (n : HeldRow) (pairs : List (ℕ × ℕ)) (way : List Frame) (now last : List ℕ) (r : Reply)
       → RunsAlone (rest_at c (OnScan low high (at (scan.Release n) (record { rows = rows; pairs = pairs; way = way })))) now last r
       → r ≡ reply.Pairs pairs
   release-answers [] n pairs way now last r runs = over-answers (record { rows = []; pairs = pairs; way = [] }) _ last r

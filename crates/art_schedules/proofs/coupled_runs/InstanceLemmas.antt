@@ -2,10 +2,10 @@
 use Rattle.art_schedules.proofs.Common.{◌≡◌, ℕ, ◌+◌, true, false, List, [], ◌∷◌, ◌++◌, length, refl, sym, ap, subst, ◌∙◌, ⊎_elim, Option, Some}
 use Rattle.art_schedules.proofs.Common.{None, same_Some, none-some, Call, Get, Insert, Remove, Scan, Replace, Reply, Contents, Shape, Coupled}
 use Rattle.art_schedules.proofs.Common.{Access, Answers, is_scan, Hold, Outcome, Stage, Lock, Unlock, Obsolete, Over, Root, setting, reply_for}
-use Rattle.art_schedules.proofs.Common.{turn_at, OnKey, call_turn, call_begun, call_behind, Process, Plan, State, opened_on}
+use Rattle.art_schedules.proofs.Common.{turn_at, OnKey, call_turn, call_begun, call_after_words, Process, Plan, State, opened_on}
 use Rattle.art_schedules.proofs.Common.{Before, CoupledIsLinearizable, IsAmong, IsAtStage, IsRun, Status, calm_of, holds, stage_of}
 use Rattle.art_schedules.proofs.versions.KnownLemmas.{same-call}
-use Rattle.art_schedules.proofs.Common.{HasReply, Tale, IsToldStep, AllFit, IsLedOn, OwnStep, Stays, BeginsCall, MakesAccess, AnswersCall}
+use Rattle.art_schedules.proofs.Common.{HasReply, Trace, IsTraceStep, AllFit, IsLedOn, OwnStep, Stays, BeginsCall, MakesAccess, AnswersCall}
 use Rattle.art_schedules.proofs.Common.{HasItsReply, set_at, the_plan, LeavesBy, HoldsGood, AtEnd, Answering, Leaving, Makes, ghosts_with}
 use Rattle.art_schedules.proofs.Common.{HasNone, OfScans, CoupledFits, ScansAreKept, HaveScans, LedAreLinearizable, TreeGoesOn}
 use Rattle.art_schedules.specs.coupled.Knows.{KnowsWay}
@@ -56,7 +56,7 @@ module _ (laws : LawsOfParts) (shape : Shape) (scripts : List (List Call)) (star
   abbrev World : Ghosts → List ℕ → State → List ℕ → Type 0
   World g schedule s calm = IsWorld shape g s calm
 
-  module _ (schedule : List ℕ) (tale : Tale) (p : ℕ) (s t : State) (g : Ghosts) where
+  module _ (schedule : List ℕ) (tale : Trace) (p : ℕ) (s t : State) (g : Ghosts) where
     abbrev here : List ℕ
     here = calm_of plan words schedule
 
@@ -70,7 +70,7 @@ module _ (laws : LawsOfParts) (shape : Shape) (scripts : List (List Call)) (star
 
     abbrev OwnClause : List ℕ → List ℕ → Type 0
     OwnClause x y =
-        (told : IsToldStep plan start words schedule tale p s t x y) → IsWorld shape g s x → AllFit (CoupledFits shape Scans g) schedule s x
+        (told : IsTraceStep plan start words schedule tale p s t x y) → IsWorld shape g s x → AllFit (CoupledFits shape Scans g) schedule s x
         → (call : Call) (q later : Process) (a : Access) (status : Status) → MakesAccess plan s p t call q later a
         → CoupledFits shape Scans g schedule s x p call q status
         → OwnStep plan words schedule tale p t x y call q status
@@ -85,7 +85,7 @@ module _ (laws : LawsOfParts) (shape : Shape) (scripts : List (List Call)) (star
 
     abbrev BeginClause : List ℕ → List ℕ → Type 0
     BeginClause x y =
-        (told : IsToldStep plan start words schedule tale p s t x y) → IsWorld shape g s x → AllFit (CoupledFits shape Scans g) schedule s x
+        (told : IsTraceStep plan start words schedule tale p s t x y) → IsWorld shape g s x → AllFit (CoupledFits shape Scans g) schedule s x
         → (call : Call) (q later : Process) → BeginsCall plan s p t call q later
         → TreeGoesOn shape t.words x y (tale.pairs (length schedule)) None
         → IsLedOn Ghosts World (CoupledFits shape Scans) g schedule p s t x y
@@ -119,7 +119,7 @@ module _ (laws : LawsOfParts) (shape : Shape) (scripts : List (List Call)) (star
         none = (set-here g.fresh p None, set-here g.leaving p None)
 
         fit : (call : Call) → BeginsCall plan s p t call q later
-            → (is_scan call ≡ false → (call_behind (setting shape Coupled call) [] ≡ OnKey (Lock Root true))
+            → (is_scan call ≡ false → (call_after_words (setting shape Coupled call) [] ≡ OnKey (Lock Root true))
             × KnowsWay (setting shape Coupled call) there t.words None (Lock Root true))
             → IsFit shape Scans (ghosts_with g p None None) (schedule ++ p ∷ []) t there p call later Before
         fit (Get key) b k = Seeks (Lock Root true) refl none b.stage (k refl).1 refl
@@ -132,7 +132,7 @@ module _ (laws : LawsOfParts) (shape : Shape) (scripts : List (List Call)) (star
 
     abbrev AnswerClause : List ℕ → List ℕ → Type 0
     AnswerClause x y =
-        (told : IsToldStep plan start words schedule tale p s t x y) → IsWorld shape g s x → AllFit (CoupledFits shape Scans g) schedule s x
+        (told : IsTraceStep plan start words schedule tale p s t x y) → IsWorld shape g s x → AllFit (CoupledFits shape Scans g) schedule s x
         → (call : Call) (q : Process) (status : Status) (reply : Reply) → AnswersCall plan s p t call q reply
         → CoupledFits shape Scans g schedule s x p call q status → TreeGoesOn shape t.words x y (tale.pairs (length schedule)) None
         → IsLedOn Ghosts World (CoupledFits shape Scans) g schedule p s t x y

@@ -1,11 +1,11 @@
 -- What fits each call of the coupled tree is kept by each step of a run.
 use Rattle.art_schedules.proofs.Common.{◌≡◌, ◌≢◌, ℕ, ◌+◌, true, false, List, [], ◌∷◌, ◌++◌, length, refl, sym, ap, subst, ◌∙◌, ⊎_elim, arith}
 use Rattle.art_schedules.proofs.Common.{slice_index, Option, Some, None, same_Some, none-some, Call, Contents, Shape, Kind, claims_of}
-use Rattle.art_schedules.proofs.Common.{is_obsolete, locked_word, claims-few, Coupled, Swap, Point, Asks, Held, Hold, Outcome, Stage, Unlock}
+use Rattle.art_schedules.proofs.Common.{is_obsolete, locked_word, claims-few, Coupled, Swap, Point, Asks, HeldRow, Hold, Outcome, Stage, Unlock}
 use Rattle.art_schedules.proofs.Common.{Obsolete, setting, OnKey, call_turn, Process, Plan, State, IsClaimed, Named, IsOpen, stage_of, IsAtStage}
 use Rattle.art_schedules.proofs.Common.{AsksFor, ComesInBy, Effect, HasFewClaims, IsGoneBy, KeepsTree, Status, TreeGoesOn, calm_of}
 use Rattle.art_schedules.proofs.versions.KnownLemmas.{same-call}
-use Rattle.art_schedules.proofs.Common.{Tale, IsToldStep, AllFit, IsLedOn, set_at, the_plan, ObsoleteLeave, TakesLive, MakesLeave, LeavesBy}
+use Rattle.art_schedules.proofs.Common.{Trace, IsTraceStep, AllFit, IsLedOn, set_at, the_plan, ObsoleteLeave, TakesLive, MakesLeave, LeavesBy}
 use Rattle.art_schedules.proofs.Common.{HeldAreLive, IsCoupledStep, TakesReached, Makes, HoldsReached, IsOther, ghosts_with, IsWorking, HasNone}
 use Rattle.art_schedules.proofs.Common.{OfScans, CoupledFits, ScansAreKept}
 use Rattle.art_schedules.proofs.calm.CalmLemmas.{claimed-row}
@@ -31,8 +31,8 @@ module _ (laws : LawsOfParts) (shape : Shape) (scripts : List (List Call)) (star
   abbrev World : Ghosts → List ℕ → State → List ℕ → Type 0
   World g schedule s calm = IsWorld shape g s calm
 
-  module _ (schedule : List ℕ) (tale : Tale) (p : ℕ) (s t : State) (g : Ghosts)
-      (told : IsToldStep plan start words schedule tale p s t (calm_of plan words schedule) (calm_of plan words (schedule ++ p ∷ [])))
+  module _ (schedule : List ℕ) (tale : Trace) (p : ℕ) (s t : State) (g : Ghosts)
+      (told : IsTraceStep plan start words schedule tale p s t (calm_of plan words schedule) (calm_of plan words (schedule ++ p ∷ [])))
       (world : IsWorld shape g s (calm_of plan words schedule))
       (all : AllFit (CoupledFits shape Scans g) schedule s (calm_of plan words schedule)) where
     abbrev calm : List ℕ
@@ -56,7 +56,7 @@ module _ (laws : LawsOfParts) (shape : Shape) (scripts : List (List Call)) (star
     fact = facts plan start words schedule p s t told.claims m is-step
 
     few : HasFewClaims (fact.count + 2) after
-    few k = let e = told.calm_behind.low (claims_of k) (claims-few k) in let l = fact.behind.claims k in omega (arith, e, l)
+    few k = let e = told.calm_after_step.low (claims_of k) (claims-few k) in let l = fact.behind.claims k in omega (arith, e, l)
 
     pub keeps-makes : KeepsTree shape calm after → Makes Coupled shape s p calm after m None
     keeps-makes k = record {
@@ -99,7 +99,7 @@ module _ (laws : LawsOfParts) (shape : Shape) (scripts : List (List Call)) (star
         → TakesLive shape s p × TakesReached shape s p calm
     takes-none-live call q o none = (λ h asks e. absurd (none-asked h asks), λ h asks e. absurd (none-asked h asks))
       where
-        none-asked : (h : Held) → AsksFor Coupled shape s p (Swap h.base h.kept (locked_word h.kept)) → ⊥
+        none-asked : (h : HeldRow) → AsksFor Coupled shape s p (Swap h.base h.kept (locked_word h.kept)) → ⊥
         none-asked h x =
             none h.base h.kept (locked_word h.kept) x.mark
             (ap (λ y. call_turn (setting shape Coupled y) (stage_of Coupled shape call q))

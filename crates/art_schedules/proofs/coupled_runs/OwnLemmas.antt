@@ -1,11 +1,11 @@
 -- What a call of the coupled tree does in a step of its own.
 use Rattle.art_schedules.proofs.Common.{◌≡◌, ◌⊎◌, ℕ, true, false, List, [], ◌∷◌, ◌++◌, length, refl, sym, ap, subst, ◌∙◌, inl, inr, ⊎_elim}
 use Rattle.art_schedules.proofs.Common.{Option, Some, None, none-some, Call, Reply, Contents, Shape, Coupled, Access, Swap, Point, Asks}
-use Rattle.art_schedules.proofs.Common.{is_tree_call, is_insert, is_scan, Held, Hold, Stage, Unlock, Obsolete, Over, Work, setting, ScanAt}
+use Rattle.art_schedules.proofs.Common.{is_tree_call, is_insert, is_scan, HeldRow, Hold, Stage, Unlock, Obsolete, Over, Work, setting, ScanAt}
 use Rattle.art_schedules.proofs.Common.{turn_at, work_at, OnKey, OnScan, call_turn, Process, Plan, State, begun, opened_on, Each, Knows, holds}
 use Rattle.art_schedules.proofs.Common.{IsAmong, IsAtStage, IsOpen, all_of, held_by, lock_of, locks_of, rows_of_hold, stage_of}
 use Rattle.art_schedules.proofs.versions.KnownLemmas.{each-map}
-use Rattle.art_schedules.proofs.Common.{calm_of, RowsOf, Effect, Status, Before, Found, Changed, HasNotChanged, Tale, IsToldStep, AllFit}
+use Rattle.art_schedules.proofs.Common.{calm_of, RowsOf, Effect, Status, Before, Found, Changed, HasNotChanged, Trace, IsTraceStep, AllFit}
 use Rattle.art_schedules.proofs.Common.{IsLedOn, OwnStep, Changes, Next, Stays, FindsNow, MakesAccess, set_at, the_plan, IsHeldLive, TakesLive}
 use Rattle.art_schedules.proofs.Common.{MakesLeave, LeavesBy, IsCoupledStep, HoldsGood, TakesReached, AtWork, AtEnd, Answering, Leaving, Makes}
 use Rattle.art_schedules.proofs.Common.{IsRefused, TakesEffect, obsolete_by, WorkerStep, EnderStep, ghosts_with, IsWorking, HasNone, OfScans}
@@ -53,8 +53,8 @@ obsolete-named stage h e n = none-some h.row.base (sym n ∙ ap obsolete_by e)
 
 module _ (laws : LawsOfParts) (shape : Shape) (scripts : List (List Call)) (start : Contents) (words : List ℕ) (Scans : OfScans)
     (scans : ScansAreKept (the_plan Coupled shape scripts) start words Scans)
-    (schedule : List ℕ) (tale : Tale) (p : ℕ) (s t : State) (g : Ghosts)
-    (told : IsToldStep (the_plan Coupled shape scripts) start words schedule tale p s t
+    (schedule : List ℕ) (tale : Trace) (p : ℕ) (s t : State) (g : Ghosts)
+    (told : IsTraceStep (the_plan Coupled shape scripts) start words schedule tale p s t
     (calm_of (the_plan Coupled shape scripts) words schedule)
     (calm_of (the_plan Coupled shape scripts) words (schedule ++ p ∷ [])))
     (world : IsWorld shape g s (calm_of (the_plan Coupled shape scripts) words schedule))
@@ -171,19 +171,19 @@ module _ (laws : LawsOfParts) (shape : Shape) (scripts : List (List Call)) (star
             rows = ap (holds (setting shape Coupled call)) (there ∙ ap OnKey f)
                 ∙ ap locks_of (works-hold (is_insert call) (setting shape Coupled call) h w)
 
-            in-tree : (x : Held) → IsAmong (lock_of x) (locks_of (rows_of_hold h)) → IsInTree shape after x
+            in-tree : (x : HeldRow) → IsAmong (lock_of x) (locks_of (rows_of_hold h)) → IsInTree shape after x
             in-tree x among =
                 let r = good None makes takes (lock_of x) (subst (IsAmong (lock_of x)) (sym rows) among) in
                 record { reached = r.reached; live = r.live }
 
-            above : (o : Option Held) → ((x : Held) → IsAmong (lock_of x) (locks_of (all_of o)) → IsInTree shape after x)
+            above : (o : Option HeldRow) → ((x : HeldRow) → IsAmong (lock_of x) (locks_of (all_of o)) → IsInTree shape after x)
                 → Each (IsInTree shape after) (all_of o)
             above None f = tt
             above (Some x) f = (f x (inl refl), tt)
 
             at-work : AtWork (setting shape Coupled call) t.words after None (work_at (setting shape Coupled call) h w)
             at-work =
-                laws.work_begins (setting shape Coupled call) t.words after h w told.calm_behind.long known
+                laws.work_begins (setting shape Coupled call) t.words after h w told.calm_after_step.long known
                 begins
                 (in-tree h.row (inl refl), above h.above (λ x i. in-tree x (inr i)))
                 (each-map (λ x o. o.same) (rows_of_hold h) each)

@@ -1,14 +1,14 @@
 -- What fits an open scan of the coupled tree is kept by each step of a run.
 use Rattle.art_schedules.proofs.Common.{◌≡◌, ◌≢◌, ◌⊎◌, inl, inr, ℕ, ◌+◌, List, [], ◌∷◌, ◌++◌, length, refl, sym, ap, subst, ◌∙◌, arith, Option}
 use Rattle.art_schedules.proofs.Common.{None, false≢true, same_Some, Call, Scan, Reply, Contents, reply_to, Shape, claims_of, is_obsolete}
-use Rattle.art_schedules.proofs.Common.{claims-few, Coupled, Access, Answers, Held, Release, setting, ScanAt, scan_turn, scan_start, OnScan}
+use Rattle.art_schedules.proofs.Common.{claims-few, Coupled, Access, Answers, HeldRow, Release, setting, ScanAt, scan_turn, scan_start, OnScan}
 use Rattle.art_schedules.proofs.Common.{call_turn, Process, Plan, State, begun, opened_on, IsAmong, holds, IsOpen, stage_of, IsAtStage, calm_of}
-use Rattle.art_schedules.proofs.Common.{Effect, IsGoneBy, pairs_by, ComesInBy, Follows, KeepsTree, Status, Before, Found, Changed, Tale}
-use Rattle.art_schedules.proofs.Common.{IsToldStep, Next, Stays, FindsNow, BeginsCall, MakesAccess, AnswersCall, HasItsReply, the_plan}
+use Rattle.art_schedules.proofs.Common.{Effect, IsGoneBy, pairs_by, ComesInBy, Follows, KeepsTree, Status, Before, Found, Changed, Trace}
+use Rattle.art_schedules.proofs.Common.{IsTraceStep, Next, Stays, FindsNow, BeginsCall, MakesAccess, AnswersCall, HasItsReply, the_plan}
 use Rattle.art_schedules.proofs.Common.{KnowsTree, ObsoleteLeave, IsCoupledStep, HoldsGood, Makes, ScanComes, ScanStays, rows_of_scan, HaveScans}
 use Rattle.art_schedules.proofs.Common.{IsOver}
-use Rattle.art_stages.specs.declared.stage.ScanStep as stage
-use Rattle.art_stages.specs.declared.stage.ScanStep.TheVariants.{Over}
+use Rattle.art_control_states.specs.declared.stage.ScanStep as stage
+use Rattle.art_control_states.specs.declared.stage.ScanStep.TheVariants.{Over}
 use Rattle.art_schedules.proofs.calm.VersionLemmas.{locked-same}
 use Rattle.art_schedules.proofs.coupled.MadeLemmas.{Facts, facts}
 use Rattle.art_schedules.specs.coupled_runs.KeptScans.{ScanStep}
@@ -28,7 +28,7 @@ module _ (laws : LawsOfParts) (shape : Shape) (scripts : List (List Call)) (star
   abbrev Scans : List ℕ → State → List ℕ → ℕ → Call → Process → Status → Type 0
   Scans = CoupledScans shape
 
-  module _ (schedule : List ℕ) (tale : Tale) (p : ℕ) (s t : State) where
+  module _ (schedule : List ℕ) (tale : Trace) (p : ℕ) (s t : State) where
     abbrev here : List ℕ
     here = calm_of plan words schedule
 
@@ -42,7 +42,7 @@ module _ (laws : LawsOfParts) (shape : Shape) (scripts : List (List Call)) (star
     at-calm : (P : List ℕ → List ℕ → Type 0) → P here there → (x y : List ℕ) → x ≡ here → y ≡ there → P x y
     at-calm P h x y e f = subst (λ b. P x b) (sym f) (subst (λ a. P a there) (sym e) h)
 
-    module _ (told : IsToldStep plan start words schedule tale p s t here there) where
+    module _ (told : IsTraceStep plan start words schedule tale p s t here there) where
       is-step : IsCoupledStep plan start words schedule p s t told.claims m
       is-step = record {
         coupled = refl;
@@ -142,7 +142,7 @@ module _ (laws : LawsOfParts) (shape : Shape) (scripts : List (List Call)) (star
         theirs = record { process = q; is_open = o; at = at }
 
         -- no row goes that the scan holds
-        stay : (h : Held) → IsAmong h (rows_of_scan shape low high x) → IsGoneBy effect h.base → ⊥
+        stay : (h : HeldRow) → IsAmong h (rows_of_scan shape low high x) → IsGoneBy effect h.base → ⊥
         stay h among gone =
             let a = subst (λ y. IsAmong h (holds (setting shape Coupled (Scan low high)) y)) (sym at) among in
             false≢true (sym (ap is_obsolete (fact.sound.locked r (Scan low high) q o h a) ∙ (locked-same h.kept ∙ (good h a).live))
@@ -165,7 +165,7 @@ module _ (laws : LawsOfParts) (shape : Shape) (scripts : List (List Call)) (star
 
     abbrev BeginClause : List ℕ → List ℕ → Type 0
     BeginClause calm after =
-        IsToldStep plan start words schedule tale p s t calm after → (low high : ℕ) (q later : Process)
+        IsTraceStep plan start words schedule tale p s t calm after → (low high : ℕ) (q later : Process)
         → BeginsCall plan s p t (Scan low high) q later
         → Scans (schedule ++ p ∷ []) t after p (Scan low high) later Before
 
@@ -174,7 +174,7 @@ module _ (laws : LawsOfParts) (shape : Shape) (scripts : List (List Call)) (star
 
     abbrev OwnClause : List ℕ → List ℕ → Type 0
     OwnClause calm after =
-        (leaving : ℕ → Option ℕ) → IsToldStep plan start words schedule tale p s t calm after
+        (leaving : ℕ → Option ℕ) → IsTraceStep plan start words schedule tale p s t calm after
         → ObsoleteLeave shape s calm leaving → (call : Call)
         (q later : Process) (a : Access) (status : Status) → MakesAccess plan s p t call q later a → HoldsGood shape calm call q
         → (low high : ℕ) (at : ScanAt)
@@ -192,7 +192,7 @@ module _ (laws : LawsOfParts) (shape : Shape) (scripts : List (List Call)) (star
 
     abbrev OtherClause : List ℕ → List ℕ → Type 0
     OtherClause calm after =
-        IsToldStep plan start words schedule tale p s t calm after → (effect : Option Effect) → Makes Coupled shape s p calm after m effect
+        IsTraceStep plan start words schedule tale p s t calm after → (effect : Option Effect) → Makes Coupled shape s p calm after m effect
         → (r : ℕ) (call : Call) (q : Process) (status : Status) → r ≢ p → IsOpen s r call q → IsOpen t r call q
         → HoldsGood shape calm call q
         → Scans schedule s calm r call q status → Scans (schedule ++ p ∷ []) t after r call q status

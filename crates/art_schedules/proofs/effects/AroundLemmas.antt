@@ -1,7 +1,7 @@
 -- What is known around a step of a run: before and after it, and of the rows of other processes.
 use Rattle.art_schedules.proofs.Common.{◌≡◌, ◌≢◌, ℕ, ◌+◌, ◌^◌, ◌<◌, ◌≤◌, List, [], ◌∷◌, ◌++◌, refl, ap, sym, ◌∙◌, inl, inr, slice_get}
 use Rattle.art_schedules.proofs.Common.{slice_index, Option, Some, cases_eq, same_Some, Contents, Call, Shape, kind_at, Variant, Access, Point}
-use Rattle.art_schedules.proofs.Common.{Turn, Asks, locks, word_of, Held, setting, call_turn, call_after, call_begun, Process, told, got_by}
+use Rattle.art_schedules.proofs.Common.{Turn, Asks, locks, word_of, HeldRow, setting, call_turn, call_after, call_begun, Process, told, got_by}
 use Rattle.art_schedules.proofs.Common.{words_after, Plan, State, Move, after_move, moved, move_of, move_from, is-moved, set-here}
 use Rattle.art_schedules.proofs.Common.{AreZeroPastClaims, IsKept, IsAmong, IsOpen, IsSettled, IsSound, stage_of, held_by, IsSteady, SameWords}
 use Rattle.art_schedules.proofs.Common.{IsFull, WritesOwn}
@@ -30,7 +30,7 @@ pub record Around (plan : Plan) (p : ℕ) (s t : State) (calm after : List ℕ) 
   pub behind : IsSound plan.variant plan.shape (count + 1) t
   pub steady : IsSteady plan.variant plan.shape s t
   pub calm_before : IsCalm plan.variant plan.shape first s calm
-  pub calm_behind : IsCalm plan.variant plan.shape first t after
+  pub calm_after_step : IsCalm plan.variant plan.shape first t after
   pub changes : CalmStep plan.variant plan.shape s p t calm after
   pub written : WritesOwn plan.variant plan.shape s p t
   pub zero : AreZeroPastClaims plan.shape s.words
@@ -50,7 +50,7 @@ around plan start words schedule p s t l =
       behind = made.behind;
       steady = made.steady;
       calm_before = calm-at plan start words schedule s l.before l.full;
-      calm_behind = calm-at plan start words (schedule ++ p ∷ []) t l.behind l.full;
+      calm_after_step = calm-at plan start words (schedule ++ p ∷ []) t l.behind l.full;
       changes = step-at plan start words schedule p s t l.behind l.full l.before.gives;
       written = written-at plan.variant l.full plan start words schedule p s t l.behind refl l.before.gives;
       zero = fresh-at plan.variant l.full plan start words schedule s l.before refl;
@@ -105,7 +105,7 @@ other-open plan p s t m r ne call w o = record {
 
 module _ (plan : Plan) (p : ℕ) (s t : State) (calm after : List ℕ) (x : Around plan p s t calm after) (r : ℕ) (ne : r ≢ p)
     (call : Call) (w : Process)
-    (o : IsOpen s r call w) (h : Held) (among : IsAmong h (held_by plan.variant plan.shape call w)) where
+    (o : IsOpen s r call w) (h : HeldRow) (among : IsAmong h (held_by plan.variant plan.shape call w)) where
   abbrev variant : Variant
   variant = plan.variant
 

@@ -2,7 +2,7 @@
 use Rattle.art_schedules.proofs.Common.{◌≡◌, ℕ, List, true, false, refl, sym, inl, inr, none-some, Option, Some, Call, Get, Insert, Remove, Scan}
 use Rattle.art_schedules.proofs.Common.{Replace, Child, Empty, Row, Leaf, Setting, is_scan, is_insert, overwriting, Hold, Work, child_on}
 use Rattle.art_schedules.proofs.Common.{BeginsWork, IsOverwritten}
-use Rattle.art_stages.specs.declared.stage.Work.TheVariants as work
+use Rattle.art_control_states.specs.declared.stage.Work.TheVariants as work
 use Rattle.art_schedules.proofs.work.CallLemmas.{is-insert}
 
 inserts-do-not-scan : (call : Call) → is_insert call ≡ true → is_scan call ≡ false

@@ -2,7 +2,7 @@
 use Rattle.art_schedules.proofs.Common.{◌≡◌, inl, inr, ℕ, ◌+◌, ◌%◌, ◌^◌, ◌<◌, ◌≤◌, List, [], ◌∷◌, true, refl, sym, ap, ◌∙◌, subst, arith, nat_lt}
 use Rattle.art_schedules.proofs.Common.{Some, None, if◌then◌else◌, cases_lt, lt-ltb, le-ltb, Call, Contents, Shape, Kind, Four, rows_of}
 use Rattle.art_schedules.proofs.Common.{claims_of, base_of, is_obsolete, some-words, claims-few, row_begins, kind_at-base_of, base_of-once}
-use Rattle.art_schedules.proofs.Common.{Variant, Add, Asks, Setting, next_kind, store-add, Held, Hold, Refused, Work, Stage, StorePair, GrowInfo}
+use Rattle.art_schedules.proofs.Common.{Variant, Add, Asks, Setting, next_kind, store-add, HeldRow, Hold, Refused, Work, Stage, StorePair, GrowInfo}
 use Rattle.art_schedules.proofs.Common.{Unlock, setting, turn_at, stage_after, work_at, OnKey, call_turn, call_after, Process, Plan, State}
 use Rattle.art_schedules.proofs.Common.{Means, IsAtRest, IsClaimed, IsUnused, ChildrenAreRead, stored-at, rows_of_hold, Each, Knows, IsOpen}
 use Rattle.art_schedules.proofs.Common.{ComesInBy, EffectsFollow, IsAtStage, IsGoneBy, stage_of}
@@ -11,8 +11,8 @@ use Rattle.art_schedules.proofs.versions.MoveLemmas.{settled-row, true-false}
 use Rattle.art_schedules.proofs.Common.{KeptTreesFollow, IsUnreached, Solo, here, further, claims, RowsOf, BeginsWork, IsClaiming, claims_row}
 use Rattle.art_schedules.proofs.Common.{hold_at, FillsAt, AtWork, Going, Leaving, Makes, IsRefused, obsolete_by, WorkerStep, IsInTree, IsSame}
 use Rattle.std.proofs.Common.{slice_index}
-use Rattle.art_stages.specs.declared.stage.PairWord.TheVariants as pair_word
-use Rattle.art_stages.specs.declared.stage.Work.TheVariants as work
+use Rattle.art_control_states.specs.declared.stage.PairWord.TheVariants as pair_word
+use Rattle.art_control_states.specs.declared.stage.Work.TheVariants as work
 use Rattle.art_schedules.proofs.calm.UseLemmas.{without-store}
 use Rattle.art_schedules.proofs.work.OwnLemmas.{rows-known}
 use Rattle.art_schedules.specs.effects.Outcomes.{Works}
@@ -44,11 +44,11 @@ module _ (read : ChildrenAreRead) (trees : KeptTreesFollow) (effects : EffectsFo
     pub made : Kept
     made = kept-by-words read trees effects plan p s t calm after x k rest m means stays
 
-    pub late : (row : Held) → IsInTree c.shape calm row → 5 ≤ row.base
+    pub late : (row : HeldRow) → IsInTree c.shape calm row → 5 ≤ row.base
     late row inside = row_begins shape row.base row.kind (settled-row variant shape s row.base row.kind
         (x.calm_before.reached row.base row.kind inside.reached))
 
-    pub calm-row : (row : Held) → IsInTree c.shape calm row → IsSame calm after row
+    pub calm-row : (row : HeldRow) → IsInTree c.shape calm row → IsSame calm after row
     calm-row row inside j low high = stays (row.base + j) (omega (arith, late row inside))
 
     pub rows-then : (h : Hold) → Each (IsInTree c.shape calm) (rows_of_hold h) → Each (IsInTree c.shape after) (rows_of_hold h)
@@ -105,7 +105,7 @@ module _ (read : ChildrenAreRead) (trees : KeptTreesFollow) (effects : EffectsFo
         (λ row among both j low high. real-word (row.base + j) (omega (arith, late stays row both.0))
         ∙ (both.1 j low high ∙ sym (calm-row stays row both.0 j low high))) (pair-up (rows_of_hold h) rows same)
       where
-        pair-up : (hs : List Held) → Each (IsInTree c.shape calm) hs → Each (IsSame calm s.words) hs
+        pair-up : (hs : List HeldRow) → Each (IsInTree c.shape calm) hs → Each (IsSame calm s.words) hs
             → Each (λ row. IsInTree c.shape calm row × IsSame calm s.words row) hs
         pair-up [] a b = tt
         pair-up (row ∷ hs) a b = ((a.0, b.0), pair-up hs a.1 b.1)
@@ -192,7 +192,7 @@ module _ (read : ChildrenAreRead) (trees : KeptTreesFollow) (effects : EffectsFo
           )
     ]
       where
-        pair-up : (hs : List Held) → Each (IsSame calm after) hs → Each (IsSame after t.words) hs
+        pair-up : (hs : List HeldRow) → Each (IsSame calm after) hs → Each (IsSame after t.words) hs
             → Each (λ row. IsSame calm after row × IsSame after t.words row) hs
         pair-up [] a b = tt
         pair-up (row ∷ hs) a b = ((a.0, b.0), pair-up hs a.1 b.1)

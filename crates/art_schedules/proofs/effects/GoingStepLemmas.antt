@@ -3,11 +3,11 @@ use Rattle.art_schedules.proofs.Common.{◌≡◌, ◌≢◌, ◌⊎◌, inl, in
 use Rattle.art_schedules.proofs.Common.{subst, arith, slice_set, Option, Some, None, same_Some, none-some, Call, Contents, Shape, Kind, Four}
 use Rattle.art_schedules.proofs.Common.{row_words, base_of, table_words, kind_at, is_obsolete, key_bytes, info_word, row_word, some-words}
 use Rattle.art_schedules.proofs.Common.{row_begins, rows_apart, Variant, Access, Load, Store, Point, Asks, Setting, key_of, next_kind, new_leaf}
-use Rattle.art_schedules.proofs.Common.{stores-same, load-store, Held, Hold, Growing, Pair, PairWord, Value, Refused, Work, Stage, Write}
+use Rattle.art_schedules.proofs.Common.{stores-same, load-store, HeldRow, Hold, Growing, Pair, PairWord, Value, Refused, Work, Stage, Write}
 use Rattle.art_schedules.proofs.Common.{StorePair, Hang, Unlock, Obsolete, setting, row_at, byte_in, old_child, new_child, turn_at, stage_after}
 use Rattle.art_schedules.proofs.Common.{work_at, pair_after, no_value, OnKey, call_turn, call_after, Process, Plan, State, Reached, Means}
 use Rattle.art_schedules.proofs.Common.{IsAtRest, SameRow, LeadsTo, ChildrenAreRead, load-same, stored-long, stored-at, way_byte, lock_of}
-use Rattle.art_schedules.proofs.Common.{locks_of, all_of, rows_of_hold, Named, Each, Knows, KnowsKey, holds, fills, IsAmong, IsBehindVersion}
+use Rattle.art_schedules.proofs.Common.{locks_of, all_of, rows_of_hold, Named, Each, Knows, KnowsKey, holds, fills, IsAmong, IsAfterVersion}
 use Rattle.art_schedules.proofs.Common.{AreDistinct, IsAtStage, IsOpen, filled_by, is_busy, stage_of}
 use Rattle.art_schedules.proofs.versions.ChangeLemmas.{index-other}
 use Rattle.art_schedules.proofs.versions.MoveLemmas.{settled-row, true-false}
@@ -18,8 +18,8 @@ use Rattle.art_schedules.proofs.Common.{growing_at, FillsAt, HasNew, IsGoing, Is
 use Rattle.art_schedules.proofs.Common.{WorkerStep, IsInTree, IsSame}
 use Rattle.std.proofs.Common.{slice_index}
 use Rattle.std.specs.Prelude.{take}
-use Rattle.art_stages.specs.declared.stage.PairWord.TheVariants as pair_word
-use Rattle.art_stages.specs.declared.stage.Work.TheVariants as work
+use Rattle.art_control_states.specs.declared.stage.PairWord.TheVariants as pair_word
+use Rattle.art_control_states.specs.declared.stage.Work.TheVariants as work
 use Rattle.art_schedules.proofs.versions.LowLemmas.{first-item}
 use Rattle.art_schedules.proofs.calm.CalmLemmas.{claimed-row}
 use Rattle.art_schedules.proofs.calm.UseLemmas.{without-store, with-written, with-filled}
@@ -52,13 +52,13 @@ refused-value : {h : Hold} {o : Option ℕ} → Unlock h (Some (Value o)) ≡ Un
 refused-value e = cc
 
 -- a word of a row that is held
-word-same : (words later : List ℕ) (rows : List Held) → Each (IsSame words later) rows → (row : Held)
+word-same : (words later : List ℕ) (rows : List HeldRow) → Each (IsSame words later) rows → (row : HeldRow)
     → IsAmong row (locks_of rows) → (word : ℕ)
-    → IsBehindVersion row.base row.kind word → slice_index later word ≡ slice_index words word
+    → IsAfterVersion row.base row.kind word → slice_index later word ≡ slice_index words word
 word-same words later [] same row among word behind = absurd among
 word-same words later (x ∷ rows) same row (inl e) word behind =
-    let base : row.base ≡ x.base = ap (λ (h : Held). h.base) e in
-    let size : row_words row.kind ≡ row_words x.kind = ap (λ (h : Held). row_words h.kind) e in
+    let base : row.base ≡ x.base = ap (λ (h : HeldRow). h.base) e in
+    let size : row_words row.kind ≡ row_words x.kind = ap (λ (h : HeldRow). row_words h.kind) e in
     let is : word ≡ x.base + (word - x.base) = omega (arith, base, behind.0) in
     ap (slice_index later) is
     ∙ (same.0 (word - x.base) (omega (arith, base, behind.0)) (omega (arith, base, size, behind.0, behind.1))
@@ -151,7 +151,7 @@ module _ (read : ChildrenAreRead) (trees : KeptTreesFollow) (effects : EffectsFo
   abbrev Kept : Type 0
   Kept = Makes variant shape s p calm after m None
 
-  abbrev rows : List Held
+  abbrev rows : List HeldRow
   rows = rows_of_hold g.hold
 
   placed : (b : Bool) × InWork g.hold b stage
@@ -163,10 +163,10 @@ module _ (read : ChildrenAreRead) (trees : KeptTreesFollow) (effects : EffectsFo
   knows : KnowsKey (RowsOf shape) c stage
   knows = subst (Knows (RowsOf shape) c) at (rows-known variant shape x.count s p call q x.before o)
 
-  held-reached : (row : Held) → IsAmong row (holds c (OnKey stage)) → Reached shape calm row.base row.kind
+  held-reached : (row : HeldRow) → IsAmong row (holds c (OnKey stage)) → Reached shape calm row.base row.kind
   held-reached = work-in c s.words calm stage fresh (Going g)
 
-  held-row : (row : Held) → IsAmong row (holds c (OnKey stage)) → kind_at shape row.base ≡ Some row.kind
+  held-row : (row : HeldRow) → IsAmong row (holds c (OnKey stage)) → kind_at shape row.base ≡ Some row.kind
   held-row row among = settled-row variant shape s row.base row.kind (x.calm_before.reached row.base row.kind (held-reached row among))
 
   asks-now : (a : Access) (mark : Option Point) → turn_at c stage ≡ Asks a mark → call_turn c (stage_of variant shape call q) ≡ Asks a mark
@@ -189,7 +189,7 @@ module _ (read : ChildrenAreRead) (trees : KeptTreesFollow) (effects : EffectsFo
     pub stage_at : stage_of variant shape call process ≡ OnKey (stage_after c stage w)
 
   -- a fresh row is apart from each that is held
-  new-apart : (b : ℕ) (l : Kind) → FillsFresh c s.words calm g.words g.hold g.work stage b l → (row : Held)
+  new-apart : (b : ℕ) (l : Kind) → FillsFresh c s.words calm g.words g.hold g.work stage b l → (row : HeldRow)
       → IsAmong row (holds c (OnKey stage)) → (word : ℕ)
       → b ≤ word → word < b + row_words l → row.base ≤ word → word < row.base + row_words row.kind → ⊥
   new-apart b l new row among word low high low2 high2 = new.unreached row.kind
@@ -213,7 +213,7 @@ module _ (read : ChildrenAreRead) (trees : KeptTreesFollow) (effects : EffectsFo
     live_now = live_now;
   }
 
-  late : (row : Held) → IsInTree c.shape calm row → 5 ≤ row.base
+  late : (row : HeldRow) → IsInTree c.shape calm row → 5 ≤ row.base
   late row inside = row_begins shape row.base row.kind (settled-row variant shape s row.base row.kind (x.calm_before.reached row.base
       row.kind inside.reached))
 
@@ -314,7 +314,7 @@ module _ (read : ChildrenAreRead) (trees : KeptTreesFollow) (effects : EffectsFo
         (omega (arith, held.behind.0)) held.behind.1)))
 
     stored-filled : (b : ℕ) (l : Kind) → FillsFresh c s.words calm g.words g.hold g.work stage b l → fills (OnKey stage) ≡ (b, l) ∷ []
-        → IsBehindVersion b l word
+        → IsAfterVersion b l word
         → Moved 0
     stored-filled b l new f behind = stored made calms others-new
       where
@@ -351,7 +351,7 @@ module _ (read : ChildrenAreRead) (trees : KeptTreesFollow) (effects : EffectsFo
 
         filled-same : SameRow now after b l
         filled-same j low high =
-            steady-row t.words after b l (x.calm_behind.free b l row free) j low high
+            steady-row t.words after b l (x.calm_after_step.free b l row free) j low high
             ∙ (ap (λ ws. slice_index ws (b + j)) own.words
             ∙ alike-set g.words s.words (b + j) word value as-long
             (sym (steady-row s.words calm b l (x.calm_before.filled p call q o b l filled) j low high) ∙ new.same j low high))
@@ -369,7 +369,7 @@ module _ (read : ChildrenAreRead) (trees : KeptTreesFollow) (effects : EffectsFo
         let same : ◌≡◌ {A = Named} (own-word.base, own-word.kind) row =
         fills-new g.hold g.work row.0 row.1 stage new.at own-word.base own-word.kind own-word.filled in
         stored-filled row.0 row.1 new (own-word.filled ∙ ap (λ z. z ∷ []) same)
-        (subst (λ (z : Named). IsBehindVersion z.0 z.1 word) same own-word.behind)
+        (subst (λ (z : Named). IsAfterVersion z.0 z.1 word) same own-word.behind)
 
   -- ---- after it
 
@@ -389,7 +389,7 @@ module _ (read : ChildrenAreRead) (trees : KeptTreesFollow) (effects : EffectsFo
     was-then : Each (IsSame g.first after) rows
     was-then = go rows g.was mv.calms
       where
-        go : (hs : List Held) → Each (IsSame g.first calm) hs → Each (IsSame calm after) hs → Each (IsSame g.first after) hs
+        go : (hs : List HeldRow) → Each (IsSame g.first calm) hs → Each (IsSame calm after) hs → Each (IsSame g.first after) hs
         go [] a b = tt
         go (h ∷ hs) a b = (λ j low high. b.0 j low high ∙ a.0 j low high, go hs a.1 b.1)
 
@@ -457,7 +457,7 @@ module _ (read : ChildrenAreRead) (trees : KeptTreesFollow) (effects : EffectsFo
           g.begins.words)
           mv.solo release
 
-      apart : (a : Held) → g.hold.above ≡ Some a → g.hold.row.base ≢ a.base
+      apart : (a : HeldRow) → g.hold.above ≡ Some a → g.hold.row.base ≢ a.base
       apart a e = (subst AreDistinct (ap (holds c) at ∙ is-holds) (x.before.distinct p call q o)).0 (lock_of a)
           (subst (λ z. IsAmong (lock_of a) (locks_of (all_of z))) (sym e) (inl refl))
 
@@ -488,7 +488,7 @@ module _ (read : ChildrenAreRead) (trees : KeptTreesFollow) (effects : EffectsFo
       hangs (work.Pair pair) None b is new kept = absurd (true-false refl new.0)
       hangs (work.Pair pair) (Some row) b is new kept = at-pair new.at
         where
-          up : Held
+          up : HeldRow
           up = upper_row g.hold
 
           small : b.byte < 256
@@ -531,7 +531,7 @@ module _ (read : ChildrenAreRead) (trees : KeptTreesFollow) (effects : EffectsFo
       hangs (work.Grow slot keys) None b is new kept = absurd (true-false refl new.0)
       hangs (work.Grow slot keys) (Some row) b is new kept = at-grow new.at
         where
-          up : Held
+          up : HeldRow
           up = upper_row g.hold
 
           small : b.byte < 256

@@ -5,7 +5,7 @@ use Rattle.art_schedules.proofs.Common.{and_parts, ltb-true, false≢true, same_
 use Rattle.art_schedules.proofs.Common.{Shape, Kind, Four, Child, Empty, Row, Leaf, row_words, table_words, info_at, kind_at, key_bytes}
 use Rattle.art_schedules.proofs.Common.{child_of, child_word, leaf_word, row_word, info_word, info_of, first-some, key_byte-small, row_ends}
 use Rattle.art_schedules.proofs.Common.{rows_apart, kind_at-base_of, is_tree_call, Setting, key_of, is_insert, byte_at, new_leaf, overwriting}
-use Rattle.art_schedules.proofs.Common.{next_kind, Held, Hold, Pair, Value, Stage, Unlock, Obsolete, row_at, byte_in, old_child, new_child}
+use Rattle.art_schedules.proofs.Common.{next_kind, HeldRow, Hold, Pair, Value, Stage, Unlock, Obsolete, row_at, byte_in, old_child, new_child}
 use Rattle.art_schedules.proofs.Common.{no_value, hold_alone, Reached, slot_of, child_in, child_on, level_in, path_in, IsAtRest, SameRow}
 use Rattle.art_schedules.proofs.Common.{LeadsTo, Parts, sits-kind_at, sits, slot-is, row-keys, form-same, IsChildWord, child-same, HasPut}
 use Rattle.art_schedules.proofs.Common.{IsOutside, way_byte, rows_of_hold, Each, Effect, PutsLeaf, RemovesLeaf, HangsPair, HangsGrown, IsGone}
@@ -27,7 +27,7 @@ module _ (c : Setting) (n : ℕ) (real after first words : List ℕ) (rest : IsA
   abbrev key : ℕ
   key = key_of c.call
 
-  abbrev up : Held
+  abbrev up : HeldRow
   up = upper_row h
 
   row-kind : (base : ℕ) (kind : Kind) → Reached s after base kind → kind_at s base ≡ Some kind
@@ -186,7 +186,7 @@ module _ (c : Setting) (n : ℕ) (real after first words : List ℕ) (rest : IsA
   module _ (byte slot fresh : ℕ) (kind : Kind) (leads : LeadsTo s after key up.base up.kind byte)
       (has_slot : slot_of after up.base up.kind byte ≡ Some slot)
       (insert : IsInsert c.call) (ready : HasFilledFresh c real after fresh kind) (filled : SameRow words after fresh kind)
-      (apart : (a : Held) → h.above ≡ Some a → h.row.base ≢ a.base)
+      (apart : (a : HeldRow) → h.above ≡ Some a → h.row.base ≢ a.base)
       (others : (word : ℕ) → word ≢ slot → IsOutside fresh kind word → slice_index words word ≡ slice_index first word)
       (hangs : slice_index words slot ≡ row_word fresh) where
     up-small : byte < 256
@@ -201,7 +201,7 @@ module _ (c : Setting) (n : ℕ) (real after first words : List ℕ) (rest : IsA
         (upper-each (IsSame words real) h same) ready.claimed ready.unreached
 
     -- a lower row is unchanged
-    lower-same : (a : Held) → h.above ≡ Some a → IsSame after real h.row
+    lower-same : (a : HeldRow) → h.above ≡ Some a → IsSame after real h.row
     lower-same a e j low high =
         let row = row-kind h.row.base h.row.kind rows.0.reached in
         let place = slot-inside up.base up.kind byte slot leads.reached up-small has_slot in
@@ -229,7 +229,7 @@ module _ (c : Setting) (n : ℕ) (real after first words : List ℕ) (rest : IsA
       (has_slot : slot_of after up.base up.kind byte ≡ Some p.slot)
       (parts : Parts after key p.level p.byte p.child) (insert : IsInsert c.call) (child : child_of s (slice_index after p.slot) ≡ p.child)
       (small : p.byte < 256) (ready : HasFilledFresh c real after fresh Four) (filled : SameRow words after fresh Four)
-      (apart : (a : Held) → h.above ≡ Some a → h.row.base ≢ a.base) (is : at ≡ Unlock h (Some no_value))
+      (apart : (a : HeldRow) → h.above ≡ Some a → h.row.base ≢ a.base) (is : at ≡ Unlock h (Some no_value))
       (hung : PairHangs s first words fresh p.slot p.level (take p.level (key_bytes key)) (old_child p) (new_child c p)) where
     on : child_on s after up.base up.kind byte ≡ p.child
     on = ap (child_in s after) has_slot ∙ child
@@ -240,7 +240,7 @@ module _ (c : Setting) (n : ℕ) (real after first words : List ℕ) (rest : IsA
     pair-releases : IsReleasing c real after up the-effect (Value None) at
     pair-releases = go h.above refl
       where
-        go : (above : Option Held) → h.above ≡ above → IsReleasing c real after up the-effect (Value None) at
+        go : (above : Option HeldRow) → h.above ≡ above → IsReleasing c real after up the-effect (Value None) at
         go None e = Last
             (is ∙ (ap (λ z. Unlock (record { row = h.row; above = z }) (Some no_value)) e
             ∙ ap (λ z. Unlock (hold_alone z) (Some no_value)) (sym (ap (upper_of h.row) e))))
@@ -293,7 +293,7 @@ module _ (c : Setting) (n : ℕ) (real after first words : List ℕ) (rest : IsA
       (child : child_of s (slice_index after slot) ≡ Row h.row.base h.row.kind)
       (larger : kind ≡ next_kind h.row.kind)
       (ready : HasFilledFresh c real after fresh kind) (filled : SameRow words after fresh kind)
-      (apart : (a : Held) → h.above ≡ Some a → h.row.base ≢ a.base)
+      (apart : (a : HeldRow) → h.above ≡ Some a → h.row.base ≢ a.base)
       (is : at ≡ Obsolete h)
       (hung : GrownHangs s first words h.row.base h.row.kind fresh slot
       (info_word (next_kind h.row.kind) (row_at h.row).level (row_at h.row).path) (byte_in c h.row) (new_leaf c.call)) where

@@ -1,24 +1,24 @@
 -- What calm says of held rows, and of the ways to them, is kept by each step that leaves these rows as they are.
 use Rattle.art_schedules.proofs.Common.{◌≡◌, inl, inr, ℕ, ◌<◌, List, ◌∷◌, refl, sym, ap, ◌∙◌, subst, arith, Option, Some, None, Contents, Shape}
 use Rattle.art_schedules.proofs.Common.{Kind, Four, Child, Empty, Row, Leaf, info_at, key_bytes, first_difference, child_of, info_word, row_word}
-use Rattle.art_schedules.proofs.Common.{leaf_word, two-words, first-some, key_byte-small, Setting, key_of, Held, Keys, Hold, Work, row_at}
+use Rattle.art_schedules.proofs.Common.{leaf_word, two-words, first-some, key_byte-small, Setting, key_of, HeldRow, Keys, Hold, Work, row_at}
 use Rattle.art_schedules.proofs.Common.{byte_in, Reached, below, slot_of, child_in, child_on, level_in, path_in, SameRow, LeadsTo, Parts}
 use Rattle.art_schedules.proofs.Common.{slot-is, row-keys, slot-same, form-same, IsChildWord, child-same, way_byte, all_of, rows_of_hold, Each}
 use Rattle.art_schedules.proofs.Common.{Named, Effect, Keeps, Fills, PutsLeaf, RemovesLeaf, HangsPair, HangsGrown, base_of_effect}
 use Rattle.art_schedules.proofs.Common.{kind_of_effect, IsGone, Follows, LacksByte, FitsWords, upper_of, upper_row, IsOverwritten, BeginsWork}
 use Rattle.art_schedules.proofs.Common.{IsOld, fresh_of, IsPending, HasFilledFresh, HasWordAt, IsInTree, IsSame}
 use Rattle.std.proofs.Common.{slice_index}
-use Rattle.art_stages.specs.declared.stage.Work.TheVariants as work
-use Rattle.art_serial.proofs.alone.SlotLemmas.{keys-same, count-same}
+use Rattle.art_control_states.specs.declared.stage.Work.TheVariants as work
+use Rattle.art_sequential.proofs.alone.SlotLemmas.{keys-same, count-same}
 use Rattle.art_schedules.proofs.changes.EffectLemmas.{parted-small}
 use Rattle.art_schedules.proofs.changes.WrittenLemmas.{children-are-of-rows}
 use Rattle.art_schedules.specs.effects.Begins.{FindsSlot}
 
 -- what holds of each row holds of the upper one
-pub upper-each : (P : Held → Type 0) (h : Hold) → Each P (rows_of_hold h) → P (upper_row h)
+pub upper-each : (P : HeldRow → Type 0) (h : Hold) → Each P (rows_of_hold h) → P (upper_row h)
 upper-each P h e = go h.row h.above e
   where
-    go : (row : Held) (above : Option Held) → Each P (row ∷ all_of above) → P (upper_of row above)
+    go : (row : HeldRow) (above : Option HeldRow) → Each P (row ∷ all_of above) → P (upper_of row above)
     go row None e = e.0
     go row (Some a) e = e.1.0
 
@@ -31,7 +31,7 @@ slot-word words later base kind x slot byte same at =
     ap (slice_index later) place.is
     ∙ (same place.place (omega (arith, first-some kind, place.low)) place.high ∙ ap (slice_index words) (sym place.is))
 
-pub lacks-kept : (c : Setting) (n : Held) (seen : Keys) (words later : List ℕ) → IsSame words later n → LacksByte c n seen words
+pub lacks-kept : (c : Setting) (n : HeldRow) (seen : Keys) (words later : List ℕ) → IsSame words later n → LacksByte c n seen words
     → LacksByte c n seen later
 lacks-kept c n seen words later same lacks =
     let byte = key_byte-small (key_of c.call) (row_at n).level in
@@ -94,7 +94,7 @@ module _ (s : Shape) (n : ℕ) (calm after : List ℕ) (pairs : Contents) (gone 
 -- Where work begins.
 module _ (c : Setting) (n : ℕ) (calm after : List ℕ) (pairs : Contents) (gone : ℕ → Type 0) (fresh : ℕ → Kind → Type 0)
     (f : Follows c.shape n calm after pairs gone fresh) where
-  pub inside-kept : (row : Held) → IsInTree c.shape calm row → (gone row.base → ⊥) → IsInTree c.shape after row
+  pub inside-kept : (row : HeldRow) → IsInTree c.shape calm row → (gone row.base → ⊥) → IsInTree c.shape after row
   inside-kept row inside stays =
       record { reached = reached-kept c.shape n calm after pairs gone fresh f row.base row.kind inside.reached stays; live = inside.live }
 

@@ -1,7 +1,7 @@
 -- Marks of calls at work, and what such a call asks for.
 use Rattle.art_schedules.proofs.Common.{◌≡◌, ◌⊎◌, inl, inr, ℕ, List, [], ◌∷◌, ◌++◌, Bool, true, false, refl, sym, ap, ◌∙◌, subst, ◌==◌, Option}
 use Rattle.art_schedules.proofs.Common.{Some, None, if◌then◌else◌, false≢true, none-some, Kind, Four, Sixteen, FortyEight, Full, Row}
-use Rattle.art_schedules.proofs.Common.{base_of-once, Swap, Turn, Asks, Answers, Setting, answers-asks, Held, Hold, Pair, PairWord, Growing}
+use Rattle.art_schedules.proofs.Common.{base_of-once, Swap, Turn, Asks, Answers, Setting, answers-asks, HeldRow, Hold, Pair, PairWord, Growing}
 use Rattle.art_schedules.proofs.Common.{Keys, Outcome, Value, Work, Stage, Lock, Exchange, Wait, Leave, Between, Info, Find, FindKeys, FindMore}
 use Rattle.art_schedules.proofs.Common.{FindCount, Slot, Check, CheckLast, LetGo, Take, StorePair, PutKeys, GrowLeaf, GrowKeys, GrowCount}
 use Rattle.art_schedules.proofs.Common.{Obsolete, Over, Unlock, setting, turn_at, work_at, store_of, pair_turn, put_keys_turn, grow_leaf_turn}
@@ -11,8 +11,8 @@ use Rattle.art_schedules.proofs.Common.{Effect, Keeps, Fills, PutsLeaf, RemovesL
 use Rattle.art_schedules.proofs.Common.{IsGone, is_work, claims_row, hold_at, IsPending, IsReleasing, Last, Lower, Gone, AtWork, Claiming, Going}
 use Rattle.art_schedules.proofs.Common.{Hanging, EndStep, Leaves, AnswersNow, obsolete_by, IsMarkedBy, EnderStep, WorkersMayHaveNoMark}
 use Rattle.art_schedules.proofs.Common.{ObsoleteRowsHang, WorkersOnlyWork, LeaversStep, EndersGoOn}
-use Rattle.art_stages.specs.declared.stage.PairWord.TheVariants as pair_word
-use Rattle.art_stages.specs.declared.stage.Work.TheVariants as work
+use Rattle.art_control_states.specs.declared.stage.PairWord.TheVariants as pair_word
+use Rattle.art_control_states.specs.declared.stage.Work.TheVariants as work
 use Rattle.art_schedules.proofs.work.OwnLemmas.{is_over}
 use Rattle.art_schedules.proofs.work.WorkLemmas.{at-work}
 use Rattle.art_schedules.specs.effects.Marks.{HangsOnAbove}
@@ -20,7 +20,7 @@ use Rattle.art_schedules.proofs.effects.StageLemmas.{place-work}
 
 -- ---- no mark
 
-releasing-unmarked : {c : Setting} {real calm : List ℕ} {row : Held} {e : Effect} {o : Outcome} {stage : Stage}
+releasing-unmarked : {c : Setting} {real calm : List ℕ} {row : HeldRow} {e : Effect} {o : Outcome} {stage : Stage}
     (at : IsReleasing c real calm row e o stage)
     → IsMarkedBy None at
 releasing-unmarked (Last is gone) = λ b some. absurd (none-some b some)
@@ -57,7 +57,7 @@ no-claim c h g (work.Grow slot keys) claims e = cc
 
 module _ (c : Setting) (n : ℕ) (real calm : List ℕ) (rest : IsAtRest c.shape n calm) where
   -- a row that goes hangs on the row that changes
-  gone-hangs : (row lower : Held) → Reached c.shape calm lower.base lower.kind → (e : Effect) (old : Option ℕ) → base_of_effect e ≡ row.base
+  gone-hangs : (row lower : HeldRow) → Reached c.shape calm lower.base lower.kind → (e : Effect) (old : Option ℕ) → base_of_effect e ≡ row.base
       → kind_of_effect e ≡ row.kind → IsPending c real calm e old → IsGone e lower.base
       → HangsOnAbove c.shape calm (record { row = lower; above = Some row })
   gone-hangs row lower reached (Keeps base kind) old is-base is-kind pending none = absurd none

@@ -2,10 +2,10 @@
 use Rattle.art_schedules.proofs.Common.{◌≡◌, ◌≢◌, ◌⊎◌, inl, inr, ℕ, ◌+◌, ◌<◌, ◌≤◌, List, [], ◌∷◌, ◌++◌, true, false, refl, sym, ap, ◌∙◌, subst}
 use Rattle.art_schedules.proofs.Common.{arith, Option, Some, None, cases_lt, cases_eq, same_Some, Call, Reply, Contents, Shape, Kind, Four, Row}
 use Rattle.art_schedules.proofs.Common.{row_words, kind_at, child_of, row_word, is_obsolete, some-words, row_begins, rows_apart, Variant}
-use Rattle.art_schedules.proofs.Common.{Setting, Held, Hold, Growing, Work, Outcome, Value, Stage, setting, work_at, hold_alone, OnKey, Process}
+use Rattle.art_schedules.proofs.Common.{Setting, HeldRow, Hold, Growing, Work, Outcome, Value, Stage, setting, work_at, hold_alone, OnKey, Process}
 use Rattle.art_schedules.proofs.Common.{Plan, State, Reached, below, slot_of, child_on, IsAtRest, SameRow, IsClaimed, ChildrenAreRead, way_byte}
 use Rattle.art_schedules.proofs.Common.{lock_of, locks_of, rows_of_hold, Named, Each, IsNamed, Knows, child_rows, holds, fills, IsAmong}
-use Rattle.art_schedules.proofs.Common.{IsAtStage, IsBehindVersion, IsOpen, IsSettled, filled_by, held_by, stage_of}
+use Rattle.art_schedules.proofs.Common.{IsAtStage, IsAfterVersion, IsOpen, IsSettled, filled_by, held_by, stage_of}
 use Rattle.art_schedules.proofs.versions.MoveLemmas.{settled-row, true-false}
 use Rattle.art_schedules.proofs.Common.{CalmChange, CalmFilled, CalmReleased, CalmStays, RowChange, RowWritten, RowsStay, calm_of}
 use Rattle.art_schedules.proofs.versions.WithLemmas.{with-here}
@@ -15,7 +15,7 @@ use Rattle.art_schedules.proofs.Common.{FillsAt, HasNew, IsGoing, fresh_of, IsPe
 use Rattle.art_schedules.proofs.Common.{Claiming, Going, Hanging, AtEnd, Answering, Leaving, HasFilledFresh, Makes, HoldsReached, IsOther}
 use Rattle.art_schedules.proofs.Common.{IsMarkedBy, IsMarked, OthersKeepWork, OthersKeepMarked, OthersKeepEnds, IsInTree, IsSame}
 use Rattle.std.proofs.Common.{slice_index}
-use Rattle.art_stages.specs.declared.stage.Work.TheVariants as work
+use Rattle.art_control_states.specs.declared.stage.Work.TheVariants as work
 use Rattle.art_schedules.specs.versions.Steady as steady
 use Rattle.art_schedules.proofs.calm.CalmLemmas.{claimed-row}
 use Rattle.art_schedules.proofs.calm.VersionLemmas.{locked-same, obsolete-busy}
@@ -28,12 +28,12 @@ use Rattle.art_schedules.proofs.effects.StageLemmas.{place-work, grow-fills}
 use Rattle.art_schedules.proofs.calm.ReachedLemmas.{slot-of-row}
 
 -- what holds of each row that is held, by another property
-pub each-with : (P Q : Held → Type 0) (rows : List Held) → ((row : Held) → IsAmong (lock_of row) (locks_of rows) → P row → Q row)
+pub each-with : (P Q : HeldRow → Type 0) (rows : List HeldRow) → ((row : HeldRow) → IsAmong (lock_of row) (locks_of rows) → P row → Q row)
     → Each P rows → Each Q rows
 each-with P Q [] f e = tt
 each-with P Q (row ∷ rows) f e = (f row (inl refl) e.0, each-with P Q rows (λ x among. f x (inr among)) e.1)
 
-pub each-of : (Q : Held → Type 0) (rows : List Held) → ((row : Held) → IsAmong (lock_of row) (locks_of rows) → Q row) → Each Q rows
+pub each-of : (Q : HeldRow → Type 0) (rows : List HeldRow) → ((row : HeldRow) → IsAmong (lock_of row) (locks_of rows) → Q row) → Each Q rows
 each-of Q [] f = tt
 each-of Q (row ∷ rows) f = (f row (inl refl), each-of Q rows (λ x among. f x (inr among)))
 
@@ -59,33 +59,33 @@ module _ (read : ChildrenAreRead) (plan : Plan) (p : ℕ) (s t : State) (calm af
   abbrev c : Setting
   c = setting shape variant call
 
-  abbrev HoldsRow : Held → Type 0
+  abbrev HoldsRow : HeldRow → Type 0
   HoldsRow row = IsAmong (lock_of row) (held_by variant shape call w)
 
-  real-row : (row : Held) → HoldsRow row → SameRow s.words t.words row.base row.kind
+  real-row : (row : HeldRow) → HoldsRow row → SameRow s.words t.words row.base row.kind
   real-row row among = steady-row s.words t.words row.base row.kind (others-stay plan p s t calm after x r ne call w o (lock_of row) among)
 
-  calm-row : (row : Held) → HoldsRow row → SameRow calm after row.base row.kind
+  calm-row : (row : HeldRow) → HoldsRow row → SameRow calm after row.base row.kind
   calm-row row among = steady-row calm after row.base row.kind (others-calm plan p s t calm after x r ne call w o (lock_of row) among)
 
-  held-row : (row : Held) → HoldsRow row → kind_at shape row.base ≡ Some row.kind
+  held-row : (row : HeldRow) → HoldsRow row → kind_at shape row.base ≡ Some row.kind
   held-row row among = others-row plan p s t calm after x r ne call w o (lock_of row) among
 
-  not-gone : (row : Held) → HoldsRow row → is_obsolete row.kept ≡ false → IsGoneBy effect row.base → ⊥
+  not-gone : (row : HeldRow) → HoldsRow row → is_obsolete row.kept ≡ false → IsGoneBy effect row.base → ⊥
   not-gone row among live gone =
       true-false (made.goes.gone row.base gone)
       (ap is_obsolete (x.before.locked r call w o (lock_of row) among) ∙ (locked-same row.kept ∙ live))
 
-  inside : (row : Held) → HoldsRow row → IsInTree c.shape calm row → IsInTree c.shape after row
+  inside : (row : HeldRow) → HoldsRow row → IsInTree c.shape calm row → IsInTree c.shape after row
   inside row among here =
       inside-kept c made.goes.claims calm after _ (IsGoneBy effect) (ComesInBy effect) made.goes.follows row here
       (not-gone row among here.live)
 
-  same-on : (row : Held) → HoldsRow row → IsSame calm s.words row → IsSame after t.words row
+  same-on : (row : HeldRow) → HoldsRow row → IsSame calm s.words row → IsSame after t.words row
   same-on row among same j low high = real-row row among j low high ∙ (same j low high ∙ sym (calm-row row among j low high))
 
   -- a row that leaves by the step hangs in no row that this call holds
-  gone-once : (row : Held) → HoldsRow row → (base : ℕ) (kind : Kind) (y b : ℕ) (l : Kind) → base ≡ row.base
+  gone-once : (row : HeldRow) → HoldsRow row → (base : ℕ) (kind : Kind) (y b : ℕ) (l : Kind) → base ≡ row.base
       → Reached shape calm base kind → y < 256
       → child_on shape calm base kind y ≡ Row b l → IsGoneBy effect b → ⊥
   gone-once row among base kind y b l is reached small hangs = go effect made.by
@@ -158,7 +158,7 @@ module _ (read : ChildrenAreRead) (plan : Plan) (p : ℕ) (s t : State) (calm af
       as-before : slice_index t.words b ≡ slice_index s.words b → is_obsolete (slice_index t.words b) ≡ false
       as-before e = ap is_obsolete e ∙ live
 
-      no-version : (d : ℕ) (i : Kind) (word : ℕ) → kind_at shape d ≡ Some i → IsBehindVersion d i word → b ≢ word
+      no-version : (d : ℕ) (i : Kind) (word : ℕ) → kind_at shape d ≡ Some i → IsAfterVersion d i word → b ≢ word
       no-version d i word its within e =
           let one = (rows_apart shape b d l i word row its (omega (arith, e)) (omega (arith, e, some-words l))
           (omega (arith, within.0)) within.1).0 in
@@ -212,12 +212,12 @@ module _ (read : ChildrenAreRead) (plan : Plan) (p : ℕ) (s t : State) (calm af
           kinds : (i : Kind) → ComesInBy effect b i → i ≡ l
           kinds i fresh =
               same_Some i l (sym (settled-row variant shape t b i
-              (x.calm_behind.reached b i ((made.goes.follows.rows b i).1 (inr fresh)))) ∙ claimed-row shape s.words b l ready.claimed)
+              (x.calm_after_step.reached b i ((made.goes.follows.rows b i).1 (inr fresh)))) ∙ claimed-row shape s.words b l ready.claimed)
 
   -- ---- before the claim, and before the first release
 
   module _ (stage : Stage) (at : stage_of variant shape call w ≡ OnKey stage) where
-    holds-row : (h : Hold) → holds c (OnKey stage) ≡ locks_of (rows_of_hold h) → (row : Held)
+    holds-row : (h : Hold) → holds c (OnKey stage) ≡ locks_of (rows_of_hold h) → (row : HeldRow)
         → IsAmong (lock_of row) (locks_of (rows_of_hold h))
         → HoldsRow row
     holds-row h is row among = subst (IsAmong (lock_of row)) (sym is ∙ ap (holds c) (sym at)) among
@@ -349,7 +349,7 @@ module _ (read : ChildrenAreRead) (plan : Plan) (p : ℕ) (s t : State) (calm af
         (inr (settled-slot base kind y slot.0 b larger row (way_byte shape calm key base kind y above) slot.1.at slot.1.here its)) other
 
     -- a row that leaves by the effect hangs in the row that changes
-    pending-gone : (row : Held) → HoldsRow row → (e : Effect) (old : Option ℕ) → base_of_effect e ≡ row.base
+    pending-gone : (row : HeldRow) → HoldsRow row → (e : Effect) (old : Option ℕ) → base_of_effect e ≡ row.base
         → IsPending c s.words calm e old → (b : ℕ)
         → IsGone e b → (l : Kind) × (kind_at shape b ≡ Some l) × (IsGoneBy effect b → ⊥)
     pending-gone row among (Keeps base kind) old is pending b gone = absurd gone
@@ -365,7 +365,7 @@ module _ (read : ChildrenAreRead) (plan : Plan) (p : ℕ) (s t : State) (calm af
               (gone-once row among base kind y full full_kind is above.reached (way_byte shape calm key base kind y above) hangs),
         )
 
-    releasing-holds : (row : Held) (e : Effect) (out : Outcome) → IsReleasing c s.words calm row e out stage → HoldsRow row
+    releasing-holds : (row : HeldRow) (e : Effect) (out : Outcome) → IsReleasing c s.words calm row e out stage → HoldsRow row
     releasing-holds row e out (Last is gone) = holds-row (hold_alone row) (ap (λ z. holds c (OnKey z)) is) row (inl refl)
     releasing-holds row e out (Lower lower is here same none) =
         holds-row (record { row = lower; above = Some row }) (ap (λ z. holds c (OnKey z)) is) row (inr (inl refl))
@@ -409,10 +409,10 @@ module _ (read : ChildrenAreRead) (plan : Plan) (p : ℕ) (s t : State) (calm af
             subst (λ b. SameRow words later b (kind_of_effect g.effect)) (sym g.base)
             (subst (λ l. SameRow words later g.row.base l) (sym g.kind) same)
 
-        lower-row : (lower : Held) → IsAmong (lock_of lower) (locks_of (rows_of_hold (record { row = lower; above = Some g.row })))
+        lower-row : (lower : HeldRow) → IsAmong (lock_of lower) (locks_of (rows_of_hold (record { row = lower; above = Some g.row })))
         lower-row lower = inl refl
 
-        holds-lower : (lower : Held) → holds c (OnKey stage) ≡ locks_of
+        holds-lower : (lower : HeldRow) → holds c (OnKey stage) ≡ locks_of
             (rows_of_hold (record { row = lower; above = Some g.row })) → HoldsRow lower
         holds-lower lower is = holds-row (record { row = lower; above = Some g.row }) is lower (lower-row lower)
 

@@ -2,7 +2,7 @@
 use Rattle.art_schedules.proofs.Common.{◌≡◌, ◌≢◌, ◌⊎◌, inl, inr, ℕ, ◌+◌, ◌<◌, ◌≤◌, List, true, false, refl, sym, ap, ◌∙◌, subst, arith, Option}
 use Rattle.art_schedules.proofs.Common.{Some, None, cases_lt, same_Some, none-some, Call, Reply, Contents, Shape, Kind, Four, row_words, kind_at}
 use Rattle.art_schedules.proofs.Common.{is_obsolete, released_word, obsolete_word, rows_apart, row_begins, some-words, Variant, Store, Point}
-use Rattle.art_schedules.proofs.Common.{Asks, Setting, locks, answers-asks, Held, Hold, Outcome, Value, Stage, Unlock, Over, setting, reply_for}
+use Rattle.art_schedules.proofs.Common.{Asks, Setting, locks, answers-asks, HeldRow, Hold, Outcome, Value, Stage, Unlock, Over, setting, reply_for}
 use Rattle.art_schedules.proofs.Common.{turn_at, stage_after, release_at, hold_alone, OnKey, call_turn, call_after, Process, Plan, State}
 use Rattle.art_schedules.proofs.Common.{Reached, Means, IsAtRest, SameRow, ChildrenAreRead, lock_of, locks_of, rows_of_hold, Named, Each, holds}
 use Rattle.art_schedules.proofs.Common.{AreDistinct, Effect, Fills, IsAmong, IsAtStage, IsOpen, Keeps, PutsLeaf, held_by, stage_of}
@@ -37,23 +37,23 @@ module _ (read : ChildrenAreRead) (trees : KeptTreesFollow) (effects : EffectsFo
   abbrev c : Setting
   c = setting shape variant call
 
-  abbrev HoldsRow : Held → Type 0
+  abbrev HoldsRow : HeldRow → Type 0
   HoldsRow row = IsAmong (lock_of row) (held_by variant shape call q)
 
   abbrev Kept : Type 0
   Kept = Makes variant shape s p calm after m None
 
-  holds-row : (h : Hold) → holds c (OnKey stage) ≡ locks_of (rows_of_hold h) → (row : Held)
+  holds-row : (h : Hold) → holds c (OnKey stage) ≡ locks_of (rows_of_hold h) → (row : HeldRow)
       → IsAmong (lock_of row) (locks_of (rows_of_hold h)) → HoldsRow row
   holds-row h is row among = subst (IsAmong (lock_of row)) (sym is ∙ ap (holds c) (sym at)) among
 
-  inside : Kept → (row : Held) → IsInTree c.shape calm row → IsInTree c.shape after row
+  inside : Kept → (row : HeldRow) → IsInTree c.shape calm row → IsInTree c.shape after row
   inside made row here = inside-kept c made.goes.claims calm after _ (IsGoneBy None) (ComesInBy None) made.goes.follows row here
       (λ none. none)
 
   -- ---- one row is released, while the upper one is held
 
-  module _ (lower upper : Held) (is : holds c (OnKey stage) ≡ locks_of (rows_of_hold (record { row = lower; above = Some upper })))
+  module _ (lower upper : HeldRow) (is : holds c (OnKey stage) ≡ locks_of (rows_of_hold (record { row = lower; above = Some upper })))
       (live : is_obsolete lower.kept ≡ false) (value : ℕ) (mark : Option Point)
       (turn : turn_at c stage ≡ Asks (Store lower.base value) mark) where
     abbrev both : Hold
@@ -100,7 +100,7 @@ module _ (read : ChildrenAreRead) (trees : KeptTreesFollow) (effects : EffectsFo
           (omega (arith, e, high))).0)
 
   -- where the call is after the release
-  released-at : (row : Held) (among : HoldsRow row) (live : is_obsolete row.kept ≡ false) (value : ℕ) (mark : Option Point)
+  released-at : (row : HeldRow) (among : HoldsRow row) (live : is_obsolete row.kept ≡ false) (value : ℕ) (mark : Option Point)
       → turn_at c stage ≡ Asks (Store row.base value) mark → (next : Stage) → stage_after c stage 0 ≡ next
       → IsAtStage variant shape t p call (OnKey next)
   released-at row among live value mark turn next is =
@@ -130,13 +130,13 @@ module _ (read : ChildrenAreRead) (trees : KeptTreesFollow) (effects : EffectsFo
           (Some point.Unlock) turn
           own-same
 
-      then : IsInTree c.shape calm h.row → (above : Option Held) → h.above ≡ above
+      then : IsInTree c.shape calm h.row → (above : Option HeldRow) → h.above ≡ above
           → IsAtStage variant shape t p call (OnKey (release_at (locks variant) above (Some out)))
       then here above e = released-at h.row among here.live (released_word h.row.kept) (Some point.Unlock) turn
           (release_at (locks variant) above (Some out))
           (ap (λ z. stage_after c z 0) unlock ∙ ap (λ z. release_at (locks variant) z (Some out)) e)
 
-      go : (above : Option Held) → h.above ≡ above → Each (IsInTree c.shape calm) (rows_of_hold h)
+      go : (above : Option HeldRow) → h.above ≡ above → Each (IsInTree c.shape calm) (rows_of_hold h)
           → Each (IsSame calm s.words) (rows_of_hold h)
           → EndStep variant shape s p t calm after m call reply stage
       go None e rows same = Leaves (Over out) (then rows.0 None e) (Answering out is refl) (made rows.0 same.0)
@@ -223,7 +223,7 @@ module _ (read : ChildrenAreRead) (trees : KeptTreesFollow) (effects : EffectsFo
         (subst (λ l. SameRow words later g.row.base l) (sym g.kind) same)
 
     -- the lower row is released
-    lower-released : (lower : Held) → holds c (OnKey stage) ≡ locks_of (rows_of_hold (record { row = lower; above = Some g.row }))
+    lower-released : (lower : HeldRow) → holds c (OnKey stage) ≡ locks_of (rows_of_hold (record { row = lower; above = Some g.row }))
         → IsInTree c.shape calm lower → (value : ℕ) (mark : Option Point) → turn_at c stage ≡ Asks (Store lower.base value) mark
         → (made : Kept)
         → stage_after c stage 0 ≡ Unlock (hold_alone g.row) (Some (Value g.old))

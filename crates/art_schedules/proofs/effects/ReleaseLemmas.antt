@@ -2,10 +2,10 @@
 use Rattle.art_schedules.proofs.Common.{◌≡◌, ◌≢◌, ◌⊎◌, inl, inr, ℕ, ◌+◌, ◌/◌, ◌%◌, ◌<◌, ◌≤◌, List, length, true, false, refl, sym, ap, ◌∙◌}
 use Rattle.art_schedules.proofs.Common.{subst, arith, Option, Some, None, cases_lt, Call, Contents, Shape, Kind, Four, Leaf, row_words}
 use Rattle.art_schedules.proofs.Common.{claims_of, kind_at, is_obsolete, released_word, obsolete_word, row_word, leaf_word, some-words}
-use Rattle.art_schedules.proofs.Common.{claims-few, first-some, row_ends, Variant, Store, Point, Asks, Setting, locks, Held, Stage, setting}
+use Rattle.art_schedules.proofs.Common.{claims-few, first-some, row_ends, Variant, Store, Point, Asks, Setting, locks, HeldRow, Stage, setting}
 use Rattle.art_schedules.proofs.Common.{turn_at, OnKey, call_turn, Process, Plan, State, Means, IsAtRest, SameRow, IsClaimed, ChildrenAreRead}
 use Rattle.art_schedules.proofs.Common.{slot-is, IsChildWord, stored-at, obsolete_obsolete, obsolete_released, way_byte, lock_of, IsKept}
-use Rattle.art_schedules.proofs.Common.{IsAmong, IsBehindVersion, IsOpen, IsSettled, held_by, stage_of}
+use Rattle.art_schedules.proofs.Common.{IsAmong, IsAfterVersion, IsOpen, IsSettled, held_by, stage_of}
 use Rattle.art_schedules.proofs.versions.ChangeLemmas.{index-other}
 use Rattle.art_schedules.proofs.versions.KnownLemmas.{held-is-kept}
 use Rattle.art_schedules.proofs.versions.MoveLemmas.{settled-row}
@@ -14,7 +14,7 @@ use Rattle.art_schedules.proofs.versions.WordFacts.{version-free}
 use Rattle.art_schedules.proofs.Common.{HangsGrown, base_of_effect, kind_of_effect, IsGone, HasEffect, HasFewClaims, EffectsFollow}
 use Rattle.art_schedules.proofs.Common.{KeptTreesFollow, IsUnreached, HasWordAt, IsOld, IsPending, Makes, IsSame}
 use Rattle.std.proofs.Common.{slice_index}
-use Rattle.art_serial.specs.trees.Trees.{IsFree}
+use Rattle.art_sequential.specs.trees.Trees.{IsFree}
 use Rattle.art_schedules.specs.versions.Steady as steady
 use Rattle.art_schedules.proofs.calm.UseLemmas.{with-released}
 use Rattle.art_schedules.proofs.calm.VersionLemmas.{free-busy, free-parts, released-free, obsolete-busy}
@@ -93,12 +93,12 @@ module _ (read : ChildrenAreRead) (trees : KeptTreesFollow) (effects : EffectsFo
   shape = plan.shape
 
   few-claims : HasFewClaims (x.count + 2) after
-  few-claims kind = omega (arith, x.calm_behind.low (claims_of kind) (claims-few kind), x.behind.claims kind)
+  few-claims kind = omega (arith, x.calm_after_step.low (claims_of kind) (claims-few kind), x.behind.claims kind)
 
   claims-rise : (kind : Kind) → slice_index calm (claims_of kind) ≤ slice_index after (claims_of kind)
   claims-rise kind = omega (
     arith,
-    x.calm_behind.low (claims_of kind) (claims-few kind),
+    x.calm_after_step.low (claims_of kind) (claims-few kind),
     x.calm_before.low (claims_of kind) (claims-few kind),
     x.steady.claims kind,
   )
@@ -107,13 +107,13 @@ module _ (read : ChildrenAreRead) (trees : KeptTreesFollow) (effects : EffectsFo
   pub claimed-then : (b : ℕ) (l : Kind) → IsClaimed shape s.words b l → IsClaimed shape after b l
   claimed-then b l claimed = record {
     number = claimed.number;
-    claimed = omega (arith, claimed.claimed, x.steady.claims l, x.calm_behind.low (claims_of l) (claims-few l));
+    claimed = omega (arith, claimed.claimed, x.steady.claims l, x.calm_after_step.low (claims_of l) (claims-few l));
     within = claimed.within;
     is = claimed.is;
   }
 
   as-long : length after ≡ length calm
-  as-long = x.calm_behind.long ∙ sym x.calm_before.long
+  as-long = x.calm_after_step.long ∙ sym x.calm_before.long
 
   -- no word of a row has changed
   pub kept-by-words : ((word : ℕ) → 5 ≤ word → slice_index after word ≡ slice_index calm word) → Makes variant shape s p calm after m None
@@ -121,7 +121,7 @@ module _ (read : ChildrenAreRead) (trees : KeptTreesFollow) (effects : EffectsFo
     goes = record {
       claims = x.count + 2;
       follows = trees shape k (x.count + 2) calm after m rest means
-          (low-words-keep shape k calm after rest as-long x.calm_behind.small claims-rise same) few-claims;
+          (low-words-keep shape k calm after rest as-long x.calm_after_step.small claims-rise same) few-claims;
       gone = λ b none. absurd none;
     };
     by = tt;
@@ -131,13 +131,13 @@ module _ (read : ChildrenAreRead) (trees : KeptTreesFollow) (effects : EffectsFo
       → is_obsolete (slice_index after base) ≡ false
       → OneRow shape calm after base kind
   one-row base kind row same live =
-      rows-are-by-words shape calm after base kind row as-long x.calm_behind.small claims-rise same
-      (x.calm_behind.unlocked base kind row) live
+      rows-are-by-words shape calm after base kind row as-long x.calm_after_step.small claims-rise same
+      (x.calm_after_step.unlocked base kind row) live
 
   -- a row that calm's tree does not reach has changed after its version
   pub kept-filled : (base : ℕ) (kind : Kind) → IsClaimed shape s.words base kind → kind_at shape base ≡ Some kind
       → IsUnreached shape calm base
-      → is_obsolete (slice_index calm base) ≡ false → (word : ℕ) → IsBehindVersion base kind word
+      → is_obsolete (slice_index calm base) ≡ false → (word : ℕ) → IsAfterVersion base kind word
       → ((other : ℕ) → 5 ≤ other → other ≢ word → slice_index after other ≡ slice_index calm other) → 5 ≤ base
       → Makes variant shape s p calm after m None
   kept-filled base kind claimed row none live word behind others late =
@@ -159,7 +159,7 @@ module _ (read : ChildrenAreRead) (trees : KeptTreesFollow) (effects : EffectsFo
   -- ---- a row that the process releases
 
   module _ (call : Call) (q : Process) (o : IsOpen s p call q) (stage : Stage)
-      (at : stage_of variant shape call q ≡ OnKey stage) (row : Held)
+      (at : stage_of variant shape call q ≡ OnKey stage) (row : HeldRow)
       (among : IsAmong (lock_of row) (held_by variant shape call q)) (live : is_obsolete row.kept ≡ false) where
     abbrev c : Setting
     c = setting shape variant call
@@ -207,7 +207,7 @@ module _ (read : ChildrenAreRead) (trees : KeptTreesFollow) (effects : EffectsFo
           ∙ free-busy value (released-free row.kept free-version) (obsolete_released row.kept ∙ live)
 
       after-row : steady.SameWords t.words after row.base row.kind
-      after-row = x.calm_behind.free row.base row.kind its-row free
+      after-row = x.calm_after_step.free row.base row.kind its-row free
 
       pub real-after : SameRow s.words after row.base row.kind
       real-after j low high = steady-row t.words after row.base row.kind after-row j low high ∙ behind-same value mark turn j low high

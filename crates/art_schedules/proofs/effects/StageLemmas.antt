@@ -1,7 +1,7 @@
 -- The stages of work, by their rows.
 use Rattle.art_schedules.proofs.Common.{◌≡◌, ℕ, zero, suc, ◌+◌, Bool, true, false, [], refl, ap, subst, ◌∙◌, inl, inr, ◌==◌, if◌then◌else◌}
 use Rattle.art_schedules.proofs.Common.{slice_index, Option, Some, None, false≢true, Kind, Four, Sixteen, FortyEight, Full, entries_of, Setting}
-use Rattle.art_schedules.proofs.Common.{locks, Held, Keys, Spread, count_in, stage_after, moves_at, put_keys_after, release_at, no_value}
+use Rattle.art_schedules.proofs.Common.{locks, HeldRow, Keys, Spread, count_in, stage_after, moves_at, put_keys_after, release_at, no_value}
 use Rattle.art_schedules.proofs.Common.{copies_at, spreads_at, fill_at, leaf_after, keys_at_after, entries_at, same_Some, none-some, Hold}
 use Rattle.art_schedules.proofs.Common.{Growing, Stage, Lock, Exchange, Wait, Leave, Between, Info, Find, FindKeys, FindMore, FindCount, Slot}
 use Rattle.art_schedules.proofs.Common.{Check, CheckLast, LetGo, Take, Write, ClaimPair, StorePair, PutLoad, PutStore, PutLeaf, PutKeys, PutMore}
@@ -213,7 +213,7 @@ keys-write l Sixteen h keys = inl refl
 keys-write l FortyEight h keys = inl refl
 keys-write l Full h keys = inr (go h.above)
   where
-    go : (above : Option Held) → hold_at (release_at l above (Some no_value)) ≡ None
+    go : (above : Option HeldRow) → hold_at (release_at l above (Some no_value)) ≡ None
     go None = refl
     go (Some a) = refl
 

@@ -1,11 +1,11 @@
 -- A call whose work begins is at work; and what it holds is in calm's tree.
 use Rattle.art_schedules.proofs.Common.{◌≡◌, inl, inr, ℕ, zero, suc, ◌-◌, List, [], ◌∷◌, length, true, false, refl, sym, ap, ◌∙◌, subst}
-use Rattle.art_schedules.proofs.Common.{none-some, Option, Some, None, Reply, Kind, Four, Sixteen, FortyEight, Full, table_words, Setting, Held}
+use Rattle.art_schedules.proofs.Common.{none-some, Option, Some, None, Reply, Kind, Four, Sixteen, FortyEight, Full, table_words, Setting, HeldRow}
 use Rattle.art_schedules.proofs.Common.{Hold, Keys, Outcome, Value, Stage, Work, byte_in, place_in, count_in, work_at, put_at, moves_at}
 use Rattle.art_schedules.proofs.Common.{hold_alone, OnKey, Reached, slot_of, locks_of, rows_of_hold, Each, Named, Knows, holds, IsAmong, here}
 use Rattle.art_schedules.proofs.Common.{RowsOf, Effect, BeginsWork, claims_row, hold_at, writes_at, IsReleasing, Last, Lower, Gone, AtWork}
 use Rattle.art_schedules.proofs.Common.{Claiming, Going, Hanging, AtEnd, Answering, Leaving, IsInTree, IsSame}
-use Rattle.art_stages.specs.declared.stage.Work.TheVariants as work
+use Rattle.art_control_states.specs.declared.stage.Work.TheVariants as work
 use Rattle.art_schedules.proofs.work.WorkLemmas.{holds-work, moves-next}
 use Rattle.art_schedules.proofs.effects.OtherLemmas.{each-of, holds-claiming}
 use Rattle.art_schedules.proofs.effects.StageLemmas.{place-work, work-place}
@@ -83,20 +83,20 @@ module _ (c : Setting) (real calm : List ℕ) (long : length calm ≡ table_word
 -- ---- what is held is in calm's tree
 
 module _ (c : Setting) (real calm : List ℕ) (stage : Stage) where
-  abbrev IsIn : Held → Type 0
+  abbrev IsIn : HeldRow → Type 0
   IsIn row = Reached c.shape calm row.base row.kind
 
-  held-in : (rows : List Held) → Each (IsInTree c.shape calm) rows → (row : Held) → IsAmong row (locks_of rows) → IsIn row
+  held-in : (rows : List HeldRow) → Each (IsInTree c.shape calm) rows → (row : HeldRow) → IsAmong row (locks_of rows) → IsIn row
   held-in [] e row among = absurd among
   held-in (y ∷ rows) e row (inl is) = subst IsIn (sym is) e.0.reached
   held-in (y ∷ rows) e row (inr among) = held-in rows e.1 row among
 
-  by-hold : (h : Hold) → holds c (OnKey stage) ≡ locks_of (rows_of_hold h) → Each (IsInTree c.shape calm) (rows_of_hold h) → (row : Held)
+  by-hold : (h : Hold) → holds c (OnKey stage) ≡ locks_of (rows_of_hold h) → Each (IsInTree c.shape calm) (rows_of_hold h) → (row : HeldRow)
       → IsAmong row (holds c (OnKey stage)) → IsIn row
   by-hold h is rows row among = held-in (rows_of_hold h) rows row (subst (IsAmong row) is among)
 
-  releasing-in : (upper : Held) (e : Effect) (o : Outcome) → IsInTree c.shape calm upper → IsReleasing c real calm upper e o stage
-      → (row : Held)
+  releasing-in : (upper : HeldRow) (e : Effect) (o : Outcome) → IsInTree c.shape calm upper → IsReleasing c real calm upper e o stage
+      → (row : HeldRow)
       → IsAmong row (holds c (OnKey stage)) → IsIn row
   releasing-in upper e o inside (Last is gone) = by-hold (hold_alone upper) (ap (λ z. holds c (OnKey z)) is) (inside, tt)
   releasing-in upper e o inside (Lower lower is low same none) =
@@ -104,12 +104,12 @@ module _ (c : Setting) (real calm : List ℕ) (stage : Stage) where
   releasing-in upper e o inside (Gone lower is value low leaves gone) =
       by-hold (record { row = lower; above = Some upper }) (ap (λ z. holds c (OnKey z)) is) (low, (inside, tt))
 
-  pub work-in : (fresh : Option Named) → AtWork c real calm fresh stage → (row : Held) → IsAmong row (holds c (OnKey stage)) → IsIn row
+  pub work-in : (fresh : Option Named) → AtWork c real calm fresh stage → (row : HeldRow) → IsAmong row (holds c (OnKey stage)) → IsIn row
   work-in fresh (Claiming none g) =
       by-hold g.hold (ap (λ z. holds c (OnKey z)) g.at ∙ holds-claiming c g.hold g.work g.claims) g.rows
   work-in fresh (Going g) = by-hold g.hold (holds-work c (place-work stage g.hold g.place).1) g.rows
   work-in fresh (Hanging g) = releasing-in g.row g.effect (Value g.old) g.inside g.at
 
-  pub end-in : (reply : Reply) → AtEnd c real calm reply stage → (row : Held) → IsAmong row (holds c (OnKey stage)) → IsIn row
+  pub end-in : (reply : Reply) → AtEnd c real calm reply stage → (row : HeldRow) → IsAmong row (holds c (OnKey stage)) → IsIn row
   end-in reply (Answering o is over) row among = absurd (subst (λ z. IsAmong row (holds c (OnKey z))) over among)
   end-in reply (Leaving o h is unlock rows same) row among = by-hold h (ap (λ z. holds c (OnKey z)) unlock) rows row among

@@ -3,7 +3,7 @@ use Rattle.art_schedules.proofs.Common.{◌≡◌, refl, sym, ◌∙◌, subst, 
 use Rattle.art_schedules.proofs.Common.{setting, Walk, at, scan_turn, OnScan, call_begun, Alone, WalksAreTheMaps, IsOver, unwaited, rows_of_scan}
 use Rattle.art_schedules.proofs.Common.{ScansBegin, WalkedScansFind, FoundScansAnswer}
 use Rattle.events.specs.declared.event.Reply.TheVariants as reply
-use Rattle.art_stages.specs.declared.stage.ScanStep.TheVariants.{Over}
+use Rattle.art_control_states.specs.declared.stage.ScanStep.TheVariants.{Over}
 use Rattle.art_schedules.specs.coupled.Walks.{here}
 
 pub scans-begin : ScansBegin

@@ -1,7 +1,7 @@
 -- What a scan knows of the calm tree, after a step.
 use Rattle.art_schedules.proofs.Common.{◌≡◌, ℕ, ◌+◌, ◌≤◌, List, [], ◌∷◌, ◌++◌, refl, sym, ap, ◌∙◌, subst, true, false, arith, Option, Some, None}
 use Rattle.art_schedules.proofs.Common.{false≢true, same_Some, Scan, Contents, Shape, Kind, Four, Sixteen, FortyEight, Full, kind_at, claims_of}
-use Rattle.art_schedules.proofs.Common.{claims-few, Coupled, Access, Load, Point, Asks, word_of, Setting, asks-answers, asks-same, Held}
+use Rattle.art_schedules.proofs.Common.{claims-few, Coupled, Access, Load, Point, Asks, word_of, Setting, asks-answers, asks-same, HeldRow}
 use Rattle.art_schedules.proofs.Common.{ScanStep, FirstKeys, SecondKeys, Index, LoadChild, Release, setting, held, Walk, ScanAt, at, scan_turn}
 use Rattle.art_schedules.proofs.Common.{scan_after, keys_turn, OnScan, told, Plan, State, IsAtRest, SameRow, holds, lock_of, locks_of}
 use Rattle.art_schedules.proofs.Common.{IsAmong, IsAtStage, IsSettled, calm_of, scan_locked, stage_of}
@@ -11,7 +11,7 @@ use Rattle.art_schedules.proofs.Common.{Effect, IsGoneBy, ComesInBy, Follows, Ke
 use Rattle.art_schedules.proofs.Common.{IsOver, HasWalked, ScanGoes, ScanComes, rows_of_scan, ScansComeOn, OthersLeaveTrees, WalkingScansAsk}
 use Rattle.art_schedules.proofs.Common.{IsCoupledStep, IsHeldLive}
 use Rattle.std.proofs.Common.{slice_index}
-use Rattle.art_stages.specs.declared.stage.ScanStep.TheVariants.{Lock, Exchange, Wait, Info, Keys, Over}
+use Rattle.art_control_states.specs.declared.stage.ScanStep.TheVariants.{Lock, Exchange, Wait, Info, Keys, Over}
 use Rattle.art_schedules.proofs.versions.KnownLemmas.{among-front}
 use Rattle.art_schedules.proofs.work.WalkLemmas.{reads-held}
 use Rattle.art_schedules.proofs.coupled.MadeLemmas.{Facts, facts, others-open}
@@ -29,7 +29,7 @@ same-scan : {low high : ℕ} {x y : ScanAt} → OnScan low high x ≡ OnScan low
 same-scan e = cc
 
 -- the rows of a walk are held
-walk-among : (step : ScanStep) (w : Walk) → (IsOver step → ⊥) → (h : Held) → IsAmong h w.rows
+walk-among : (step : ScanStep) (w : Walk) → (IsOver step → ⊥) → (h : HeldRow) → IsAmong h w.rows
     → IsAmong (lock_of h) (locks_of (scan_locked step w))
 walk-among (Info base kind kept) w open-yet h a =
     among-lock h (w.rows ++ held base kind 0 kept ∷ []) (among-front h w.rows (held base kind 0 kept ∷ []) a)
@@ -54,9 +54,9 @@ info-among step w base kind kept e =
 
 module _ (shape : Shape) (low high : ℕ) (calm after : List ℕ) (effect : Option Effect) (x : ScanAt)
     (same : SameOn (rows_of_scan shape low high x) calm after)
-    (kinds : (h : Held) → IsAmong h (rows_of_scan shape low high x) → kind_at shape h.base ≡ Some h.kind)
-    (left : (h : Held) → IsAmong h (rows_of_scan shape low high x) → IsGoneBy effect h.base → ⊥) where
-  stays-at : (h : Held) → IsAmong (lock_of h) (rows_of_scan shape low high x) → StaysAt shape calm after effect h.base
+    (kinds : (h : HeldRow) → IsAmong h (rows_of_scan shape low high x) → kind_at shape h.base ≡ Some h.kind)
+    (left : (h : HeldRow) → IsAmong h (rows_of_scan shape low high x) → IsGoneBy effect h.base → ⊥) where
+  stays-at : (h : HeldRow) → IsAmong (lock_of h) (rows_of_scan shape low high x) → StaysAt shape calm after effect h.base
   stays-at h a kind e =
       let is : h.kind ≡ kind = same_Some h.kind kind (sym (kinds (lock_of h) a) ∙ e) in (
         subst (λ k. SameRow calm after h.base k) is (λ j from to. same (h.base + j) (lock_of h, a, omega arith, omega (arith, to))),
@@ -87,7 +87,7 @@ others-leave-trees plan start words schedule p s t claims m r low high x n pairs
 
 -- ---- its own step
 
-keys-ask : (kind : Kind) (n : Held) → (a : Access) × (mark : Option Point) × (keys_turn kind n ≡ Asks a mark)
+keys-ask : (kind : Kind) (n : HeldRow) → (a : Access) × (mark : Option Point) × (keys_turn kind n ≡ Asks a mark)
 keys-ask Four n = (_, _, refl)
 keys-ask Sixteen n = (_, _, refl)
 keys-ask FortyEight n = (_, _, refl)

@@ -4,7 +4,7 @@ use Rattle.art_schedules.proofs.Common.{false, eqb-true, arith, Option, Some, No
 use Rattle.art_schedules.proofs.Common.{Sixteen, FortyEight, Full, kind_at, row_words, is_locked, is_obsolete, locked_word, released_word}
 use Rattle.art_schedules.proofs.Common.{some-words, rows_apart, Coupled, Access, Load, Store, Swap, Point, Asks, word_of, Setting, load-store}
 use Rattle.art_schedules.proofs.Common.{load-add, store-word, asks-answers, load-word, load-exchange, exchange-store, exchange-word}
-use Rattle.art_schedules.proofs.Common.{exchanges-same, Held, Entry, ScanStep, FirstKeys, SecondKeys, Index, LoadChild, Release, setting, Walk}
+use Rattle.art_schedules.proofs.Common.{exchanges-same, HeldRow, Entry, ScanStep, FirstKeys, SecondKeys, Index, LoadChild, Release, setting, Walk}
 use Rattle.art_schedules.proofs.Common.{ScanAt, at, scan_turn, scan_after, step_after, entry_base, entry_at, keys_turn, release_rows, CallAt}
 use Rattle.art_schedules.proofs.Common.{OnScan, call_turn, call_after, call_begun, told, words_after, Plan, State, SameRow, load-same, stored-at}
 use Rattle.art_schedules.proofs.Common.{taken-locked, Each, Knows, holds, fills, IsKept, lock_of, locks_of, IsAmong, IsWith, Reads, Writes, Ends}
@@ -22,7 +22,7 @@ use Rattle.std.proofs.Common.{◌==◌, slice_index, if◌then◌else◌}
 use Rattle.events.specs.declared.event.Reply.TheVariants as reply
 use Rattle.art_rows.specs.declared.access.Point.TheVariants as point
 use Rattle.art_rows.proofs.TurnLemmas.{exchange-add}
-use Rattle.art_stages.specs.declared.stage.ScanStep.TheVariants.{Lock, Exchange, Wait, Info, Keys, Over}
+use Rattle.art_control_states.specs.declared.stage.ScanStep.TheVariants.{Lock, Exchange, Wait, Info, Keys, Over}
 use Rattle.art_schedules.specs.versions.Effects.{Fills}
 use Rattle.art_schedules.proofs.versions.ScanLemmas.{coupled-scan-does}
 use Rattle.art_schedules.proofs.versions.WithLemmas.{with-more, with-split}
@@ -51,11 +51,11 @@ module _ (shape : Shape) (low high : ℕ) where
   abbrev Walked : List ℕ → List ℕ → ScanAt → Type 0
   Walked calm words x = HasWalked shape low high calm words x
 
-  abbrev rows : ScanAt → List Held
+  abbrev rows : ScanAt → List HeldRow
   rows x = rows_of_scan shape low high x
 
   -- what a scan has walked, by the rows that it holds
-  build : (calm words now : List ℕ) (x : ScanAt) (all : List Held) → rows x ≡ all → unwaited x ≡ x
+  build : (calm words now : List ℕ) (x : ScanAt) (all : List HeldRow) → rows x ≡ all → unwaited x ≡ x
       → Alone c all begun calm (OnScan low high x) now
       → length words ≡ length now → SameOn all now words → Each (IsHeldLive calm words) all → Walked calm words x
   build calm words now x all e plain alone long same own = record {
@@ -68,7 +68,7 @@ module _ (shape : Shape) (low high : ℕ) where
   }
 
   -- a stage at which a row is read
-  keys-load : (kind : Kind) (n : Held) → (word : ℕ) × (mark : Option Point) × (keys_turn kind n ≡ Asks (Load word) mark)
+  keys-load : (kind : Kind) (n : HeldRow) → (word : ℕ) × (mark : Option Point) × (keys_turn kind n ≡ Asks (Load word) mark)
   keys-load Four n = (_, _, refl)
   keys-load Sixteen n = (_, _, refl)
   keys-load FortyEight n = (_, _, refl)
@@ -129,7 +129,7 @@ module _ (plan : Plan) (start : Contents) (words schedule : List ℕ) (p : ℕ) 
     abbrev x : ScanAt
     x = at step w
 
-    abbrev mine : List Held
+    abbrev mine : List HeldRow
     mine = rows_of_scan shape low high x
 
     knows : Knows Settled its (OnScan low high x)
@@ -139,14 +139,14 @@ module _ (plan : Plan) (start : Contents) (words schedule : List ℕ) (p : ℕ) 
     does = coupled-scan-does shape call Settled (λ b k e. settled-row Coupled shape s b k e) f.sound.root low high x knows
 
     -- the rows that it holds
-    among-here : (y : Held) → IsAmong y mine → IsAmong y (held_by Coupled shape call here.process)
+    among-here : (y : HeldRow) → IsAmong y mine → IsAmong y (held_by Coupled shape call here.process)
     among-here y a = subst (λ z. IsAmong y (holds its z)) (sym here.at) a
 
-    row-of : (y : Held) → IsAmong y mine → kind_at shape y.base ≡ Some y.kind
+    row-of : (y : HeldRow) → IsAmong y mine → kind_at shape y.base ≡ Some y.kind
     row-of y a = settled-row Coupled shape s y.base y.kind (kept-row shape s t p words calm after f p call here.process here.is_open
         y (among-here y a))
 
-    locked-of : (y : Held) → IsAmong y mine → is_locked (slice_index s.words y.base) ≡ true
+    locked-of : (y : HeldRow) → IsAmong y mine → is_locked (slice_index s.words y.base) ≡ true
     locked-of y a =
         let kept = held-is-kept Settled its (OnScan low high x) knows y a in
         ap is_locked (f.sound.locked p call here.process here.is_open y (among-here y a))
@@ -177,7 +177,7 @@ module _ (plan : Plan) (start : Contents) (words schedule : List ℕ) (p : ℕ) 
       carried : HasWalked shape low high calm t.words next → HasWalked shape low high after t.words next
       carried k = carry shape low high calm after t.words t.words next (f.then.long ∙ sym f.before.long) refl next-on (λ word of. refl) k
 
-      words-same : ((word value : ℕ) (l : Option Point) → Asks a mark ≡ Asks (Store word value) l → (y : Held) × IsAmong y mine
+      words-same : ((word value : ℕ) (l : Option Point) → Asks a mark ≡ Asks (Store word value) l → (y : HeldRow) × IsAmong y mine
           × (word ≡ y.base))
           → (base : ℕ) (kind : Kind) → kind_at shape base ≡ Some kind → SameRow s.words t.words base kind
       words-same stores = own-same shape s t p words calm after f call here.process here.is_open no-filling
@@ -290,7 +290,7 @@ module _ (plan : Plan) (start : Contents) (words schedule : List ℕ) (p : ℕ) 
       abbrev swap : Access
       swap = Swap base v (locked_word v)
 
-      abbrev old : List Held
+      abbrev old : List HeldRow
       old = rows_of_scan shape low high (at (Exchange entry v) w)
 
       swapped : IsMade shape s t p call here.process swap
@@ -315,7 +315,7 @@ module _ (plan : Plan) (start : Contents) (words schedule : List ℕ) (p : ℕ) 
         to-last : (if slice_index s.words base == v then last else at (Lock entry false) w) ≡ last
         to-last = ap (λ b. if b then last else at (Lock entry false) w) got
 
-        module _ (y : Held) (all : List Held) (based : y.base ≡ base) (version : y.kept ≡ v) (with : IsWith y old all)
+        module _ (y : HeldRow) (all : List HeldRow) (based : y.base ≡ base) (version : y.kept ≡ v) (with : IsWith y old all)
             (kept : IsKept true Settled y) where
           row : kind_at shape y.base ≡ Some y.kind
           row = settled-row Coupled shape s y.base y.kind kept.1
@@ -341,7 +341,7 @@ module _ (plan : Plan) (start : Contents) (words schedule : List ℕ) (p : ℕ) 
           free = ap is_busy at-version ∙ free-busy y.kept kept.0 alive
 
           -- no row that it holds is this one
-          apart : (z : Held) → IsAmong z old → z.base ≢ y.base
+          apart : (z : HeldRow) → IsAmong z old → z.base ≢ y.base
           apart z a e =
               false≢true (sym kept.0 ∙ (ap is_locked (sym at-version) ∙ (ap (λ b. is_locked (slice_index s.words b)) (sym e)
               ∙ locked-of (Exchange entry v) w here z a)))
@@ -390,7 +390,7 @@ module _ (plan : Plan) (start : Contents) (words schedule : List ℕ) (p : ℕ) 
                 (among-each (IsHeldLive calm s.words) z old b k.own)
           ])
             where
-              stay : (z : Held) → kind_at shape z.base ≡ Some z.kind → SameRow s.words t.words z.base z.kind
+              stay : (z : HeldRow) → kind_at shape z.base ≡ Some z.kind → SameRow s.words t.words z.base z.kind
               stay z e = words-same (Exchange entry v) w here swap None refl (λ word value l f. absurd (exchange-store f)) z.base z.kind e
 
           taken : rows_of_scan shape low high last ≡ all → HasWalked shape low high calm t.words last
@@ -463,19 +463,19 @@ module _ (plan : Plan) (start : Contents) (words schedule : List ℕ) (p : ℕ) 
 
   -- ---- rows are released
 
-  is-walked : (hs : List Held) (pairs : List (ℕ × ℕ)) → IsOver (release_rows hs pairs).step
+  is-walked : (hs : List HeldRow) (pairs : List (ℕ × ℕ)) → IsOver (release_rows hs pairs).step
   is-walked [] pairs = tt
   is-walked (y ∷ hs) pairs = tt
 
-  same-pairs : (hs : List Held) (pairs : List (ℕ × ℕ)) → (release_rows hs pairs).walk.pairs ≡ pairs
+  same-pairs : (hs : List HeldRow) (pairs : List (ℕ × ℕ)) → (release_rows hs pairs).walk.pairs ≡ pairs
   same-pairs [] pairs = refl
   same-pairs (y ∷ hs) pairs = refl
 
-  left-rows : (hs : List Held) (pairs : List (ℕ × ℕ)) → rows_of_scan shape low high (release_rows hs pairs) ≡ locks_of hs
+  left-rows : (hs : List HeldRow) (pairs : List (ℕ × ℕ)) → rows_of_scan shape low high (release_rows hs pairs) ≡ locks_of hs
   left-rows [] pairs = refl
   left-rows (y ∷ hs) pairs = refl
 
-  pub releases : (n : Held) (w : Walk) (r : Reply) → IsAtStage Coupled shape s p (Scan low high) (OnScan low high (at (Release n) w))
+  pub releases : (n : HeldRow) (w : Walk) (r : Reply) → IsAtStage Coupled shape s p (Scan low high) (OnScan low high (at (Release n) w))
       → HasPairsFound shape low high calm s.words r (at (Release n) w) → ScanStays shape low high t p calm after r
   releases n w r here k = record {
     next = release_rows w.rows w.pairs;
@@ -500,7 +500,7 @@ module _ (plan : Plan) (start : Contents) (words schedule : List ℕ) (p : ℕ) 
       row : kind_at shape n.base ≡ Some n.kind
       row = row-of (Release n) w here (lock_of n) (inl refl)
 
-      stay : (y : Held) → kind_at shape y.base ≡ Some y.kind → SameRow s.words t.words y.base y.kind
+      stay : (y : HeldRow) → kind_at shape y.base ≡ Some y.kind → SameRow s.words t.words y.base y.kind
       stay y e = words-same (Release n) w here (Store n.base (released_word n.kept)) (Some point.Unlock) refl
           (λ word value l g. (lock_of n, inl refl, store-word (sym g))) y.base y.kind e
 
@@ -509,7 +509,7 @@ module _ (plan : Plan) (start : Contents) (words schedule : List ℕ) (p : ℕ) 
           (access (Release n) w here (Store n.base (released_word n.kept)) (Some point.Unlock) refl).words
           ∙ stored-at s.words n.base (released_word n.kept) (omega (arith, row-inside shape n.base n.kind row, f.sound.long))
 
-      on-calm : (y : Held) → IsAmong y (locks_of w.rows) → SameRow calm after y.base y.kind
+      on-calm : (y : HeldRow) → IsAmong y (locks_of w.rows) → SameRow calm after y.base y.kind
       on-calm y a j from to =
           next-on (Release n) w here (Store n.base (released_word n.kept)) (Some point.Unlock) refl (y.base + j)
           (y, subst (IsAmong y) (sym (left-rows w.rows w.pairs)) a, omega arith, omega (arith, to))

@@ -1,15 +1,15 @@
 -- A scan that has read a word of a row that it holds goes on to a stage where it has not waited yet.
 use Rattle.art_schedules.proofs.Common.{◌≡◌, ℕ, zero, suc, ◌+◌, List, [], ◌∷◌, refl, Bool, true, false, filter, Option, Some, None, Scan, Shape}
 use Rattle.art_schedules.proofs.Common.{Kind, Four, Sixteen, FortyEight, Full, Child, Empty, ChildRow, Leaf, root_base, child_at, child_of}
-use Rattle.art_schedules.proofs.Common.{Coupled, Setting, bytes_of, with_leaf, Held, Frame, Entry, ScanStep, FirstKeys, SecondKeys, Index}
+use Rattle.art_schedules.proofs.Common.{Coupled, Setting, bytes_of, with_leaf, HeldRow, Frame, Entry, ScanStep, FirstKeys, SecondKeys, Index}
 use Rattle.art_schedules.proofs.Common.{LoadChild, Release, row_at, held, setting, keys_one, Walk, ScanAt, at, on_way, frame_of, in_word}
 use Rattle.art_schedules.proofs.Common.{release_rows, slot_at, bytes_at, index_at_list, words_at, child_from, frame_at, way_at, resume_at}
 use Rattle.art_schedules.proofs.Common.{with_frame, with_held, visit_list, visit_at, entry_at, child_after, keys_after_word, step_after, keys16}
 use Rattle.art_schedules.proofs.Common.{walked, unwaited}
 use Rattle.std.proofs.Common.{if◌then◌else◌}
-use Rattle.art_stages.specs.declared.stage.Entry.TheVariants.{Root, Below}
-use Rattle.art_stages.specs.declared.stage.ScanStep.TheVariants.{Lock, Exchange, Wait, Info, Keys, Over}
-use Rattle.art_stages.specs.Scans.{row_begins}
+use Rattle.art_control_states.specs.declared.stage.Entry.TheVariants.{Root, Below}
+use Rattle.art_control_states.specs.declared.stage.ScanStep.TheVariants.{Lock, Exchange, Wait, Info, Keys, Over}
+use Rattle.art_control_states.specs.Scans.{row_begins}
 
 -- the scan has not waited, or begun to take a row
 abbrev pub IsPlainStep : ScanStep → Type 0
@@ -67,7 +67,7 @@ module _ (shape : Shape) (low high : ℕ) where
       go true later = slot-plain (slots x) later
       go false later = later
 
-  words-plain : (r : Held) (w : Walk) (j m : ℕ) (other : ScanAt) → IsPlain other → IsPlain (words_at low high r w j m other)
+  words-plain : (r : HeldRow) (w : Walk) (j m : ℕ) (other : ScanAt) → IsPlain other → IsPlain (words_at low high r w j m other)
   words-plain r w j zero other rest = rest
   words-plain r w j (suc m) other rest = go (filter (in_word j) (bytes_of low high (row_at r))) (words-plain r w (j + 1) m other rest)
     where
@@ -83,7 +83,7 @@ module _ (shape : Shape) (low high : ℕ) where
       (words-plain f.row w (f.index + 1) f.words other rest)
   frame-plain Full w f other rest = bytes-plain _ (λ x. Some (child_at Full f.row.base x)) w f f.byte f.left other rest
 
-  pub released : (hs : List Held) (pairs : List (ℕ × ℕ)) → IsPlain (release_rows hs pairs)
+  pub released : (hs : List HeldRow) (pairs : List (ℕ × ℕ)) → IsPlain (release_rows hs pairs)
   released [] pairs = tt
   released (x ∷ hs) pairs = tt
 
@@ -94,17 +94,17 @@ module _ (shape : Shape) (low high : ℕ) where
   resumed : (w : Walk) → IsPlain (resume_at c low high w)
   resumed w = way-plain w w.way
 
-  begins : (kind : Kind) (r : Held) (w : Walk) → IsPlain (row_begins kind c low high r w)
+  begins : (kind : Kind) (r : HeldRow) (w : Walk) → IsPlain (row_begins kind c low high r w)
   begins Four r w = tt
   begins Sixteen r w = tt
   begins FortyEight r w = words-plain r w 0 32 (resume_at c low high w) (resumed w)
   begins Full r w = frame-plain Full w (frame_of r (keys_one 0) 0 0) (resume_at c low high w) (resumed w)
 
-  listed : (r : Held) (w : Walk) (xs : List ℕ) → IsPlain (visit_list c low high r w xs)
+  listed : (r : HeldRow) (w : Walk) (xs : List ℕ) → IsPlain (visit_list c low high r w xs)
   listed r w [] = resumed w
   listed r w (x ∷ xs) = begins r.kind r w
 
-  visited : (r : Held) (w : Walk) → IsPlain (visit_at c low high r w)
+  visited : (r : HeldRow) (w : Walk) → IsPlain (visit_at c low high r w)
   visited r w = listed r (with_held r w) (bytes_of low high (row_at r))
 
   pub entered : (entry : Entry) (w : Walk) (v : ℕ) → IsPlain (entry_at c low high entry w v)
@@ -116,7 +116,7 @@ module _ (shape : Shape) (low high : ℕ) where
   child-plain w (Leaf key value) = resumed (record { rows = w.rows; pairs = (with_leaf low high key value (walked w)).pairs; way = w.way })
   child-plain w (ChildRow base kind) = tt
 
-  keys-plain : (kind : Kind) (r : Held) (w : Walk) (word : ℕ) → IsPlain (keys_after_word kind c low high r w word)
+  keys-plain : (kind : Kind) (r : HeldRow) (w : Walk) (word : ℕ) → IsPlain (keys_after_word kind c low high r w word)
   keys-plain Four r w word = resumed (with_frame w (frame_of r (keys_one word) 0 0))
   keys-plain Sixteen r w word = tt
   keys-plain FortyEight r w word = resumed (with_frame w (frame_of r (keys_one word) 0 0))

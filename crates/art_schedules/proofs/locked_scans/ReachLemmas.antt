@@ -1,11 +1,11 @@
 -- A row that a scan takes is a row of the calm tree.
 use Rattle.art_schedules.proofs.Common.{◌≡◌, ℕ, List, [], ◌∷◌, ◌++◌, sym, ap, ◌∙◌, subst, true, false, Option, Scan, Shape, Kind, Full}
 use Rattle.art_schedules.proofs.Common.{locked_word, Coupled, Swap, Point, Asks, Setting, asks-answers, load-exchange, store-exchange}
-use Rattle.art_schedules.proofs.Common.{exchange-word, Held, Entry, ScanStep, FirstKeys, SecondKeys, Index, LoadChild, Release, setting, Walk}
+use Rattle.art_schedules.proofs.Common.{exchange-word, HeldRow, Entry, ScanStep, FirstKeys, SecondKeys, Index, LoadChild, Release, setting, Walk}
 use Rattle.art_schedules.proofs.Common.{at, scan_turn, entry_base, call_turn, Reached, root, below, calm_of, KnowsEntry, KnowsTree}
 use Rattle.art_schedules.proofs.Common.{ScansTakeReached, IsOver}
-use Rattle.art_stages.specs.declared.stage.Entry.TheVariants.{Root, Below}
-use Rattle.art_stages.specs.declared.stage.ScanStep.TheVariants.{Lock, Exchange, Wait, Info, Keys, Over}
+use Rattle.art_control_states.specs.declared.stage.Entry.TheVariants.{Root, Below}
+use Rattle.art_control_states.specs.declared.stage.ScanStep.TheVariants.{Lock, Exchange, Wait, Info, Keys, Over}
 use Rattle.art_schedules.proofs.coupled.MadeLemmas.{facts}
 use Rattle.art_schedules.proofs.coupled.RowLemmas.{its-turn}
 use Rattle.art_schedules.proofs.locked_scans.TreeLemmas.{keys-swap}
@@ -14,7 +14,7 @@ module _ (shape : Shape) (calm : List ℕ) (low high : ℕ) where
   abbrev c : Setting
   c = setting shape Coupled (Scan low high)
 
-  entry-reached : (rows : List Held) (entry : Entry) → KnowsEntry shape calm rows entry → (kind : Kind)
+  entry-reached : (rows : List HeldRow) (entry : Entry) → KnowsEntry shape calm rows entry → (kind : Kind)
       × Reached shape calm (entry_base c entry) kind
   entry-reached rows Root k = (Full, root)
   entry-reached rows (Below base kind) k = (kind, below k.reached k.byte k.is_byte k.hangs)

@@ -1,6 +1,6 @@
 -- What a scan has walked stays so where the rows that it holds stay.
 use Rattle.art_schedules.proofs.Common.{◌≡◌, ◌≢◌, inl, inr, ℕ, ◌+◌, ◌-◌, List, [], ◌∷◌, ◌++◌, length, refl, sym, ap, ◌∙◌, subst, arith, cases_eq}
-use Rattle.art_schedules.proofs.Common.{Call, Scan, Shape, Coupled, Setting, Held, setting, ScanAt, OnScan, call_begun, Process, State, SameRow}
+use Rattle.art_schedules.proofs.Common.{Call, Scan, Shape, Coupled, Setting, HeldRow, setting, ScanAt, OnScan, call_begun, Process, State, SameRow}
 use Rattle.art_schedules.proofs.Common.{Each, IsAmong, IsOpen, IsSettled, SameOn, calm_of, held_by, holds, stage_of}
 use Rattle.art_schedules.proofs.versions.KnownLemmas.{held-is-kept}
 use Rattle.art_schedules.proofs.versions.MoveLemmas.{settled-row}
@@ -12,12 +12,12 @@ use Rattle.art_schedules.proofs.coupled.StayLemmas.{own-still}
 use Rattle.art_schedules.proofs.coupled.WalkLemmas.{walks-stay}
 
 -- words that are the same on rows are so on each of them
-on-row : (rows : List Held) (words later : List ℕ) → SameOn rows words later → (h : Held) → IsAmong h rows
+on-row : (rows : List HeldRow) (words later : List ℕ) → SameOn rows words later → (h : HeldRow) → IsAmong h rows
     → SameRow words later h.base h.kind
 on-row rows words later same h a j low high = same (h.base + j) (h, a, omega arith, omega (arith, high))
 
-pub rows-own : (calm after words later : List ℕ) (hs : List Held)
-    → ((h : Held) → IsAmong h hs → SameRow calm after h.base h.kind × SameRow words later h.base h.kind) → Each (IsHeldLive calm words) hs
+pub rows-own : (calm after words later : List ℕ) (hs : List HeldRow)
+    → ((h : HeldRow) → IsAmong h hs → SameRow calm after h.base h.kind × SameRow words later h.base h.kind) → Each (IsHeldLive calm words) hs
     → Each (IsHeldLive after later) hs
 rows-own calm after words later [] same own = tt
 rows-own calm after words later (h ∷ hs) same own =

@@ -2,19 +2,19 @@
 use Rattle.art_schedules.proofs.Common.{◌≡◌, inl, ℕ, List, [], ◌∷◌, ◌++◌, refl, sym, ap, ◌∙◌, subst, true, false, arith, slice_get, Option}
 use Rattle.art_schedules.proofs.Common.{false_from_ne_true, same_Some, Scan, Shape, Kind, Four, Sixteen, FortyEight, Full, root_base}
 use Rattle.art_schedules.proofs.Common.{is_obsolete, locked_word, Coupled, Swap, Point, Asks, Setting, asks-answers, load-exchange}
-use Rattle.art_schedules.proofs.Common.{store-exchange, exchange-word, Held, Entry, ScanStep, FirstKeys, SecondKeys, Index, LoadChild, Release}
+use Rattle.art_schedules.proofs.Common.{store-exchange, exchange-word, HeldRow, Entry, ScanStep, FirstKeys, SecondKeys, Index, LoadChild, Release}
 use Rattle.art_schedules.proofs.Common.{setting, Walk, ScanAt, at, scan_turn, entry_base, keys_turn, OnScan, call_turn, State, root, below}
 use Rattle.art_schedules.proofs.Common.{IsAtRest, leads-root, holds, lock_of, IsAmong, stage_of, held_by, IsAtStage, calm_of, IsLeaving}
 use Rattle.art_schedules.proofs.Common.{ObsoleteLeave, KnowsStep, KnowsTree, ScansTakeLive, IsOver}
 use Rattle.std.proofs.Common.{slice_index}
-use Rattle.art_stages.specs.declared.stage.Entry.TheVariants.{Root, Below}
-use Rattle.art_stages.specs.declared.stage.ScanStep.TheVariants.{Lock, Exchange, Wait, Info, Keys, Over}
+use Rattle.art_control_states.specs.declared.stage.Entry.TheVariants.{Root, Below}
+use Rattle.art_control_states.specs.declared.stage.ScanStep.TheVariants.{Lock, Exchange, Wait, Info, Keys, Over}
 use Rattle.art_schedules.proofs.coupled.MadeLemmas.{Facts, facts}
 use Rattle.art_schedules.proofs.coupled.RowLemmas.{its-turn}
 use Rattle.art_schedules.proofs.work.LockedLemmas.{among-lock}
 use Rattle.art_schedules.proofs.work.CallLemmas.{key-scan}
 
-pub keys-swap : (kind : Kind) (n : Held) (word v w : ℕ) (l : Option Point) → keys_turn kind n ≡ Asks (Swap word v w) l → ⊥
+pub keys-swap : (kind : Kind) (n : HeldRow) (word v w : ℕ) (l : Option Point) → keys_turn kind n ≡ Asks (Swap word v w) l → ⊥
 keys-swap Four n word v w l e = load-exchange e
 keys-swap Sixteen n word v w l e = load-exchange e
 keys-swap FortyEight n word v w l e = load-exchange e
@@ -64,7 +64,7 @@ module _ (shape : Shape) (s t : State) (p : ℕ) (first calm after : List ℕ) (
         (same ∙ sym k.walked.2))
 
     live-step : (step : ScanStep) → IsAtStage Coupled shape s p (Scan low high) (OnScan low high (at step w))
-        → ((IsOver step → ⊥) → KnowsTree shape calm (at step w)) → (h : Held)
+        → ((IsOver step → ⊥) → KnowsTree shape calm (at step w)) → (h : HeldRow)
         (l : Option Point)
         → scan_turn its (at step w) ≡ Asks (Swap h.base h.kept (locked_word h.kept)) l → slice_index s.words h.base ≡ h.kept
         → is_obsolete h.kept ≡ true → ⊥

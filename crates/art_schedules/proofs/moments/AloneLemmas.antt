@@ -4,17 +4,17 @@ use Rattle.art_schedules.proofs.Common.{None, Option, Some, arith, false, false�
 use Rattle.std.proofs.lemmas.Bool.{eqb-true}
 use Rattle.art_schedules.proofs.Common.{take-length, Call, Scan, Reply, Kind, Four, Sixteen, FortyEight, Full, Shape, row_words, kind_at, info_at}
 use Rattle.art_schedules.proofs.Common.{keys_at, more_keys_at, index_at, count_at, is_locked, Optimistic, Load, Point, Asks, Answers, Setting}
-use Rattle.art_schedules.proofs.Common.{FirstKeys, Held, Index, LoadChild, Release, ScanStep, SecondKeys, Walk, act, held}
-use Rattle.art_stages.specs.declared.stage.ScanStep.TheVariants.{Exchange, Keys, Lock}
+use Rattle.art_schedules.proofs.Common.{FirstKeys, HeldRow, Index, LoadChild, Release, ScanStep, SecondKeys, Walk, act, held}
+use Rattle.art_control_states.specs.declared.stage.ScanStep.TheVariants.{Exchange, Keys, Lock}
 use Rattle.art_schedules.proofs.Common.{ScanAt, at, close_at, scan_start, scan_after, step_after, scan_turn, Plan}
-use Rattle.art_serial.proofs.trees.Bytes.{next_of}
+use Rattle.art_sequential.proofs.trees.Bytes.{next_of}
 use Rattle.art_rows.specs.declared.access.Point.TheVariants as point
-use Rattle.art_stages.specs.declared.stage.ScanStep.TheVariants.{Wait, Info, Over}
-use Rattle.art_stages.specs.Scans.{entry_base}
+use Rattle.art_control_states.specs.declared.stage.ScanStep.TheVariants.{Wait, Info, Over}
+use Rattle.art_control_states.specs.Scans.{entry_base}
 use Rattle.art_core.specs.Moments.{Reads, next_word, alone, AnswersAlone}
 use Rattle.art_schedules.proofs.versions.KeyLemmas.{slot-behind}
 use Rattle.art_schedules.proofs.moments.AttemptLemmas.{stage, fold-more, IsSettledWord, Walking, InRows}
-use Rattle.art_schedules.proofs.moments.StandsLemmas.{Stands, Releasing}
+use Rattle.art_schedules.proofs.moments.StandsLemmas.{IsCurrent, Releasing}
 use Rattle.art_schedules.proofs.moments.ScanLemmas.{AllStand}
 use Rattle.art_schedules.proofs.moments.ValidLemmas.{free-unlocked, turn-is, from-load}
 use Rattle.art_schedules.proofs.moments.RowLemmas.{row-within}
@@ -30,7 +30,7 @@ module _ (s : Shape) (some : 1 ≤ s.rows256) (lo hi : ℕ) where
     Stays : step_after c lo hi step w v ≡ at step w → Does step w v
     Restarts : step_after c lo hi step w v ≡ scan_start c → Does step w v
 
-  its-row : (a : List ℕ) (rows : List Held) (base : ℕ) (kind : Kind) → Walking s lo hi a rows → InRows s lo hi rows base kind
+  its-row : (a : List ℕ) (rows : List HeldRow) (base : ℕ) (kind : Kind) → Walking s lo hi a rows → InRows s lo hi rows base kind
       → kind_at s base ≡ Some kind
   its-row a rows base kind h p = ap (kind_at s) (sym p.2) ∙ ((h.entered p.0 p.1).1.row ∙ ap Some p.3)
 
@@ -59,7 +59,7 @@ module _ (s : Shape) (some : 1 ≤ s.rows256) (lo hi : ℕ) where
       go true e = Stays (after ∙ ap (λ b. if b then at step w else other) e)
       go false e = Loads word None turn (inr e)
 
-  check-does : (a : List ℕ) (n : Held) (w : Walk) (v : ℕ) → Releasing s some lo hi a (n ∷ w.rows) → Does (Release n) w v
+  check-does : (a : List ℕ) (n : HeldRow) (w : Walk) (v : ℕ) → Releasing s some lo hi a (n ∷ w.rows) → Does (Release n) w v
   check-does a n w v h = go (is_locked v) refl
     where
       free : is_locked n.kept ≡ false
@@ -73,7 +73,7 @@ module _ (s : Shape) (some : 1 ≤ s.rows256) (lo hi : ℕ) where
       go true e = Restarts (other e (v == n.kept) refl)
       go false e = Loads n.base (Some point.Check) refl (inr e)
 
-  does : (a : List ℕ) (step : ScanStep) (w : Walk) (v : ℕ) → Stands s some lo hi a step w → Does step w v
+  does : (a : List ℕ) (step : ScanStep) (w : Walk) (v : ℕ) → IsCurrent s some lo hi a step w → Does step w v
   does a (Lock entry first) w v h = absurd h
   does a (Exchange entry u) w v h = absurd h
   does a (Wait entry) w v h = wait-does (Wait entry) w v (entry_base c entry) _ refl refl

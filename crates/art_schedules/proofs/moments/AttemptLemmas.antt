@@ -2,7 +2,7 @@
 use Rattle.art_schedules.proofs.Common.{◌≡◌, ◌≢◌, ℕ, ◌+◌, ◌%◌, ◌<◌, ◌≤◌, List, [], ◌∷◌, ◌++◌, length, take, refl, ap, sym, subst, ◌∙◌, false, inl}
 use Rattle.art_schedules.proofs.Common.{None, Option, Scan, Shape, Some, arith, cases_lt, inr, length-append, slice_index, take-length}
 use Rattle.std.specs.Prelude.{◌⊎◌}
-use Rattle.art_schedules.proofs.Common.{row_words, kind_at, is_locked, Load, Point, Asks, Setting, Held, ScanAt, scan_start, scan_after}
+use Rattle.art_schedules.proofs.Common.{row_words, kind_at, is_locked, Load, Point, Asks, Setting, HeldRow, ScanAt, scan_start, scan_after}
 use Rattle.art_schedules.proofs.Common.{scan_turn, optimistic, OfRows, IsAmong}
 use Rattle.art_rows.specs.declared.access.Point.TheVariants as point
 use Rattle.art_schedules.proofs.moments.TimeLemmas.{take-more, index-more, index-last}
@@ -58,13 +58,13 @@ module _ (s : Shape) (lo hi : ℕ) where
   ]
 
   -- The row was entered at i: WAIT loaded its version, and ended there.
-  pub record Entered (attempt : List ℕ) (n : Held) (i : ℕ) : Type 0 where
+  pub record Entered (attempt : List ℕ) (n : HeldRow) (i : ℕ) : Type 0 where
     pub loads : Loads attempt i n.base None
     pub kept : slice_index attempt i ≡ n.kept
     pub free : n.kept % 4 ≡ 0
     pub row : kind_at s n.base ≡ Some n.kind
 
-  pub entered-more : (attempt : List ℕ) (w : ℕ) (n : Held) (i : ℕ) → Entered attempt n i → Entered (attempt ++ w ∷ []) n i
+  pub entered-more : (attempt : List ℕ) (w : ℕ) (n : HeldRow) (i : ℕ) → Entered attempt n i → Entered (attempt ++ w ∷ []) n i
   entered-more attempt w n i h = record {
     loads = loads-more attempt w i n.base None h.loads;
     kept = index-more i attempt w h.loads.made ∙ h.kept;
@@ -73,8 +73,8 @@ module _ (s : Shape) (lo hi : ℕ) where
   }
 
   -- the word is of one of these rows, which was entered no later
-  pub record Covers (attempt : List ℕ) (rows : List Held) (i word : ℕ) : Type 0 where
-    pub row : Held
+  pub record Covers (attempt : List ℕ) (rows : List HeldRow) (i word : ℕ) : Type 0 where
+    pub row : HeldRow
     pub among : IsAmong row rows
     pub entry : ℕ
     pub entered : Entered attempt row entry
@@ -83,16 +83,16 @@ module _ (s : Shape) (lo hi : ℕ) where
     pub below : word < row.base + row_words row.kind
 
   -- all that was read is of these rows
-  pub record Walking (attempt : List ℕ) (rows : List Held) : Type 0 where
-    pub entered : (n : Held) → IsAmong n rows → (i : ℕ) × Entered attempt n i
+  pub record Walking (attempt : List ℕ) (rows : List HeldRow) : Type 0 where
+    pub entered : (n : HeldRow) → IsAmong n rows → (i : ℕ) × Entered attempt n i
     pub covers : (i word : ℕ) (mark : Option Point) → Loads attempt i word mark → IsSettledWord word (slice_index attempt i)
         → (mark ≢ Some point.Check) × Covers attempt rows i word
 
   -- the row is one of these
-  abbrev pub InRows : List Held → OfRows
-  InRows rows base kind = (n : Held) × IsAmong n rows × (n.base ≡ base) × (n.kind ≡ kind)
+  abbrev pub InRows : List HeldRow → OfRows
+  InRows rows base kind = (n : HeldRow) × IsAmong n rows × (n.base ≡ base) × (n.kind ≡ kind)
 
-  pub covers-more : (attempt : List ℕ) (w : ℕ) (rows : List Held) (i word : ℕ) → Covers attempt rows i word
+  pub covers-more : (attempt : List ℕ) (w : ℕ) (rows : List HeldRow) (i word : ℕ) → Covers attempt rows i word
       → Covers (attempt ++ w ∷ []) rows i word
   covers-more attempt w rows i word h = record {
     row = h.row;
@@ -108,9 +108,9 @@ module _ (s : Shape) (lo hi : ℕ) where
   no-check e = cc
 
   -- a word of a row that is among them is read
-  pub walks-on : (attempt : List ℕ) (w : ℕ) (rows : List Held) → Walking attempt rows → ((word : ℕ) (mark : Option Point)
+  pub walks-on : (attempt : List ℕ) (w : ℕ) (rows : List HeldRow) → Walking attempt rows → ((word : ℕ) (mark : Option Point)
       → scan_turn c (stage attempt) ≡ Asks (Load word) mark → IsSettledWord word w
-      → (mark ≢ Some point.Check) × ((n : Held) × IsAmong n rows × (n.base ≤ word) × (word < n.base + row_words n.kind)))
+      → (mark ≢ Some point.Check) × ((n : HeldRow) × IsAmong n rows × (n.base ≤ word) × (word < n.base + row_words n.kind)))
       → Walking (attempt ++ w ∷ []) rows
   walks-on attempt w rows h reads = record {
     entered = λ n a. let e = h.entered n a in (e.0, entered-more attempt w n e.0 e.1);

@@ -3,7 +3,7 @@ use Rattle.art_schedules.proofs.Common.{List, Option, [], ap, arith, false, inl,
 use Rattle.std.specs.Prelude.{◌⊎◌}
 use Rattle.art_schedules.proofs.Common.{Some, None, append-nil, none-some, Call, Get, Reply, Kind, kind_at, info_at, is_locked, seven-words}
 use Rattle.art_schedules.proofs.Common.{Optimistic, Point, Answers, Setting, act, Root, Wait, turn_at, OnKey, call_turn, after_all, call_begun}
-use Rattle.art_schedules.proofs.Common.{call_behind, call_next, behind, Plan, BeginsAttempt, Enters, IsCheckedGet}
+use Rattle.art_schedules.proofs.Common.{call_after_words, call_next, behind, Plan, BeginsAttempt, Enters, IsCheckedGet}
 use Rattle.art_rows.specs.declared.access.Point.TheVariants as point
 use Rattle.art_core.specs.Moments.{Reads}
 use Rattle.art_schedules.specs.moments.Gets.{GoesBy, HasRead}
@@ -18,15 +18,15 @@ module _ (plan : Plan) (key : ℕ) (v : plan.variant ≡ Optimistic) (some : 1 �
   abbrev c : Setting
   c = Rattle.art_schedules.proofs.moments.SeekLemmas.c plan.shape some key
 
-  turn-behind : (got : List ℕ) → act plan.shape plan.variant call got ≡ call_turn c (call_behind c got)
+  turn-behind : (got : List ℕ) → act plan.shape plan.variant call got ≡ call_turn c (call_after_words c got)
   turn-behind got = ap (λ x. act plan.shape x call got) v
-      ∙ (ap (act plan.shape Optimistic call) (sym (append-nil got)) ∙ (sym (behind c got []) ∙ call_next c (call_behind c got)))
+      ∙ (ap (act plan.shape Optimistic call) (sym (append-nil got)) ∙ (sym (behind c got []) ∙ call_next c (call_after_words c got)))
 
   pub turn-is : (attempt : List ℕ) → act plan.shape plan.variant call attempt ≡ turn_at c (stage plan.shape some key attempt)
   turn-is attempt = turn-behind attempt ∙ ap (call_turn c) (all-fold plan.shape some key (Wait Root) attempt)
 
   -- what follows the words of earlier attempts is what follows none
-  begins-anew : (earlier : List ℕ) → call_behind c earlier ≡ OnKey (Wait Root) → BeginsAttempt plan call earlier
+  begins-anew : (earlier : List ℕ) → call_after_words c earlier ≡ OnKey (Wait Root) → BeginsAttempt plan call earlier
   begins-anew earlier e more =
       turn-behind (earlier ++ more)
       ∙ (ap (call_turn c) (all-append plan.shape some key (call_begun c) earlier more ∙ ap (λ x. after_all c x more) e)
@@ -74,7 +74,7 @@ module _ (plan : Plan) (key : ℕ) (v : plan.variant ≡ Optimistic) (some : 1 �
   pub record Checking (got : List ℕ) (reply : Reply) : Type 0 where
     pub is : IsCheckedGet plan key got reply
     pub seeks : AllSeek plan.shape some key is.attempt
-    pub stages : (words : List ℕ) → call_behind c (is.earlier ++ words) ≡ OnKey (stage plan.shape some key words)
+    pub stages : (words : List ℕ) → call_after_words c (is.earlier ++ words) ≡ OnKey (stage plan.shape some key words)
 
   pub checked : (got : List ℕ) (reply : Reply) → act plan.shape plan.variant call got ≡ Answers reply → Checking got reply
   checked got reply answers =

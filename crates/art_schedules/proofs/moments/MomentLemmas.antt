@@ -3,7 +3,7 @@
 use Rattle.art_schedules.proofs.Common.{◌≡◌, ℕ, zero, suc, ◌+◌, ◌-◌, ◌^◌, ◌<◌, ◌≤◌, List, [], ◌∷◌, ◌++◌, length, take, refl, ap, sym, subst, ◌∙◌}
 use Rattle.art_schedules.proofs.Common.{inl, inr, arith, false, slice_get, slice_index, Some, cases_lt, length-append, same_Some, none-some}
 use Rattle.art_schedules.proofs.Common.{take-length, Call, Get, Scan, Reply, Contents, Kind, row_words, is_locked, some-words, rows_apart}
-use Rattle.art_schedules.proofs.Common.{Optimistic, Load, Asks, Answers, act, asks-same, scan_start, scan_turn, call_turn, call_behind, Process}
+use Rattle.art_schedules.proofs.Common.{Optimistic, Load, Asks, Answers, act, asks-same, scan_start, scan_turn, call_turn, call_after_words, Process}
 use Rattle.art_schedules.proofs.Common.{Plan, State, opened_on, begun, run_on, At, IsRun, HasGot, BeginsAttempt, Enters, run-steps, Knows}
 use Rattle.art_schedules.proofs.Common.{optimistic, IsSettled, IsSound, IsSteady, SameWords, GotAt, IsValidated, IsCheckedGet}
 use Rattle.std.proofs.lemmas.List.{length-take}
@@ -384,7 +384,7 @@ module _ (plan : Plan) (start : Contents) (words schedule : List ℕ) (s : State
         let g = gotten i e.reads.made in
         let sound = sound-time g.u (omega (arith, g.before)) g.state g.at in
         let known = sound.knows p get g.process (record { own = g.own; is_open = g.is_open }) in
-        let here = ap (call_behind (optimistic plan.shape get)) (g.got ∙ words-of p q get x.earlier x.attempt in-get i)
+        let here = ap (call_after_words (optimistic plan.shape get)) (g.got ∙ words-of p q get x.earlier x.attempt in-get i)
         ∙ h.stages (take i x.attempt) in
         entering plan.shape run.within.shape.root key (take i x.attempt)
         (get-stage plan.shape run.within.shape.root key (take i x.attempt)) base kind e.reads.mark

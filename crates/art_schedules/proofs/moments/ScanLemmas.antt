@@ -5,27 +5,27 @@ use Rattle.std.specs.Prelude.{◌⊎◌}
 use Rattle.art_schedules.proofs.Common.{FortyEight, Four, Full, Kind, Reply, Sixteen, append-nil, cases_lt, length-append, take-length}
 use Rattle.std.proofs.lemmas.Bool.{eqb-true}
 use Rattle.art_schedules.proofs.Common.{Shape, Child, Empty, ChildRow, Leaf, row_words, kind_at, keys_at, more_keys_at, count_at, index_at}
-use Rattle.art_schedules.proofs.Common.{Access, Answers, Asks, Held, Point, Setting, answers-asks, child_of, row_child, with_leaf}
-use Rattle.art_stages.specs.declared.stage.Entry.TheVariants.{Below}
+use Rattle.art_schedules.proofs.Common.{Access, Answers, Asks, HeldRow, Point, Setting, answers-asks, child_of, row_child, with_leaf}
+use Rattle.art_control_states.specs.declared.stage.Entry.TheVariants.{Below}
 use Rattle.art_schedules.proofs.Common.{FirstKeys, Index, LoadChild, Release, ScanStep, SecondKeys, Walk, held, keys_one}
-use Rattle.art_stages.specs.declared.stage.ScanStep.TheVariants.{Exchange, Keys, Lock}
+use Rattle.art_control_states.specs.declared.stage.ScanStep.TheVariants.{Exchange, Keys, Lock}
 use Rattle.art_schedules.proofs.Common.{ScanAt, at, walked, frame_of, keys16, close_at, with_frame, child_after, scan_start, scan_after}
-use Rattle.art_schedules.proofs.Common.{scan_turn, CallAt, OnScan, after_all, call_begun, call_behind, OfRows, Each, FitsFrame}
+use Rattle.art_schedules.proofs.Common.{scan_turn, CallAt, OnScan, after_all, call_begun, call_after_words, OfRows, Each, FitsFrame}
 use Rattle.art_rows.specs.declared.access.Point.TheVariants as point
-use Rattle.art_stages.specs.declared.stage.Entry.TheVariants.{Root}
-use Rattle.art_stages.specs.declared.stage.ScanStep.TheVariants.{Wait, Info, Over}
+use Rattle.art_control_states.specs.declared.stage.Entry.TheVariants.{Root}
+use Rattle.art_control_states.specs.declared.stage.ScanStep.TheVariants.{Wait, Info, Over}
 use Rattle.art_schedules.proofs.versions.KeyLemmas.{slot-behind}
 use Rattle.art_schedules.proofs.moments.TimeLemmas.{take-more, index-more}
 use Rattle.art_schedules.proofs.moments.AttemptLemmas.{stage, fold, fold-more, IsSettledWord, loads-more, loads-cases, entered-more, covers-more}
 use Rattle.art_schedules.proofs.moments.AttemptLemmas.{Walking, InRows}
-use Rattle.art_schedules.proofs.moments.StandsLemmas.{Releasing, Stands, StandsAt, Next, waits-root, waits-below, visits, checks, reads-on}
+use Rattle.art_schedules.proofs.moments.StandsLemmas.{Releasing, IsCurrent, StandsAt, Next, waits-root, waits-below, visits, checks, reads-on}
 use Rattle.art_schedules.proofs.moments.StandsLemmas.{resumes, released}
 
 module _ (s : Shape) (some : 1 ≤ s.rows256) (lo hi : ℕ) where
   abbrev pub c : Setting
   c = Rattle.art_schedules.proofs.moments.AttemptLemmas.c s lo hi
 
-  abbrev In : List Held → OfRows
+  abbrev In : List HeldRow → OfRows
   In rows = InRows s lo hi rows
 
   abbrev Goes : List ℕ → ScanStep → Walk → ℕ → Type 0
@@ -34,7 +34,7 @@ module _ (s : Shape) (some : 1 ≤ s.rows256) (lo hi : ℕ) where
   -- a row's keys, an index word, a child
   keys-go : (a : List ℕ) (base : ℕ) (kind : Kind) (info kept : ℕ) (w : Walk) (word : ℕ)
       → scan_turn c (stage s lo hi a) ≡ scan_turn c (at (Keys (held base kind info kept)) w)
-      → Stands s some lo hi a (Keys (held base kind info kept)) w
+      → IsCurrent s some lo hi a (Keys (held base kind info kept)) w
       → Goes a (Keys (held base kind info kept)) w word
   keys-go a base Four info kept w word turn h =
       let more = reads-on s some lo hi a word w.rows base Four (keys_at base) h.0 h.2 turn (omega arith) (omega arith) in
@@ -124,7 +124,7 @@ module _ (s : Shape) (some : 1 ≤ s.rows256) (lo hi : ℕ) where
   }
 
   goes : (a : List ℕ) (step : ScanStep) (w : Walk) (word : ℕ) → scan_turn c (stage s lo hi a) ≡ scan_turn c (at step w)
-      → Stands s some lo hi a step w
+      → IsCurrent s some lo hi a step w
       → Goes a step w word
   goes a (Lock entry first) w word turn h = absurd h
   goes a (Exchange entry v) w word turn h = absurd h
@@ -171,7 +171,7 @@ module _ (s : Shape) (some : 1 ≤ s.rows256) (lo hi : ℕ) where
 
   pub all-append : (x : CallAt) (ws vs : List ℕ) → after_all c x (ws ++ vs) ≡ after_all c (after_all c x ws) vs
   all-append x [] vs = refl
-  all-append x (w ∷ ws) vs = all-append (Rattle.art_stages.specs.Calls.call_after c x w) ws vs
+  all-append x (w ∷ ws) vs = all-append (Rattle.art_control_states.specs.Calls.call_after c x w) ws vs
 
   -- the rows are such after each of the attempt's words
   abbrev pub AllStand : List ℕ → Type 0
@@ -203,10 +203,10 @@ module _ (s : Shape) (some : 1 ≤ s.rows256) (lo hi : ℕ) where
     pub earlier : List ℕ
     pub attempt : List ℕ
     pub all : got ≡ earlier ++ attempt
-    pub begins : call_behind c earlier ≡ OnScan lo hi (scan_start c)
+    pub begins : call_after_words c earlier ≡ OnScan lo hi (scan_start c)
     pub stands : AllStand attempt
 
-  attempts : (earlier attempt rest : List ℕ) → call_behind c earlier ≡ OnScan lo hi (scan_start c) → AllStand attempt
+  attempts : (earlier attempt rest : List ℕ) → call_after_words c earlier ≡ OnScan lo hi (scan_start c) → AllStand attempt
       → Attempted (earlier ++ (attempt ++ rest))
   attempts earlier attempt [] begins stands =
       record { earlier = earlier; attempt = attempt; all = ap (λ l. earlier ++ l) (append-nil attempt); begins = begins; stands = stands }
@@ -235,13 +235,13 @@ module _ (s : Shape) (some : 1 ≤ s.rows256) (lo hi : ℕ) where
       → StandsAt s some lo hi attempt (stage s lo hi attempt) → Releasing s some lo hi attempt []
   answered attempt reply turn stands = go (stage s lo hi attempt).step (stage s lo hi attempt).walk turn stands
     where
-      keys-ask : (kind : Kind) (n : Held) → Rattle.art_stages.specs.Scans.keys_turn kind n ≡ Answers reply → ⊥
+      keys-ask : (kind : Kind) (n : HeldRow) → Rattle.art_control_states.specs.Scans.keys_turn kind n ≡ Answers reply → ⊥
       keys-ask Four n e = asks-no-reply e
       keys-ask Sixteen n e = asks-no-reply e
       keys-ask FortyEight n e = asks-no-reply e
       keys-ask Full n e = asks-no-reply e
 
-      go : (step : ScanStep) (w : Walk) → scan_turn c (at step w) ≡ Answers reply → Stands s some lo hi attempt step w
+      go : (step : ScanStep) (w : Walk) → scan_turn c (at step w) ≡ Answers reply → IsCurrent s some lo hi attempt step w
           → Releasing s some lo hi attempt []
       go (Lock entry first) w e h = absurd h
       go (Exchange entry v) w e h = absurd h

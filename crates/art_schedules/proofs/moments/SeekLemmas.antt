@@ -9,25 +9,25 @@ use Rattle.art_schedules.proofs.Common.{take-length, Get, Reply, kind_at-base_of
 use Rattle.art_schedules.proofs.Common.{ChildRow, Leaf, row_words, kind_at, root_base, info_at, keys_at, more_keys_at, index_at, count_at}
 use Rattle.art_schedules.proofs.Common.{child_at, is_locked, is_obsolete, entries_of, place_of, child_of, key_bytes, seven-words, key_byte-small}
 use Rattle.art_schedules.proofs.Common.{Load, Point, Asks, Answers, Setting, key_of, path_differs_at, loads-same, answers-asks, asks-answers}
-use Rattle.art_schedules.proofs.Common.{Held, Finding, Lacks, Position, Down, Outcome, Root, Stage, Wait, Between, Info, Find, FindKeys, FindMore}
+use Rattle.art_schedules.proofs.Common.{HeldRow, Finding, Lacks, Position, Down, Outcome, Root, Stage, Wait, Between, Info, Find, FindKeys, FindMore}
 use Rattle.art_schedules.proofs.Common.{Slot, Check, CheckLast, Over, row_at, held, keys_among, byte_in, turn_at, find_at, among_at, keys_one}
-use Rattle.art_schedules.proofs.Common.{no_value, seek_unlocked, below_at, CallAt, OnKey, call_after, after_all, call_begun, call_behind}
+use Rattle.art_schedules.proofs.Common.{no_value, seek_unlocked, below_at, CallAt, OnKey, call_after, after_all, call_begun, call_after_words}
 use Rattle.art_schedules.proofs.Common.{optimistic, IsSlot, OfRows, KnowsKey}
 use Rattle.std.specs.Prelude.{option_map}
 use Rattle.events.specs.declared.event.Reply.TheVariants as replies
 use Rattle.art_rows.specs.Words.{first_difference, info_of}
 use Rattle.art_rows.specs.declared.access.Point.TheVariants as point
 use Rattle.art_rows.proofs.TurnLemmas.{answers-same}
-use Rattle.art_stages.specs.declared.stage.Keys.{Keys}
-use Rattle.art_stages.specs.declared.stage.Finding.TheVariants.{Has}
-use Rattle.art_stages.specs.declared.stage.Outcome.TheVariants.{Value}
-use Rattle.art_stages.specs.declared.stage.Target.TheVariants.{Below}
-use Rattle.art_stages.specs.Stages.{root_place, reply_for}
-use Rattle.art_stages.specs.Automaton.{stage_after, find_turn, words_at}
+use Rattle.art_control_states.specs.declared.stage.Keys.{Keys}
+use Rattle.art_control_states.specs.declared.stage.Finding.TheVariants.{Has}
+use Rattle.art_control_states.specs.declared.stage.Outcome.TheVariants.{Value}
+use Rattle.art_control_states.specs.declared.stage.Target.TheVariants.{Below}
+use Rattle.art_control_states.specs.Stages.{root_place, reply_for}
+use Rattle.art_control_states.specs.Automaton.{stage_after, find_turn, words_at}
 use Rattle.art_core.specs.Meaning.{slot_of, entry_slot, child_in, child_on}
 use Rattle.art_schedules.proofs.versions.KeyLemmas.{slot-behind}
 use Rattle.art_schedules.proofs.versions.WordFacts.{place-fits, entry-fits}
-use Rattle.art_schedules.specs.moments.RowReplies.{reply_of_child, reply_behind, row_reply}
+use Rattle.art_schedules.specs.moments.RowReplies.{reply_of_child, reply_after, row_reply}
 use Rattle.art_schedules.proofs.moments.TimeLemmas.{take-more, index-more, index-last}
 use Rattle.art_schedules.proofs.moments.ScanLemmas.{child-is-row}
 use Rattle.art_schedules.proofs.moments.RowLemmas.{row-within}
@@ -200,19 +200,19 @@ module _ (s : Shape) (some : 1 ≤ s.rows256) (key : ℕ) where
   )
   info-more a w entry base info most (inr h) = inr (h.0, h.1, loads-more a w h.0 (info_at base) None h.2, index-more h.0 a w h.2.made ∙ h.3)
 
-  abbrev path_of : Held → List ℕ
+  abbrev path_of : HeldRow → List ℕ
   path_of n = (info_of n.kind n.info).path
 
   -- the row that is read: it was entered last, and its path begins the key
-  pub record Reading (a : List ℕ) (n : Held) (entry : ℕ) : Type 0 where
+  pub record Reading (a : List ℕ) (n : HeldRow) (entry : ℕ) : Type 0 where
     pub last : Last a n.base n.kind n.kept entry
     pub info : InfoOf a entry n.base n.info
     pub fits : first_difference (path_of n) (key_bytes key) ≡ None
 
-  earlier : (a : List ℕ) (n : Held) (entry : ℕ) → Reading a n entry → entry ≤ length a
+  earlier : (a : List ℕ) (n : HeldRow) (entry : ℕ) → Reading a n entry → entry ≤ length a
   earlier a n entry h = omega (arith, h.last.entered.loads.made)
 
-  reading-more : (a : List ℕ) (w : ℕ) (n : Held) (entry x : ℕ) (m : Option Point) → Reading a n entry
+  reading-more : (a : List ℕ) (w : ℕ) (n : HeldRow) (entry x : ℕ) (m : Option Point) → Reading a n entry
       → turn_at c (stage a) ≡ Asks (Load x) m
       → n.base < x → x < n.base + row_words n.kind → Reading (a ++ w ∷ []) n entry
   reading-more a w n entry x m h turn low high = record {
@@ -221,22 +221,22 @@ module _ (s : Shape) (some : 1 ≤ s.rows256) (key : ℕ) where
     fits = h.fits;
   }
 
-  abbrev Agreed : List ℕ → ℕ → Held → List ℕ → Type 0
+  abbrev Agreed : List ℕ → ℕ → HeldRow → List ℕ → Type 0
   Agreed a entry n words = Agrees a entry n.base n.kind words
 
   -- What FIND has seen so far, in any words that have what was read.
 
-  abbrev IsWord : List ℕ → ℕ → Held → ℕ → ℕ → Type 0
+  abbrev IsWord : List ℕ → ℕ → HeldRow → ℕ → ℕ → Type 0
   IsWord a entry n word value = (words : List ℕ) → Agreed a entry n words → slice_index words word ≡ value
 
-  abbrev IsSlotOf : List ℕ → ℕ → Held → Option ℕ → Type 0
+  abbrev IsSlotOf : List ℕ → ℕ → HeldRow → Option ℕ → Type 0
   IsSlotOf a entry n slot = (words : List ℕ) → Agreed a entry n words → slot_of words n.base n.kind (byte_in c n) ≡ slot
 
   abbrev seen : Finding → Child
   seen (Lacks keys) = Empty
   seen (Has slot child) = child
 
-  abbrev Sees : List ℕ → ℕ → Held → Finding → Type 0
+  abbrev Sees : List ℕ → ℕ → HeldRow → Finding → Type 0
   Sees a entry n f = (words : List ℕ) → Agreed a entry n words → child_on s words n.base n.kind (byte_in c n) ≡ seen f
 
   abbrev IsFinding : Finding → Type 0
@@ -319,7 +319,7 @@ module _ (s : Shape) (some : 1 ≤ s.rows256) (key : ℕ) where
         → IsSlotOf a entry p.row (Some slot)
         → Seeks a (Slot p slot)
     checks : (p : Position) → (f : Finding) → (entry : ℕ) → Reading a p.row entry → IsFinding f → Sees a entry p.row f → Seeks a (Check p f)
-    checks_last : (n : Held) → (place entry : ℕ) → Last a n.base n.kind n.kept entry → InfoOf a entry n.base n.info
+    checks_last : (n : HeldRow) → (place entry : ℕ) → Last a n.base n.kind n.kept entry → InfoOf a entry n.base n.info
         → first_difference (path_of n) (key_bytes key) ≡ Some place → Seeks a (CheckLast n)
     over : (outcome : Outcome) → Done a (reply_for outcome) → Seeks a (Over outcome)
 
@@ -337,10 +337,10 @@ module _ (s : Shape) (some : 1 ≤ s.rows256) (key : ℕ) where
       go None e is = checks p (Lacks keys) entry h tt (λ words g. ap (child_in s words) (is words g))
       go (Some place) e is = at_slot p _ entry h (place, place-fits p.row.kind keys (byte_in c p.row) place e, refl) is
 
-  abbrev pos : ℕ → Kind → ℕ → ℕ → Option Held → ℕ → Position
+  abbrev pos : ℕ → Kind → ℕ → ℕ → Option HeldRow → ℕ → Position
   pos base kind info kept above slot = record { row = held base kind info kept; above = above; slot = slot }
 
-  find-go : (a : List ℕ) (base : ℕ) (kind : Kind) (info kept : ℕ) (above : Option Held) (slot w entry : ℕ)
+  find-go : (a : List ℕ) (base : ℕ) (kind : Kind) (info kept : ℕ) (above : Option HeldRow) (slot w entry : ℕ)
       → turn_at c (stage a) ≡ find_turn kind c (held base kind info kept) → Reading a (held base kind info kept) entry
       → Seeks (a ++ w ∷ []) (find_at false false false kind c (pos base kind info kept above slot) w)
   find-go a base Four info kept above slot w entry turn h =
@@ -356,7 +356,7 @@ module _ (s : Shape) (some : 1 ≤ s.rows256) (key : ℕ) where
       (agrees-now a w entry base Sixteen (count_at Sixteen base) None turn (earlier a n entry h) (omega arith) (omega arith))
   find-go a base FortyEight info kept above slot w entry turn h = go (slice_index (entries_of w) (byte_in c n % 8) == 0) refl
     where
-      n : Held
+      n : HeldRow
       n = held base FortyEight info kept
 
       p : Position
@@ -397,7 +397,7 @@ module _ (s : Shape) (some : 1 ≤ s.rows256) (key : ℕ) where
   Next a st w = Seeks (a ++ w ∷ []) (stage_after c st w) ⊎ (stage_after c st w ≡ Wait Root)
 
   -- the row was checked after FIND
-  module _ (a : List ℕ) (n : Held) (entry : ℕ) (h : Checked a n.base n.kind entry) (info : InfoOf a entry n.base n.info)
+  module _ (a : List ℕ) (n : HeldRow) (entry : ℕ) (h : Checked a n.base n.kind entry) (info : InfoOf a entry n.base n.info)
       (fits : first_difference (path_of n) (key_bytes key) ≡ None) where
     answers : (child : Child) (reply : Reply) → ((words : List ℕ) → Agreed a entry n words → child_on s words n.base n.kind
         (byte_in c n) ≡ child)
@@ -409,7 +409,7 @@ module _ (s : Shape) (some : 1 ≤ s.rows256) (key : ℕ) where
       checked = h;
       info = n.info;
       goes_by = info;
-      says = λ words g. ap (λ o. reply_behind o (reply_of_child key (child_on s words n.base n.kind (byte_in c n)))) fits
+      says = λ words g. ap (λ o. reply_after o (reply_of_child key (child_on s words n.base n.kind (byte_in c n)))) fits
           ∙ (ap (reply_of_child key) (is words g) ∙ replies);
     }
 
@@ -537,7 +537,7 @@ module _ (s : Shape) (some : 1 ≤ s.rows256) (key : ℕ) where
         checked = checked-now a w n.base n.kind n.kept entry h turn (eqb-true w n.kept e);
         info = n.info;
         goes_by = info-more a w entry n.base n.info (omega (arith, h.entered.loads.made)) info;
-        says = λ words g. ap (λ o. reply_behind o (reply_of_child key (child_on s words n.base n.kind (byte_in c n)))) differs;
+        says = λ words g. ap (λ o. reply_after o (reply_of_child key (child_on s words n.base n.kind (byte_in c n)))) differs;
       }))
       go false e = inr refl
   goes a st w turn (over outcome h) = inl (over outcome (over-more a w _ _ h turn))
@@ -554,7 +554,7 @@ module _ (s : Shape) (some : 1 ≤ s.rows256) (key : ℕ) where
       within : (b x : ℕ) (k : Kind) → kind_at s b ≡ Some k → x ≡ base → b < x → x < b + row_words k → P base kind
       within b x k at e low high = absurd (none-some kind (sym (row-within s b x k at low high) ∙ (ap (kind_at s) e ∙ row)))
 
-      find : (k : Kind) (n : Held) → kind_at s n.base ≡ Some k → find_turn k c n ≡ Asks (Load base) mark → P base kind
+      find : (k : Kind) (n : HeldRow) → kind_at s n.base ≡ Some k → find_turn k c n ≡ Asks (Load base) mark → P base kind
       find Four n at e = within n.base (keys_at n.base) Four at (loads-same e).0 (omega arith) (omega arith)
       find Sixteen n at e = within n.base (count_at Sixteen n.base) Sixteen at (loads-same e).0 (omega arith) (omega arith)
       find FortyEight n at e =
@@ -620,10 +620,10 @@ module _ (s : Shape) (some : 1 ≤ s.rows256) (key : ℕ) where
     pub earlier : List ℕ
     pub attempt : List ℕ
     pub all : got ≡ earlier ++ attempt
-    pub begins : call_behind c earlier ≡ OnKey (Wait Root)
+    pub begins : call_after_words c earlier ≡ OnKey (Wait Root)
     pub seeks : AllSeek attempt
 
-  attempts : (earlier attempt rest : List ℕ) → call_behind c earlier ≡ OnKey (Wait Root) → AllSeek attempt
+  attempts : (earlier attempt rest : List ℕ) → call_after_words c earlier ≡ OnKey (Wait Root) → AllSeek attempt
       → Attempted (earlier ++ (attempt ++ rest))
   attempts earlier attempt [] begins seeks =
       record { earlier = earlier; attempt = attempt; all = ap (λ l. earlier ++ l) (append-nil attempt); begins = begins; seeks = seeks }
@@ -646,7 +646,7 @@ module _ (s : Shape) (some : 1 ≤ s.rows256) (key : ℕ) where
       → Done attempt reply
   answered attempt reply turn seeks = go (stage attempt) turn seeks
     where
-      find-asks : (kind : Kind) (n : Held) → find_turn kind c n ≡ Answers reply → ⊥
+      find-asks : (kind : Kind) (n : HeldRow) → find_turn kind c n ≡ Answers reply → ⊥
       find-asks Four n e = asks-answers e
       find-asks Sixteen n e = asks-answers e
       find-asks FortyEight n e = asks-answers e

@@ -4,14 +4,14 @@ use Rattle.art_schedules.proofs.Common.{None, Option, Some, arith, false, if◌t
 use Rattle.std.specs.Prelude.{◌⊎◌}
 use Rattle.art_schedules.proofs.Common.{false≢true, none-some, same_Some, kind_at-base_of, Kind, FortyEight, Full, Shape, row_words, kind_at}
 use Rattle.art_schedules.proofs.Common.{root_base, info_at, is_locked, is_obsolete, seven-words, Load, Point, Asks, Setting, bytes_of, has_row}
-use Rattle.art_schedules.proofs.Common.{FirstKeys, Frame, Held, Index, LoadChild, ScanStep, SecondKeys, loads-same}
-use Rattle.art_stages.specs.declared.stage.Entry.TheVariants.{Below}
-use Rattle.art_stages.specs.declared.stage.ScanStep.TheVariants.{Exchange, Keys, Lock}
+use Rattle.art_schedules.proofs.Common.{FirstKeys, Frame, HeldRow, Index, LoadChild, ScanStep, SecondKeys, loads-same}
+use Rattle.art_control_states.specs.declared.stage.Entry.TheVariants.{Below}
+use Rattle.art_control_states.specs.declared.stage.ScanStep.TheVariants.{Exchange, Keys, Lock}
 use Rattle.art_schedules.proofs.Common.{Release, row_at, held, Walk, ScanAt, at, release_rows, resume_at, visit_list, entry_at, scan_start}
 use Rattle.art_schedules.proofs.Common.{step_after, scan_turn, OfRows, Each, IsSlot, FitsFrame, IsAmong}
 use Rattle.art_rows.specs.declared.access.Point.TheVariants as point
-use Rattle.art_stages.specs.declared.stage.Entry.TheVariants.{Root}
-use Rattle.art_stages.specs.declared.stage.ScanStep.TheVariants.{Wait, Info, Over}
+use Rattle.art_control_states.specs.declared.stage.Entry.TheVariants.{Root}
+use Rattle.art_control_states.specs.declared.stage.ScanStep.TheVariants.{Wait, Info, Over}
 use Rattle.art_schedules.proofs.versions.WordFacts.{free-version}
 use Rattle.art_schedules.proofs.versions.KeyLemmas.{each-weaker}
 use Rattle.art_schedules.proofs.moments.TimeLemmas.{index-more, index-last}
@@ -20,7 +20,7 @@ use Rattle.art_schedules.proofs.moments.AttemptLemmas.{Walking, InRows, covers-m
 use Rattle.art_schedules.proofs.moments.WalkLemmas.{resumed, listed}
 use Rattle.art_schedules.proofs.versions.KnownLemmas.{among-front, among-last, found-row}
 
-among-cases : (n m : Held) (xs : List Held) → IsAmong n (xs ++ m ∷ []) → IsAmong n xs ⊎ (n ≡ m)
+among-cases : (n m : HeldRow) (xs : List HeldRow) → IsAmong n (xs ++ m ∷ []) → IsAmong n xs ⊎ (n ≡ m)
 among-cases n m [] (inl e) = inr e
 among-cases n m [] (inr a) = absurd a
 among-cases n m (x ∷ xs) (inl e) = inl (inl e)
@@ -33,49 +33,49 @@ module _ (s : Shape) (some : 1 ≤ s.rows256) (lo hi : ℕ) where
   abbrev c : Setting
   c = Rattle.art_schedules.proofs.moments.AttemptLemmas.c s lo hi
 
-  abbrev Reading : List ℕ → List Held → Type 0
+  abbrev Reading : List ℕ → List HeldRow → Type 0
   Reading a rows = Walking s lo hi a rows
 
-  abbrev In : List Held → OfRows
+  abbrev In : List HeldRow → OfRows
   In rows = InRows s lo hi rows
 
-  abbrev Frames : List Held → List Frame → Type 0
+  abbrev Frames : List HeldRow → List Frame → Type 0
   Frames rows way = Each (FitsFrame (In rows)) way
 
   -- the rows are checked, one after another; these are left
-  pub record Releasing (attempt : List ℕ) (left : List Held) : Type 0 where
-    pub rows : List Held
+  pub record Releasing (attempt : List ℕ) (left : List HeldRow) : Type 0 where
+    pub rows : List HeldRow
     pub m : ℕ
     pub most : m ≤ length attempt
-    pub entered : (n : Held) → IsAmong n rows → (i : ℕ) × Entered s lo hi attempt n i × (i < m)
-    pub within : (n : Held) → IsAmong n left → IsAmong n rows
+    pub entered : (n : HeldRow) → IsAmong n rows → (i : ℕ) × Entered s lo hi attempt n i × (i < m)
+    pub within : (n : HeldRow) → IsAmong n left → IsAmong n rows
     pub reads : (i word : ℕ) (mark : Option Point) → Loads s lo hi attempt i word mark → IsSettledWord s lo hi word (slice_index attempt i)
         → ((i < m) × (mark ≢ Some point.Check) × Covers s lo hi attempt rows i word)
-        ⊎ ((m ≤ i) × (mark ≡ Some point.Check) × (n : Held) × IsAmong n rows × (word ≡ n.base) × (slice_index attempt i ≡ n.kept))
-    pub checked : (n : Held) → IsAmong n rows
+        ⊎ ((m ≤ i) × (mark ≡ Some point.Check) × (n : HeldRow) × IsAmong n rows × (word ≡ n.base) × (slice_index attempt i ≡ n.kept))
+    pub checked : (n : HeldRow) → IsAmong n rows
         → IsAmong n left ⊎ ((j : ℕ) × (m ≤ j) × Loads s lo hi attempt j n.base (Some point.Check) × (slice_index attempt j ≡ n.kept))
 
-  abbrev pub Stands : List ℕ → ScanStep → Walk → Type 0
-  Stands a (Lock entry first) w = ⊥
-  Stands a (Exchange entry v) w = ⊥
-  Stands a (Wait Root) w = Reading a [] × (w.rows ≡ []) × (w.way ≡ [])
-  Stands a (Wait (Below base kind)) w = Reading a w.rows × Frames w.rows w.way × (kind_at s base ≡ Some kind)
-  Stands a (Info base kind kept) w = (prev : List ℕ) × (a ≡ prev ++ kept ∷ []) × Reading prev w.rows × Frames w.rows w.way
+  abbrev pub IsCurrent : List ℕ → ScanStep → Walk → Type 0
+  IsCurrent a (Lock entry first) w = ⊥
+  IsCurrent a (Exchange entry v) w = ⊥
+  IsCurrent a (Wait Root) w = Reading a [] × (w.rows ≡ []) × (w.way ≡ [])
+  IsCurrent a (Wait (Below base kind)) w = Reading a w.rows × Frames w.rows w.way × (kind_at s base ≡ Some kind)
+  IsCurrent a (Info base kind kept) w = (prev : List ℕ) × (a ≡ prev ++ kept ∷ []) × Reading prev w.rows × Frames w.rows w.way
       × (kind_at s base ≡ Some kind)
       × (kept % 4 ≡ 0) × (scan_turn c (stage s lo hi prev) ≡ Asks (Load base) None)
-  Stands a (Keys n) w = Reading a w.rows × Frames w.rows w.way × In w.rows n.base n.kind
-  Stands a (FirstKeys n count) w = Reading a w.rows × Frames w.rows w.way × In w.rows n.base n.kind
-  Stands a (SecondKeys n count first) w = Reading a w.rows × Frames w.rows w.way × In w.rows n.base n.kind
-  Stands a (Index n j m) w = Reading a w.rows × Frames w.rows w.way × In w.rows n.base n.kind × (n.kind ≡ FortyEight) × (j < 32)
-  Stands a (LoadChild f slot) w = Reading a w.rows × Frames w.rows w.way × FitsFrame (In w.rows) f × IsSlot f.row.base f.row.kind slot
-  Stands a (Release n) w = Releasing a (n ∷ w.rows)
-  Stands a Over w = Releasing a []
+  IsCurrent a (Keys n) w = Reading a w.rows × Frames w.rows w.way × In w.rows n.base n.kind
+  IsCurrent a (FirstKeys n count) w = Reading a w.rows × Frames w.rows w.way × In w.rows n.base n.kind
+  IsCurrent a (SecondKeys n count first) w = Reading a w.rows × Frames w.rows w.way × In w.rows n.base n.kind
+  IsCurrent a (Index n j m) w = Reading a w.rows × Frames w.rows w.way × In w.rows n.base n.kind × (n.kind ≡ FortyEight) × (j < 32)
+  IsCurrent a (LoadChild f slot) w = Reading a w.rows × Frames w.rows w.way × FitsFrame (In w.rows) f × IsSlot f.row.base f.row.kind slot
+  IsCurrent a (Release n) w = Releasing a (n ∷ w.rows)
+  IsCurrent a Over w = Releasing a []
 
   abbrev pub StandsAt : List ℕ → ScanAt → Type 0
-  StandsAt a st = Stands a st.step st.walk
+  StandsAt a st = IsCurrent a st.step st.walk
 
   -- the walk is over
-  closes : (a : List ℕ) (rows : List Held) → Reading a rows → Releasing a rows
+  closes : (a : List ℕ) (rows : List HeldRow) → Reading a rows → Releasing a rows
   closes a rows h = record {
     rows = rows;
     m = length a;
@@ -86,24 +86,24 @@ module _ (s : Shape) (some : 1 ≤ s.rows256) (lo hi : ℕ) where
     checked = λ n x. inl x;
   }
 
-  pub released : (a : List ℕ) (left : List Held) (pairs : List (ℕ × ℕ)) → Releasing a left → StandsAt a (release_rows left pairs)
+  pub released : (a : List ℕ) (left : List HeldRow) (pairs : List (ℕ × ℕ)) → Releasing a left → StandsAt a (release_rows left pairs)
   released a [] pairs h = h
   released a (n ∷ left) pairs h = h
 
   -- the walk goes on
-  module _ (a : List ℕ) (rows : List Held) (h : Reading a rows) where
+  module _ (a : List ℕ) (rows : List HeldRow) (h : Reading a rows) where
     goes-child : (f : Frame) (slot : ℕ) (w : Walk) → w.rows ≡ rows → FitsFrame (In rows) f → IsSlot f.row.base f.row.kind slot
         → Each (FitsFrame (In rows)) w.way → StandsAt a (at (LoadChild f slot) w)
     goes-child f slot w r fits is way =
         subst (λ l. Reading a l × Frames l w.way × FitsFrame (In l) f × IsSlot f.row.base f.row.kind slot) (sym r) (h, way, fits, is)
 
-    goes-index : (n : Held) (j m : ℕ) (w : Walk) → j < 32 → w.rows ≡ rows → n.kind ≡ FortyEight → In rows n.base n.kind
+    goes-index : (n : HeldRow) (j m : ℕ) (w : Walk) → j < 32 → w.rows ≡ rows → n.kind ≡ FortyEight → In rows n.base n.kind
         → Each (FitsFrame (In rows)) w.way
         → StandsAt a (at (Index n j m) w)
     goes-index n j m w less r is p way = subst (λ l. Reading a l × Frames l w.way × In l n.base n.kind × (n.kind ≡ FortyEight) × (j < 32))
         (sym r) (h, way, p, is, less)
 
-    goes-keys : (n : Held) (w : Walk) → w.rows ≡ rows → In rows n.base n.kind → Each (FitsFrame (In rows)) w.way
+    goes-keys : (n : HeldRow) (w : Walk) → w.rows ≡ rows → In rows n.base n.kind → Each (FitsFrame (In rows)) w.way
         → StandsAt a (at (Keys n) w)
     goes-keys n w r p way = subst (λ l. Reading a l × Frames l w.way × In l n.base n.kind) (sym r) (h, way, p)
 
@@ -113,12 +113,12 @@ module _ (s : Shape) (some : 1 ≤ s.rows256) (lo hi : ℕ) where
     pub resumes : (w : Walk) → w.rows ≡ rows → Frames rows w.way → StandsAt a (resume_at c lo hi w)
     resumes w r way = resumed s lo hi rows (In rows) (StandsAt a) goes-child goes-index goes-keys goes-over w r way
 
-    lists : (n : Held) (w : Walk) (xs : List ℕ) → w.rows ≡ rows → In rows n.base n.kind → Frames rows w.way
+    lists : (n : HeldRow) (w : Walk) (xs : List ℕ) → w.rows ≡ rows → In rows n.base n.kind → Frames rows w.way
         → StandsAt a (visit_list c lo hi n w xs)
     lists n w xs r p way = listed s lo hi rows (In rows) (StandsAt a) goes-child goes-index goes-keys goes-over n w xs r p way
 
   -- one word more, of a row that is among them
-  pub reads-on : (a : List ℕ) (w : ℕ) (rows : List Held) (base : ℕ) (kind : Kind) (x : ℕ) → Reading a rows → In rows base kind
+  pub reads-on : (a : List ℕ) (w : ℕ) (rows : List HeldRow) (base : ℕ) (kind : Kind) (x : ℕ) → Reading a rows → In rows base kind
       → scan_turn c (stage s lo hi a) ≡ Asks (Load x) None → base ≤ x → x < base + row_words kind → Reading (a ++ w ∷ []) rows
   reads-on a w rows base kind x h p turn low high = walks-on s lo hi a w rows h (λ word mark e settled.
       let same = loads-same (sym turn ∙ e) in (
@@ -127,7 +127,7 @@ module _ (s : Shape) (some : 1 ≤ s.rows256) (lo hi : ℕ) where
       ))
 
   -- a locked version is read again
-  waits-on : (a : List ℕ) (w : ℕ) (rows : List Held) (base : ℕ) (kind : Kind) → Reading a rows → kind_at s base ≡ Some kind
+  waits-on : (a : List ℕ) (w : ℕ) (rows : List HeldRow) (base : ℕ) (kind : Kind) → Reading a rows → kind_at s base ≡ Some kind
       → is_locked w ≡ true
       → scan_turn c (stage s lo hi a) ≡ Asks (Load base) None → Reading (a ++ w ∷ []) rows
   waits-on a w rows base kind h row locked turn = walks-on s lo hi a w rows h (λ word mark e settled.
@@ -137,7 +137,7 @@ module _ (s : Shape) (some : 1 ≤ s.rows256) (lo hi : ℕ) where
       ]))
 
   -- a row more
-  joins : (a : List ℕ) (rows : List Held) (n : Held) → Reading a rows → kind_at s n.base ≡ Some n.kind → n.kept % 4 ≡ 0
+  joins : (a : List ℕ) (rows : List HeldRow) (n : HeldRow) → Reading a rows → kind_at s n.base ≡ Some n.kind → n.kept % 4 ≡ 0
       → scan_turn c (stage s lo hi a) ≡ Asks (Load n.base) None → Reading (a ++ n.kept ∷ []) (rows ++ n ∷ [])
   joins a rows n h row free turn = record {
     entered = λ x among. elim (among-cases x n rows among) [
@@ -198,7 +198,7 @@ module _ (s : Shape) (some : 1 ≤ s.rows256) (lo hi : ℕ) where
   root-row : kind_at s (root_base s) ≡ Some Full
   root-row = kind_at-base_of s Full 0 some
 
-  more-frames : (rows : List Held) (n : Held) (way : List Frame) → Frames rows way → Frames (rows ++ n ∷ []) way
+  more-frames : (rows : List HeldRow) (n : HeldRow) (way : List Frame) → Frames rows way → Frames (rows ++ n ∷ []) way
   more-frames rows n way h = each-weaker (FitsFrame (In rows)) (FitsFrame (In (rows ++ n ∷ [])))
       (λ f x. ((x.0.0, among-front x.0.0 rows (n ∷ []) x.0.1, x.0.2, x.0.3), x.1)) way h
 
@@ -206,11 +206,11 @@ module _ (s : Shape) (some : 1 ≤ s.rows256) (lo hi : ℕ) where
   no-frames P way e = subst (Each (FitsFrame P)) (sym e) tt
 
   pub waits-root : (a : List ℕ) (w : Walk) (word : ℕ) → scan_turn c (stage s lo hi a) ≡ Asks (Load (root_base s)) None
-      → Stands a (Wait Root) w
+      → IsCurrent a (Wait Root) w
       → Next a (Wait Root) w word
   waits-root a w word turn h = go (is_locked word) (is_obsolete word) refl refl
     where
-      root : Held
+      root : HeldRow
       root = held (root_base s) Full 3 word
 
       go : (b d : Bool) → is_locked word ≡ b → is_obsolete word ≡ d
@@ -230,7 +230,7 @@ module _ (s : Shape) (some : 1 ≤ s.rows256) (lo hi : ℕ) where
           (ap (λ l. l ++ root ∷ []) h.1) in-it (no-frames (In (root ∷ [])) w.way h.2)))
 
   pub waits-below : (a : List ℕ) (w : Walk) (base : ℕ) (kind : Kind) (word : ℕ) → scan_turn c (stage s lo hi a) ≡ Asks (Load base) None
-      → Stands a (Wait (Below base kind)) w → Next a (Wait (Below base kind)) w word
+      → IsCurrent a (Wait (Below base kind)) w → Next a (Wait (Below base kind)) w word
   waits-below a w base kind word turn h = go (is_locked word) (is_obsolete word) refl refl
     where
       go : (b d : Bool) → is_locked word ≡ b → is_obsolete word ≡ d
@@ -243,10 +243,10 @@ module _ (s : Shape) (some : 1 ≤ s.rows256) (lo hi : ℕ) where
 
   pub visits : (a : List ℕ) (w : Walk) (base : ℕ) (kind : Kind) (kept word : ℕ)
       → scan_turn c (stage s lo hi a) ≡ Asks (Load (info_at base)) None
-      → Stands a (Info base kind kept) w → Next a (Info base kind kept) w word
+      → IsCurrent a (Info base kind kept) w → Next a (Info base kind kept) w word
   visits a w base kind kept word turn (prev, is, h, way, row, free, waited) = inl (go (has_row base (map row_at w.rows)) refl)
     where
-      n : Held
+      n : HeldRow
       n = held base kind word kept
 
       wider : Walk
@@ -277,7 +277,7 @@ module _ (s : Shape) (some : 1 ≤ s.rows256) (lo hi : ℕ) where
           (bytes_of lo hi (row_at n)) refl in-it (more-frames w.rows n w.way way)
 
   -- a row is checked, and its version is the one that was kept
-  pub checks : (a : List ℕ) (n : Held) (left : List Held) → scan_turn c (stage s lo hi a) ≡ Asks (Load n.base) (Some point.Check)
+  pub checks : (a : List ℕ) (n : HeldRow) (left : List HeldRow) → scan_turn c (stage s lo hi a) ≡ Asks (Load n.base) (Some point.Check)
       → Releasing a (n ∷ left)
       → Releasing (a ++ n.kept ∷ []) left
   checks a n left turn h = record {

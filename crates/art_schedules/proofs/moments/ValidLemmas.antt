@@ -2,8 +2,8 @@
 use Rattle.art_schedules.proofs.Common.{◌≡◌, ◌≢◌, ℕ, ◌+◌, ◌/◌, ◌%◌, ◌<◌, ◌≤◌, List, [], ◌++◌, take, refl, ap, sym, subst, ◌∙◌, inl, inr, arith}
 use Rattle.art_schedules.proofs.Common.{Call, None, Option, Reply, Scan, Some, append-nil, false, is_locked, kind_at, row_words, slice_index}
 use Rattle.std.specs.Prelude.{◌⊎◌}
-use Rattle.art_schedules.proofs.Common.{some-words, Optimistic, Point, Answers, Setting, act, Held, scan_start, scan_turn, OnScan, call_turn}
-use Rattle.art_schedules.proofs.Common.{after_all, call_begun, call_behind, call_next, behind, Plan, BeginsAttempt, Enters, IsValidated}
+use Rattle.art_schedules.proofs.Common.{some-words, Optimistic, Point, Answers, Setting, act, HeldRow, scan_start, scan_turn, OnScan, call_turn}
+use Rattle.art_schedules.proofs.Common.{after_all, call_begun, call_after_words, call_next, behind, Plan, BeginsAttempt, Enters, IsValidated}
 use Rattle.std.proofs.lemmas.Bool.{ne_eqb}
 use Rattle.art_rows.specs.declared.access.Point.TheVariants as point
 use Rattle.art_core.specs.Moments.{Reads}
@@ -22,15 +22,15 @@ module _ (plan : Plan) (lo hi : ℕ) (v : plan.variant ≡ Optimistic) (some : 1
   abbrev c : Setting
   c = Rattle.art_schedules.proofs.moments.AttemptLemmas.c plan.shape lo hi
 
-  turn-behind : (got : List ℕ) → act plan.shape plan.variant call got ≡ call_turn c (call_behind c got)
+  turn-behind : (got : List ℕ) → act plan.shape plan.variant call got ≡ call_turn c (call_after_words c got)
   turn-behind got = ap (λ x. act plan.shape x call got) v
-      ∙ (ap (act plan.shape Optimistic call) (sym (append-nil got)) ∙ (sym (behind c got []) ∙ call_next c (call_behind c got)))
+      ∙ (ap (act plan.shape Optimistic call) (sym (append-nil got)) ∙ (sym (behind c got []) ∙ call_next c (call_after_words c got)))
 
   pub turn-is : (attempt : List ℕ) → act plan.shape plan.variant call attempt ≡ scan_turn c (stage plan.shape lo hi attempt)
   turn-is attempt = turn-behind attempt ∙ ap (call_turn c) (all-fold plan.shape some lo hi (scan_start c) attempt)
 
   -- what follows the words of earlier attempts is what follows none
-  begins-anew : (earlier : List ℕ) → call_behind c earlier ≡ OnScan lo hi (scan_start c) → BeginsAttempt plan call earlier
+  begins-anew : (earlier : List ℕ) → call_after_words c earlier ≡ OnScan lo hi (scan_start c) → BeginsAttempt plan call earlier
   begins-anew earlier e more =
       turn-behind (earlier ++ more)
       ∙ (ap (call_turn c) (all-append plan.shape some lo hi (call_begun c) earlier more ∙ ap (λ x. after_all c x more) e)
@@ -47,7 +47,7 @@ module _ (plan : Plan) (lo hi : ℕ) (v : plan.variant ≡ Optimistic) (some : 1
         → (kind_at plan.shape word ≡ None) ⊎ (is_locked (slice_index attempt i) ≡ false) → Reads plan call attempt i word
     from-load i word mark l settled = record { made = l.made; mark = mark; load = turn-is (take i attempt) ∙ l.turn; settled = settled }
 
-    enters : (n : Held) (i : ℕ) → Entered plan.shape lo hi attempt n i → Enters plan call attempt i n.base n.kind
+    enters : (n : HeldRow) (i : ℕ) → Entered plan.shape lo hi attempt n i → Enters plan call attempt i n.base n.kind
     enters n i e = record {
       row = e.row;
       reads = from-load i n.base None e.loads (inr (ap is_locked e.kept ∙ free-unlocked n.kept e.free));
@@ -55,7 +55,7 @@ module _ (plan : Plan) (lo hi : ℕ) (v : plan.variant ≡ Optimistic) (some : 1
     }
 
     module _ (h : Releasing plan.shape some lo hi attempt []) where
-      checked-row : (n : Held) (i word entry : ℕ) → Entered plan.shape lo hi attempt n entry → entry ≤ i → entry < h.m
+      checked-row : (n : HeldRow) (i word entry : ℕ) → Entered plan.shape lo hi attempt n entry → entry ≤ i → entry < h.m
           → n.base ≤ word → word < n.base + row_words n.kind → (j : ℕ) → h.m ≤ j → i ≤ j → L j n.base (Some point.Check)
           → slice_index attempt j ≡ n.kept
           → IsOfCheckedRow plan call attempt h.m i word

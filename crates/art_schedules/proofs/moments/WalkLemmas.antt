@@ -1,22 +1,22 @@
 -- The stages of an attempt of a scan, and what it has read there.
 use Rattle.art_schedules.proofs.Common.{◌≡◌, ℕ, zero, suc, ◌+◌, ◌<◌, ◌≤◌, List, [], ◌∷◌, refl, sym, subst, Bool, true, false, arith}
 use Rattle.art_schedules.proofs.Common.{if◌then◌else◌, filter, Option, Some, None, same_Some, Kind, Four, Sixteen, FortyEight, Full, Shape}
-use Rattle.art_schedules.proofs.Common.{Frame, Held, Index, KeyWords, LoadChild, Setting, Walk, bytes_of, child_at, held, keys_one, row_at}
-use Rattle.art_stages.specs.declared.stage.ScanStep.TheVariants.{Keys}
+use Rattle.art_schedules.proofs.Common.{Frame, HeldRow, Index, KeyWords, LoadChild, Setting, Walk, bytes_of, child_at, held, keys_one, row_at}
+use Rattle.art_control_states.specs.declared.stage.ScanStep.TheVariants.{Keys}
 use Rattle.art_schedules.proofs.Common.{ScanAt, at, on_way, in_word, release_rows, slot_at, bytes_at, index_at_list, words_at, child_from}
 use Rattle.art_schedules.proofs.Common.{frame_at, way_at, resume_at, visit_list, OfRows, Each, IsSlot, FitsFrame}
-use Rattle.art_stages.specs.Scans.{row_begins}
+use Rattle.art_control_states.specs.Scans.{row_begins}
 use Rattle.art_schedules.proofs.versions.ByteLemmas.{index-small}
 use Rattle.art_schedules.proofs.versions.ScanLemmas.{place-good, entry-good}
 
 -- Where a walk resumes: whatever is so of the stages that can come is so.
-module _ (s : Shape) (lo hi : ℕ) (rows : List Held) (P : OfRows) (G : ScanAt → Type 0)
+module _ (s : Shape) (lo hi : ℕ) (rows : List HeldRow) (P : OfRows) (G : ScanAt → Type 0)
     (child : (f : Frame) (slot : ℕ) (w : Walk) → w.rows ≡ rows → FitsFrame P f → IsSlot f.row.base f.row.kind slot
     → Each (FitsFrame P) w.way
     → G (at (LoadChild f slot) w))
-    (index : (n : Held) (j m : ℕ) (w : Walk) → j < 32 → w.rows ≡ rows → n.kind ≡ FortyEight → P n.base n.kind → Each (FitsFrame P) w.way
+    (index : (n : HeldRow) (j m : ℕ) (w : Walk) → j < 32 → w.rows ≡ rows → n.kind ≡ FortyEight → P n.base n.kind → Each (FitsFrame P) w.way
     → G (at (Index n j m) w))
-    (keys : (n : Held) (w : Walk) → w.rows ≡ rows → P n.base n.kind → Each (FitsFrame P) w.way → G (at (Keys n) w))
+    (keys : (n : HeldRow) (w : Walk) → w.rows ≡ rows → P n.base n.kind → Each (FitsFrame P) w.way → G (at (Keys n) w))
     (done : (pairs : List (ℕ × ℕ)) → G (release_rows rows pairs)) where
   abbrev c : Setting
   c = Rattle.art_schedules.proofs.moments.AttemptLemmas.c s lo hi
@@ -41,7 +41,7 @@ module _ (s : Shape) (lo hi : ℕ) (rows : List Held) (P : OfRows) (G : ScanAt �
           (omega (arith, few)) way later
       go false later = later
 
-  words-good : (n : Held) (w : Walk) (j m : ℕ) (other : ScanAt) → w.rows ≡ rows → n.kind ≡ FortyEight → P n.base n.kind
+  words-good : (n : HeldRow) (w : Walk) (j m : ℕ) (other : ScanAt) → w.rows ≡ rows → n.kind ≡ FortyEight → P n.base n.kind
       → Each (FitsFrame P) w.way → G other
       → G (words_at lo hi n w j m other)
   words-good n w j zero other r is p way rest = rest
@@ -92,7 +92,7 @@ module _ (s : Shape) (lo hi : ℕ) (rows : List Held) (P : OfRows) (G : ScanAt �
   begins base FortyEight info kept w r p way = words-good (held base FortyEight info kept) w 0 32 _ r refl p way (resumed w r way)
   begins base Full info kept w r p way = frame-good w base Full info kept (keys_one 0) 0 256 0 0 _ r p (omega arith) way (resumed w r way)
 
-  pub listed : (n : Held) (w : Walk) (xs : List ℕ) → w.rows ≡ rows → P n.base n.kind → Each (FitsFrame P) w.way
+  pub listed : (n : HeldRow) (w : Walk) (xs : List ℕ) → w.rows ≡ rows → P n.base n.kind → Each (FitsFrame P) w.way
       → G (visit_list c lo hi n w xs)
   listed n w [] r p way = resumed w r way
   listed n w (x ∷ xs) r p way = begins n.base n.kind n.info n.kept w r p way

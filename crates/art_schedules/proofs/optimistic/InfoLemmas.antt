@@ -3,7 +3,7 @@ use Rattle.art_schedules.proofs.Common.{◌≡◌, ◌≢◌, ◌⊎◌, inl, in
 use Rattle.art_schedules.proofs.Common.{subst, arith, nat_lt, Option, Some, None, cases_eq, Call, Shape, Kind, Four, Sixteen, FortyEight, Full}
 use Rattle.art_schedules.proofs.Common.{capacity, row_words, kind_at, info_at, keys_at, more_keys_at, index_at, count_at, child_at, seven-words}
 use Rattle.art_schedules.proofs.Common.{key_byte-small, rows_apart, row_begins, Optimistic, Store, Point, Asks, Setting, next_kind, store-word}
-use Rattle.art_schedules.proofs.Common.{load-store, exchange-store, add-store, answers-asks, Held, Keys, Hold, Growing, Pair, PairWord, Stage}
+use Rattle.art_schedules.proofs.Common.{load-store, exchange-store, add-store, answers-asks, HeldRow, Keys, Hold, Growing, Pair, PairWord, Stage}
 use Rattle.art_schedules.proofs.Common.{Lock, Exchange, Wait, Leave, Between, Info, Find, FindKeys, FindMore, FindCount, Slot, Check, CheckLast}
 use Rattle.art_schedules.proofs.Common.{LetGo, Take, Write, ClaimPair, StorePair, PutLoad, PutStore, PutLeaf, PutKeys, PutMore, PutCount}
 use Rattle.art_schedules.proofs.Common.{ClaimGrow, GrowInfo, GrowLoad, GrowStore, SpreadIndex, SpreadLoad, SpreadStore, GrowLeaf, GrowKeys}
@@ -17,8 +17,8 @@ use Rattle.art_schedules.proofs.Common.{is_busy, IsCalm, calm_of, RowChange, Row
 use Rattle.std.proofs.Common.{◌==◌, slice_index, if◌then◌else◌}
 use Rattle.art_rows.proofs.WriterLemmas.{new_place-most}
 use Rattle.art_rows.proofs.ByteLemmas.{keys4-few}
-use Rattle.art_stages.specs.declared.stage.PairWord.TheVariants as pair_word
-use Rattle.art_stages.specs.Stages.{leaf_place, new_child_at}
+use Rattle.art_control_states.specs.declared.stage.PairWord.TheVariants as pair_word
+use Rattle.art_control_states.specs.Stages.{leaf_place, new_child_at}
 use Rattle.art_schedules.specs.versions.Holding.{IsCopied}
 use Rattle.art_schedules.proofs.calm.VersionLemmas.{version-change, VersionChange, Stays, IsTaken, IsReleased}
 use Rattle.art_schedules.proofs.calm.InductionLemmas.{step-of-run}
@@ -54,7 +54,7 @@ module _ (shape : Shape) (call : Call) (P : OfRows) (is-row : (b : ℕ) (k : Kin
       apart FortyEight h e = omega (arith, h.2, e)
       apart Full h e = omega (arith, h.2, e)
 
-  away-base : (h : Held) → IsKept false P h → IsAway shape h.base
+  away-base : (h : HeldRow) → IsKept false P h → IsAway shape h.base
   away-base h kept = away h.base h.kind h.base (is-row h.base h.kind kept.1) (omega arith) (omega (arith, seven-words h.kind))
       (λ e. omega (arith, e))
 
@@ -65,7 +65,7 @@ module _ (shape : Shape) (call : Call) (P : OfRows) (is-row : (b : ℕ) (k : Kin
   to : (x word : ℕ) → x ≡ word → IsAway shape x → IsAway shape word
   to x word e a = subst (IsAway shape) e a
 
-  find-none : (kind : Kind) (n : Held) (word value : ℕ) (mark : Option Point) → find_turn kind c n ≡ Asks (Store word value) mark → ⊥
+  find-none : (kind : Kind) (n : HeldRow) (word value : ℕ) (mark : Option Point) → find_turn kind c n ≡ Asks (Store word value) mark → ⊥
   find-none Four n word value mark e = load-store e
   find-none Sixteen n word value mark e = load-store e
   find-none FortyEight n word value mark e = load-store e
@@ -152,9 +152,9 @@ module _ (shape : Shape) (call : Call) (P : OfRows) (is-row : (b : ℕ) (k : Kin
   grown-keys Four g place left word value mark row copied less e = go (place == 0) e
     where
       go : (b : Bool) → (if b then Asks (Store (keys_at g.base) (Rattle.art_rows.specs.Words.keys16_word
-          (Rattle.art_stages.specs.Stages.keys_after c g.hold g.keys))) None
+          (Rattle.art_control_states.specs.Stages.keys_after c g.hold g.keys))) None
           else Asks (Store (more_keys_at g.base) (Rattle.art_rows.specs.Words.more_keys16_word
-          (Rattle.art_stages.specs.Stages.keys_after c g.hold g.keys))) None)
+          (Rattle.art_control_states.specs.Stages.keys_after c g.hold g.keys))) None)
           ≡ Asks (Store word value) mark → IsAway shape word
       go true e = to (keys_at g.base) word (store-word e) (away g.base Sixteen _ row (omega arith) (omega arith) (λ f. omega (arith, f)))
       go false e = to (more_keys_at g.base) word (store-word e) (away g.base Sixteen _ row (omega arith) (omega arith)
@@ -175,12 +175,12 @@ module _ (shape : Shape) (call : Call) (P : OfRows) (is-row : (b : ℕ) (k : Kin
   grown-count FortyEight g word value mark row copied e = absurd copied
   grown-count Full g word value mark row copied e = absurd copied
 
-  hung : (above : Option Held) (slot : ℕ) → HangsIn above slot → Each (IsKept false P) (all_of above) → IsAway shape slot
+  hung : (above : Option HeldRow) (slot : ℕ) → HangsIn above slot → Each (IsKept false P) (all_of above) → IsAway shape slot
   hung None slot fits kept = absurd fits
   hung (Some a) slot fits kept = away-slot a.base a.kind slot (is-row a.base a.kind kept.0.1) fits
 
   -- the row of this kind
-  counts : (h : Held) (kind : Kind) → h.kind ≡ kind → kind_at shape h.base ≡ Some h.kind → (word value : ℕ) (mark : Option Point) (v : ℕ)
+  counts : (h : HeldRow) (kind : Kind) → h.kind ≡ kind → kind_at shape h.base ≡ Some h.kind → (word value : ℕ) (mark : Option Point) (v : ℕ)
       → (info_at h.base < count_at kind h.base) → (count_at kind h.base < h.base + row_words kind)
       → Asks (Store (count_at h.kind h.base) v) None ≡ Asks (Store word value) mark → IsAway shape word
   counts h kind is row word value mark v low high e =
@@ -246,7 +246,7 @@ module _ (shape : Shape) (call : Call) (P : OfRows) (is-row : (b : ℕ) (k : Kin
   aims (Over outcome) k word value mark e = absurd (answers-asks e)
 
   -- where a call that holds a row stores
-  at-aims : (at : CallAt) → Knows P c at → (h : Held) → IsAmong h (holds c at) → (word value : ℕ) (mark : Option Point)
+  at-aims : (at : CallAt) → Knows P c at → (h : HeldRow) → IsAmong h (holds c at) → (word value : ℕ) (mark : Option Point)
       → call_turn c at ≡ Asks (Store word value) mark → Aims (fills at) word
   at-aims (OnKey stage) k h among word value mark e = aims stage k word value mark e
   at-aims (OnScan low high scan) k h among word value mark e = absurd among

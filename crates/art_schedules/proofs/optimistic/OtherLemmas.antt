@@ -1,6 +1,6 @@
 -- A step of another process.
 use Rattle.art_schedules.proofs.Common.{◌≡◌, ◌≢◌, inl, inr, ℕ, ◌+◌, ◌%◌, ◌≤◌, List, [], ◌∷◌, ◌++◌, true, false, refl, sym, ap, ◌∙◌, subst, arith}
-use Rattle.art_schedules.proofs.Common.{ne_eqb, Option, Some, cases_eq, false≢true, Call, Shape, is_obsolete, Optimistic, is_insert, Held, Stage}
+use Rattle.art_schedules.proofs.Common.{ne_eqb, Option, Some, cases_eq, false≢true, Call, Shape, is_obsolete, Optimistic, is_insert, HeldRow, Stage}
 use Rattle.art_schedules.proofs.Common.{setting, OnKey, Process, State, SameRow, Each, IsKept, Knows, holds, lock_of, held_at_stage, IsAmong}
 use Rattle.art_schedules.proofs.Common.{IsHeld, IsOpen, IsSettled, IsSound, WritesOwn, held_by, stage_of}
 use Rattle.art_schedules.proofs.versions.KnownLemmas.{held-is-kept}
@@ -25,7 +25,7 @@ module _ (shape : Shape) (n k : ℕ) (s t : State) (before : IsSound Optimistic 
     (leaving : (base : ℕ) → IsGoneBy effect base → is_obsolete (slice_index t.words base) ≡ true)
     (p : ℕ) (call : Call) (q : Process) (other : p ≢ mover) (was : IsOpen s p call q) (is : IsOpen t p call q) where
   -- a row that the process holds
-  still : (h : Held) → IsAmong h (held_by Optimistic shape call q) → IsStill calm s.words after t.words effect h
+  still : (h : HeldRow) → IsAmong h (held_by Optimistic shape call q) → IsStill calm s.words after t.words effect h
   still h among = record { row = steady-row calm after h.base h.kind (made.held h.base h.kind row held-then); same = same; stays = stays }
     where
       kept : IsKept false (IsSettled Optimistic shape s) h

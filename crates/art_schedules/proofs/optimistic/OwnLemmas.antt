@@ -5,7 +5,7 @@ use Rattle.art_schedules.proofs.Common.{Contents, value_at, Does, Shape, Kind, F
 use Rattle.art_schedules.proofs.Common.{row_words, root_base, info_at, keys_at, more_keys_at, index_at, count_at, child_at, is_locked}
 use Rattle.art_schedules.proofs.Common.{is_obsolete, key_bytes, first_difference, info_of, keys4_of, keys16_of, place_of, entries_of, child_of}
 use Rattle.art_schedules.proofs.Common.{child_word, count_of, seven-words, key_byte-small, Optimistic, is_tree_call, Setting, key_of, is_insert}
-use Rattle.art_schedules.proofs.Common.{is_scan, path_differs_at, new_leaf, overwriting, keys_differ_at, not_full, Held, Keys, Finding, Has}
+use Rattle.art_schedules.proofs.Common.{is_scan, path_differs_at, new_leaf, overwriting, keys_differ_at, not_full, HeldRow, Keys, Finding, Has}
 use Rattle.art_schedules.proofs.Common.{Lacks, Position, Down, Work, Target, Root, Below, Taken, Stage, Wait, Between, Info, Find, FindKeys}
 use Rattle.art_schedules.proofs.Common.{FindMore, FindCount, Slot, Check, CheckLast, Take, Unlock, Over, row_at, held, root_place, byte_in}
 use Rattle.art_schedules.proofs.Common.{keys_among, count_in, setting, after_with, seek_unlocked, insert_unlocked, overwrite_unlocked}
@@ -13,17 +13,17 @@ use Rattle.art_schedules.proofs.Common.{grow_unlocked, found_at, among_at, find_
 use Rattle.art_schedules.proofs.Common.{leaf_work, keys_one, release_at, taken_at, take_alone, Reached, Means, HasForm, level_in, path_in}
 use Rattle.art_schedules.proofs.Common.{IsAtRest, LeadsTo, WaysLeadToValues, LeavesAreSmall, is_seek, leads-root, keys-differ, absent-after}
 use Rattle.art_schedules.proofs.Common.{seek-reply, first-differs, path_byte-small, Each, IsKept, IsUnder, FitsPlace, rows_kept, FitsStage}
-use Rattle.art_schedules.proofs.Common.{BeginsWork, IsBehindVersion, LacksByte, RowsOf, all_of, held_at_stage, is_busy}
+use Rattle.art_schedules.proofs.Common.{BeginsWork, IsAfterVersion, LacksByte, RowsOf, all_of, held_at_stage, is_busy}
 use Rattle.art_schedules.proofs.versions.KeyLemmas.{slot-behind}
 use Rattle.art_schedules.proofs.versions.WordFacts.{count-most}
-use Rattle.art_schedules.proofs.Common.{Stands, IsBelow, HangsBelow, KnowsPlace, KnowsStage, IsReachedHere, AllStand, hold_taken, IsPast}
+use Rattle.art_schedules.proofs.Common.{IsCurrent, IsBelow, HangsBelow, KnowsPlace, KnowsStage, IsReachedHere, AllStand, hold_taken, IsPast}
 use Rattle.art_schedules.proofs.Common.{KnowsWay, IsHeldReached, Agrees, Gets, Goes, GoesOn, WaysBegin, IsOnWay, slot_in, HasChild, KnowsKeys}
 use Rattle.art_schedules.proofs.Common.{KnowsFinding, HangsOnWay}
 use Rattle.std.proofs.Common.{◌==◌, slice_index, Option, Some, None, if◌then◌else◌}
 use Rattle.events.specs.declared.event.Reply.TheVariants as reply
 use Rattle.map_object.specs.MapObject.{value_reply}
-use Rattle.art_stages.specs.declared.stage.Work.TheVariants as work
-use Rattle.art_stages.specs.Automaton.{words_at}
+use Rattle.art_control_states.specs.declared.stage.Work.TheVariants as work
+use Rattle.art_control_states.specs.Automaton.{words_at}
 use Rattle.art_schedules.proofs.changes.SayingLemmas.{ways-are-paths}
 use Rattle.art_schedules.specs.optimistic.Knows.{KnowsAt}
 use Rattle.art_schedules.specs.optimistic.Goes.{Works, Finds}
@@ -48,13 +48,13 @@ module _ (shape : Shape) (call : Call) (tree : is_tree_call call ≡ true) (key-
   abbrev c : Setting
   c = setting shape Optimistic call
 
-  abbrev Own : Held → Type 0
+  abbrev Own : HeldRow → Type 0
   Own h = IsHeldReached shape calm words h
 
-  abbrev Kept : Held → Type 0
+  abbrev Kept : HeldRow → Type 0
   Kept h = IsKept false (RowsOf shape) h
 
-  abbrev Past : Held → Type 0
+  abbrev Past : HeldRow → Type 0
   Past h = IsPast words h
 
   abbrev To : Stage → Type 0
@@ -79,16 +79,16 @@ module _ (shape : Shape) (call : Call) (tree : is_tree_call call ≡ true) (key-
 
   -- ---- a row whose version is the kept one
 
-  stand-word : (h : Held) → Kept h → Stands words h → (word : ℕ) → h.base ≤ word → word < h.base + row_words h.kind
+  stand-word : (h : HeldRow) → Kept h → IsCurrent words h → (word : ℕ) → h.base ≤ word → word < h.base + row_words h.kind
       → slice_index words word ≡ slice_index calm word
   stand-word h kept st word low high =
       sym (agrees.free h.base h.kind kept.1 (ap is_busy st ∙ unmarked-free h.kept kept.0) word low high)
 
-  behind-word : (h : Held) → Kept h → Stands words h → (word : ℕ) → IsBehindVersion h.base h.kind word
+  behind-word : (h : HeldRow) → Kept h → IsCurrent words h → (word : ℕ) → IsAfterVersion h.base h.kind word
       → slice_index words word ≡ slice_index calm word
   behind-word h kept st word behind = stand-word h kept st word (omega (arith, behind.0)) behind.1
 
-  own-of : (h : Held) → Kept h → Stands words h → Reached shape calm h.base h.kind → Own h
+  own-of : (h : HeldRow) → Kept h → IsCurrent words h → Reached shape calm h.base h.kind → Own h
   own-of h kept st reached = ((λ j low high. stand-word h kept st (h.base + j) (omega arith) (omega (arith, high))), reached)
 
   -- the info of a row of the tree is calm's
@@ -114,7 +114,7 @@ module _ (shape : Shape) (call : Call) (tree : is_tree_call call ≡ true) (key-
     ends : value_at m (key_of call) ≡ None → To (Over no_value)
     ends none = Finds reply.None (finds-none none) (knows false e (Some reply.None) _ refl tt tt)
 
-    overwrites : (h : Held) (slot k v : ℕ) (o : Option ℕ) → overwriting call v ≡ o → IsOnWay c calm h → Past h
+    overwrites : (h : HeldRow) (slot k v : ℕ) (o : Option ℕ) → overwriting call v ≡ o → IsOnWay c calm h → Past h
         → HasChild c calm h slot (Leaf k v)
         → k ≡ key_of call → To (overwrite_unlocked c h slot v o)
     overwrites h slot k v None f on past at is =
@@ -127,7 +127,7 @@ module _ (shape : Shape) (call : Call) (tree : is_tree_call call ≡ true) (key-
       (λ st. overwritten c tree h slot (Leaf k v) word (Some v) on at (is, refl, inr f)),
     ) (past, tt) tt)
 
-    seeks : (h : Held) (f : Finding) → IsOnWay c calm h → Past h → KnowsFinding false c calm h f → To (seek_unlocked c h f)
+    seeks : (h : HeldRow) (f : Finding) → IsOnWay c calm h → Past h → KnowsFinding false c calm h f → To (seek_unlocked c h f)
     seeks h (Lacks keys) on past none = ends (no-slot c rest means ways h on none)
     seeks h (Has slot Empty) on past at = ends (empty-slot c rest means ways h slot on at)
     seeks h (Has slot (Leaf k v)) on past at = go (k == key_of call) refl
@@ -141,10 +141,10 @@ module _ (shape : Shape) (call : Call) (tree : is_tree_call call ≡ true) (key-
 
   module _ (e : is_insert call ≡ true) where
     -- one row is taken
-    takes : (h : Held) (w : Work) → Past h → BeginsWork c calm (hold_alone h) w → To (take_alone c h w)
+    takes : (h : HeldRow) (w : Work) → Past h → BeginsWork c calm (hold_alone h) w → To (take_alone c h w)
     takes h w past begins = GoesOn (knows true e None _ ((λ st. begins.leads.reached), tt, (λ st. begins)) (past, tt) tt)
 
-    grows : (h : Held) (above : Option Held) (slot : ℕ) (keys : Keys) → IsOnWay c calm h → Each Past (h ∷ all_of above)
+    grows : (h : HeldRow) (above : Option HeldRow) (slot : ℕ) (keys : Keys) → IsOnWay c calm h → Each Past (h ∷ all_of above)
         → HangsBelow c calm words h slot above → IsUnder above h slot → LacksByte c h keys calm → count_in h.kind keys ≡ capacity h.kind
         → To (grow_unlocked c h above slot keys)
     grows h None slot keys on past up under lacks full = absurd (full-slot calm h.base h.kind (byte_in c h) under lacks.absent)
@@ -222,7 +222,7 @@ module _ (shape : Shape) (call : Call) (tree : is_tree_call call ≡ true) (key-
 
   -- ---- FIND
 
-  lacks : (i : Bool) (h : Held) (keys : Keys) → LacksByte c h keys calm → KnowsKeys i c calm h keys
+  lacks : (i : Bool) (h : HeldRow) (keys : Keys) → LacksByte c h keys calm → KnowsKeys i c calm h keys
   lacks true h keys l = l
   lacks false h keys l = l.absent
 
@@ -232,37 +232,37 @@ module _ (shape : Shape) (call : Call) (tree : is_tree_call call ≡ true) (key-
     row_kept : Kept p.row
     are_past : Each Past (p.row ∷ all_of p.above)
 
-  form-of : (p : Position) → AtRow p → Stands words p.row → HasForm calm p.row.base p.row.kind
+  form-of : (p : Position) → AtRow p → IsCurrent words p.row → HasForm calm p.row.base p.row.kind
   form-of p k st = rest.tree.form p.row.base p.row.kind (k.knows_place.0 st).leads.reached
 
   -- the finding is right, if the row's version is the kept one
   sees : (i : Bool) → is_insert call ≡ i → (p : Position) (f : Finding) → AtRow p
-      → (Stands words p.row → KnowsFinding i c calm p.row f) → To (Check p f)
+      → (IsCurrent words p.row → KnowsFinding i c calm p.row f) → To (Check p f)
   sees i e p f k at = GoesOn (knows i e None _ (k.knows_place, at) k.are_past tt)
 
   -- the slot of a byte is that of its place among the keys
   among : (i : Bool) → is_insert call ≡ i → (p : Position) (keys : Keys) → AtRow p
-      → (Stands words p.row → slot_in c calm p.row ≡ option_map (child_at p.row.kind p.row.base) (place_of (byte_in c p.row)
+      → (IsCurrent words p.row → slot_in c calm p.row ≡ option_map (child_at p.row.kind p.row.base) (place_of (byte_in c p.row)
       (keys_among p.row.kind keys)))
-      → (Stands words p.row → slot_in c calm p.row ≡ None → LacksByte c p.row keys calm) → To (words_at false i false c p keys)
+      → (IsCurrent words p.row → slot_in c calm p.row ≡ None → LacksByte c p.row keys calm) → To (words_at false i false c p keys)
   among i e p keys k is lack = go (place_of (byte_in c p.row) (keys_among p.row.kind keys)) is
     where
-      go : (o : Option ℕ) → (Stands words p.row → slot_in c calm p.row ≡ option_map (child_at p.row.kind p.row.base) o)
+      go : (o : Option ℕ) → (IsCurrent words p.row → slot_in c calm p.row ≡ option_map (child_at p.row.kind p.row.base) o)
           → To (among_at false i false c p keys o)
       go None none = sees i e p (Lacks keys) k (λ st. lacks i p.row keys (lack st (none st)))
       go (Some place) some = GoesOn (knows i e None _ (k.knows_place, some) k.are_past tt)
 
-  abbrev place : ℕ → Kind → ℕ → ℕ → Option Held → ℕ → Position
+  abbrev place : ℕ → Kind → ℕ → ℕ → Option HeldRow → ℕ → Position
   place base kind info was above slot = record { row = held base kind info was; above = above; slot = slot }
 
   -- what was read of a row whose version is the kept one is calm's
-  calm-word : (h : Held) → Kept h → (word w : ℕ) → IsBehindVersion h.base h.kind word → w ≡ slice_index words word → Stands words h
+  calm-word : (h : HeldRow) → Kept h → (word w : ℕ) → IsAfterVersion h.base h.kind word → w ≡ slice_index words word → IsCurrent words h
       → w ≡ slice_index calm word
   calm-word h kept word w behind got st = got ∙ behind-word h kept st word behind
 
-  four : (i : Bool) → is_insert call ≡ i → (base info was : ℕ) (above : Option Held) (slot w : ℕ)
+  four : (i : Bool) → is_insert call ≡ i → (base info was : ℕ) (above : Option HeldRow) (slot w : ℕ)
       → AtRow (place base Four info was above slot)
-      → (Stands words (held base Four info was) → w ≡ slice_index calm (keys_at base))
+      → (IsCurrent words (held base Four info was) → w ≡ slice_index calm (keys_at base))
       → To (words_at false i false c (place base Four info was above slot) (keys_one w))
   four i e base info was above slot w k is =
       let p = place base Four info was above slot in
@@ -277,11 +277,11 @@ module _ (shape : Shape) (call : Call) (tree : is_tree_call call ≡ true) (key-
             (λ v. length (keys4_of v)) (is st);
       })
 
-  sixteen : (i : Bool) → is_insert call ≡ i → (base info was : ℕ) (above : Option Held) (slot count first second : ℕ)
+  sixteen : (i : Bool) → is_insert call ≡ i → (base info was : ℕ) (above : Option HeldRow) (slot count first second : ℕ)
       → AtRow (place base Sixteen info was above slot)
-      → (Stands words (held base Sixteen info was) → (count ≡ slice_index calm (count_at Sixteen base))
+      → (IsCurrent words (held base Sixteen info was) → (count ≡ slice_index calm (count_at Sixteen base))
       × (first ≡ slice_index calm (keys_at base)))
-      → (Stands words (held base Sixteen info was) → second ≡ slice_index calm (more_keys_at base))
+      → (IsCurrent words (held base Sixteen info was) → second ≡ slice_index calm (more_keys_at base))
       → To (words_at false i false c (place base Sixteen info was above slot) (record { first = first; second = second; count = count }))
   sixteen i e base info was above slot count first second k seen last =
       among i e p (record { first = first; second = second; count = count }) k
@@ -294,15 +294,15 @@ module _ (shape : Shape) (call : Call) (tree : is_tree_call call ≡ true) (key-
       x : ℕ
       x = byte_in c (held base Sixteen info was)
 
-      same : Stands words (held base Sixteen info was) → keys16_of count first second
+      same : IsCurrent words (held base Sixteen info was) → keys16_of count first second
           ≡ keys16_of (slice_index calm (count_at Sixteen base)) (slice_index calm (keys_at base)) (slice_index calm (more_keys_at base))
       same st = ap (λ v. keys16_of v first second) (seen st).0
           ∙ (ap (λ v. keys16_of (slice_index calm (count_at Sixteen base)) v second) (seen st).1
           ∙ ap (λ v. keys16_of (slice_index calm (count_at Sixteen base)) (slice_index calm (keys_at base)) v) (last st))
 
-  indexed : (i : Bool) → is_insert call ≡ i → (base info was : ℕ) (above : Option Held) (slot w : ℕ)
+  indexed : (i : Bool) → is_insert call ≡ i → (base info was : ℕ) (above : Option HeldRow) (slot w : ℕ)
       → AtRow (place base FortyEight info was above slot)
-      → (Stands words (held base FortyEight info was) → w ≡ slice_index calm (index_at base (byte_in c (held base FortyEight info was))))
+      → (IsCurrent words (held base FortyEight info was) → w ≡ slice_index calm (index_at base (byte_in c (held base FortyEight info was))))
       → To (find_at false i false FortyEight c (place base FortyEight info was above slot) w)
   indexed i e base info was above slot w k is =
       subst (λ j. To (if entry == 0 then (if j then FindCount p w else Check p (Lacks (keys_one w))) else Slot p
@@ -318,7 +318,7 @@ module _ (shape : Shape) (call : Call) (tree : is_tree_call call ≡ true) (key-
       entry : ℕ
       entry = slice_index (entries_of w) (x % 8)
 
-      slot-is : (b : Bool) → (entry == 0) ≡ b → Stands words (held base FortyEight info was)
+      slot-is : (b : Bool) → (entry == 0) ≡ b → IsCurrent words (held base FortyEight info was)
           → slot_in c calm (held base FortyEight info was) ≡ (if b then None else Some (child_at FortyEight base (entry - 1)))
       slot-is b f st =
           ap (λ v. if slice_index (entries_of v) (x % 8) == 0 then None else Some
@@ -335,7 +335,7 @@ module _ (shape : Shape) (call : Call) (tree : is_tree_call call ≡ true) (key-
       go false f = GoesOn (knows i e None _ (k.knows_place, λ st. slot-is false f st) k.are_past tt)
 
   -- FIND's first word
-  finds : (i : Bool) → is_insert call ≡ i → (base : ℕ) (kind : Kind) (info was : ℕ) (above : Option Held) (slot w : ℕ)
+  finds : (i : Bool) → is_insert call ≡ i → (base : ℕ) (kind : Kind) (info was : ℕ) (above : Option HeldRow) (slot w : ℕ)
       → AtRow (place base kind info was above slot) → Gets c words (Find (place base kind info was above slot)) w
       → To (find_at false i false kind c (place base kind info was above slot) w)
   finds i e base Four info was above slot w k got = four i e base info was above slot w k
@@ -361,10 +361,10 @@ module _ (shape : Shape) (call : Call) (tree : is_tree_call call ≡ true) (key-
       })
 
   -- the count of a row of kind 48, which an insert asks for
-  counted : (i : Bool) → is_insert call ≡ i → (base : ℕ) (kind : Kind) (info was : ℕ) (above : Option Held) (slot index w : ℕ)
+  counted : (i : Bool) → is_insert call ≡ i → (base : ℕ) (kind : Kind) (info was : ℕ) (above : Option HeldRow) (slot index w : ℕ)
       → kind ≡ FortyEight
       → AtRow (place base kind info was above slot)
-      → (Stands words (held base kind info was) → (index ≡ slice_index calm (index_at base (byte_in c (held base kind info was))))
+      → (IsCurrent words (held base kind info was) → (index ≡ slice_index calm (index_at base (byte_in c (held base kind info was))))
       × (slot_in c calm (held base kind info was) ≡ None))
       → Gets c words (FindCount (place base kind info was above slot) index) w
       → To (Check (place base kind info was above slot) (Lacks (record { first = index; second = 0; count = w })))
@@ -384,7 +384,7 @@ module _ (shape : Shape) (call : Call) (tree : is_tree_call call ≡ true) (key-
       sees i e (place base FortyEight info was above slot) (Lacks (record { first = index; second = 0; count = w })) k
       (λ st. knows-keys i e st)
     where
-      knows-keys : (i : Bool) → is_insert call ≡ i → Stands words (held base FortyEight info was)
+      knows-keys : (i : Bool) → is_insert call ≡ i → IsCurrent words (held base FortyEight info was)
           → KnowsKeys i c calm (held base FortyEight info was) (record { first = index; second = 0; count = w })
       knows-keys false e st = (seen st).1
       knows-keys true e st = record {
@@ -397,12 +397,12 @@ module _ (shape : Shape) (call : Call) (tree : is_tree_call call ≡ true) (key-
             ∙ ap (λ j. if j then count_of 48 (slice_index calm (count_at FortyEight base)) else 0) (sym e);
       }
 
-  more : (i : Bool) → is_insert call ≡ i → (base : ℕ) (kind : Kind) (info was : ℕ) (above : Option Held)
+  more : (i : Bool) → is_insert call ≡ i → (base : ℕ) (kind : Kind) (info was : ℕ) (above : Option HeldRow)
       (slot count first w : ℕ) → kind ≡ Sixteen
       → AtRow (place base kind info was above slot)
-      → (Stands words (held base kind info was) → (count ≡ slice_index calm (count_at Sixteen base))
+      → (IsCurrent words (held base kind info was) → (count ≡ slice_index calm (count_at Sixteen base))
       × (first ≡ slice_index calm (keys_at base)))
-      → (Stands words (held base kind info was) → w ≡ slice_index calm (more_keys_at base))
+      → (IsCurrent words (held base kind info was) → w ≡ slice_index calm (more_keys_at base))
       → To (words_at false i false c (place base kind info was above slot) (record { first = first; second = w; count = count }))
   more i e base Four info was above slot count first w kinds k seen last = absurd (differ kinds)
     where
@@ -430,7 +430,7 @@ module _ (shape : Shape) (call : Call) (tree : is_tree_call call ≡ true) (key-
       go false false = to
 
   -- the row above is checked, and its version is the kept one
-  passes : (i : Bool) → is_insert call ≡ i → (d : Down) (kept : ℕ) → IsBelow c calm words d → Stands words d.above
+  passes : (i : Bool) → is_insert call ≡ i → (d : Down) (kept : ℕ) → IsBelow c calm words d → IsCurrent words d.above
       → Each Past (held d.base d.kind 0 kept ∷ d.above ∷ []) → To (Info d kept)
   passes true e d kept k st past = GoesOn
       (knows true e None _ (k, (λ same. reached-below c d.above d.slot d.base d.kind (k st)), tt) past tt)
@@ -446,7 +446,7 @@ module _ (shape : Shape) (call : Call) (tree : is_tree_call call ≡ true) (key-
           (ap (λ xs. first_difference xs (key_bytes (key_of call))) (path-is d.base d.kind reached) ∙ f)))
           (knows false e (Some reply.None) _ (refl, (x, f)) past tt)
 
-  abbrev row-below : Down → ℕ → Held
+  abbrev row-below : Down → ℕ → HeldRow
   row-below d kept = held d.base d.kind (slice_index words (info_at d.base)) kept
 
   -- the row below has a path that differs nowhere from the key
@@ -525,20 +525,20 @@ module _ (shape : Shape) (call : Call) (tree : is_tree_call call ≡ true) (key-
       go (Some x) f = pairs x (nat_le x (row_at d.above).level) f
 
   -- a row is taken
-  taking : (i : Bool) → is_insert call ≡ i → (row : Held) (above below : Option Held) (w : Work) → IsReachedHere c calm words row
+  taking : (i : Bool) → is_insert call ≡ i → (row : HeldRow) (above below : Option HeldRow) (w : Work) → IsReachedHere c calm words row
       → Each (IsReachedHere c calm words) (all_of below) → (AllStand words row below → BeginsWork c calm (hold_taken row above below) w)
-      → Kept row → Stands words row → Each Past (row ∷ all_of below) → Each Own (all_of above) → To (taken_at c above below w row)
+      → Kept row → IsCurrent words row → Each Past (row ∷ all_of below) → Each Own (all_of above) → To (taken_at c above below w row)
   taking i e row above None w here under k kept st past own =
       Works (record { row = row; above = above }) w refl (k st) (own-of row kept st (here st), own)
   taking i e row above (Some b) w here under k kept st past own =
       GoesOn (knows i e None _ (under.0, tt, (λ stb. k (st, stb))) (past.1.0, (past.0, tt)) (own-of row kept st (here st), tt))
 
-  fails : (i : Bool) → is_insert call ≡ i → (above : Option Held) → Each Past (all_of above) → Each Own (all_of above)
+  fails : (i : Bool) → is_insert call ≡ i → (above : Option HeldRow) → Each Past (all_of above) → Each Own (all_of above)
       → To (release_at false above None)
   fails i e None past own = again
   fails i e (Some a) past own = GoesOn (knows i e None _ refl past own)
 
-  past-front : (row : Held) (above under : Option Held) → Each Past (row ∷ (all_of above ++ all_of under))
+  past-front : (row : HeldRow) (above under : Option HeldRow) → Each Past (row ∷ (all_of above ++ all_of under))
       → Each Past (row ∷ all_of under) × Each Past (all_of above)
   past-front row None under past = (past, tt)
   past-front row (Some a) under past = ((past.0, past.1.1), (past.1.0, tt))
@@ -590,7 +590,7 @@ module _ (shape : Shape) (call : Call) (tree : is_tree_call call ≡ true) (key-
     where
       go : (b : Bool) → (w == p.row.kept) ≡ b → To (if b then found_at false i false c p f else Wait Root)
       go true same =
-          let st : Stands words p.row = sym (got _ _ refl) ∙ eqb-true w p.row.kept same in
+          let st : IsCurrent words p.row = sym (got _ _ refl) ∙ eqb-true w p.row.kept same in
           found i e p f (k.0.0 st) k.0.1 past fits.0 (k.1 st)
       go false same = again
   next i e (Take t) w k kept fits past own got = go (w == t.row.kept) refl
@@ -628,7 +628,7 @@ module _ (shape : Shape) (call : Call) (calm words : List ℕ) (r : Reply) where
       Both : Stage → Type 0
       Both stage = Knows (Some r) false stage ⊎ Knows None false stage
 
-      under : Held
+      under : HeldRow
       under = held d.base d.kind (slice_index words (info_at d.base)) was
 
       go : (o : Option ℕ) → o ≡ Some k.1.0 → Both (below_at false false here d under o)

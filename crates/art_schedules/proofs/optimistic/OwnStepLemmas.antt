@@ -4,7 +4,7 @@ use Rattle.art_schedules.proofs.Common.{subst, arith, eq-eqb, ne_eqb, slice_get,
 use Rattle.art_schedules.proofs.Common.{Call, Reply, Contents, Shape, Kind, Four, Sixteen, FortyEight, Full, row_words, kind_at, claims_of}
 use Rattle.art_schedules.proofs.Common.{is_locked, is_obsolete, locked_word, released_word, some-words, claims-few, rows_apart, row_begins}
 use Rattle.art_schedules.proofs.Common.{row_ends, Optimistic, Access, Load, Store, Swap, Point, Asks, Answers, is_tree_call, Setting, is_insert}
-use Rattle.art_schedules.proofs.Common.{is_scan, act, word_of, asks-same, load-store, exchange-store, Held, Hold, Taking, Work, Stage, Wait}
+use Rattle.art_schedules.proofs.Common.{is_scan, act, word_of, asks-same, load-store, exchange-store, HeldRow, Hold, Taking, Work, Stage, Wait}
 use Rattle.art_schedules.proofs.Common.{Between, Info, Find, FindKeys, FindMore, FindCount, Slot, Check, CheckLast, Take, Unlock, Over, setting}
 use Rattle.art_schedules.proofs.Common.{turn_at, find_turn, stage_after, taken_at, release_at, OnKey, call_turn, call_after, call_begun, got_by}
 use Rattle.art_schedules.proofs.Common.{words_after, told, Process, Plan, State, opened_on, step, moved, after_move, move_of, move_from, IsRun}
@@ -17,7 +17,7 @@ use Rattle.art_schedules.proofs.Common.{CalmStep, IsCalm, KeepsTree, RowsOf, cal
 use Rattle.art_schedules.proofs.versions.MoveLemmas.{settled-row}
 use Rattle.art_schedules.proofs.versions.StepLemmas.{after-more, next-turn}
 use Rattle.art_schedules.proofs.versions.WordFacts.{version-free}
-use Rattle.art_schedules.proofs.Common.{BeginsWork, KnowsStage, IsReachedHere, KnowsWay, Stands, AllStand, hold_taken, IsPast, IsHeldReached}
+use Rattle.art_schedules.proofs.Common.{BeginsWork, KnowsStage, IsReachedHere, KnowsWay, IsCurrent, AllStand, hold_taken, IsPast, IsHeldReached}
 use Rattle.art_schedules.proofs.Common.{Agrees, Gets, Goes, GoesOn, StepsOn, OwnStepsGoOn, OwnFindingsStay}
 use Rattle.std.proofs.Common.{◌==◌, slice_index, slice_set, if◌then◌else◌}
 use Rattle.std.proofs.lemmas.Grind.{same_number_lists}
@@ -300,7 +300,7 @@ module _ (plan : Plan) (start : Contents) (first schedule : List ℕ) (p : ℕ) 
             knows-taking.0 st,
           )
 
-          own-moves : (h : Held) → kind_at shape h.base ≡ Some h.kind → IsHeldReached shape calm s.words h
+          own-moves : (h : HeldRow) → kind_at shape h.base ≡ Some h.kind → IsHeldReached shape calm s.words h
               → IsHeldReached shape after t.words h
           own-moves h there own = (
             (λ j low less.
@@ -313,12 +313,12 @@ module _ (plan : Plan) (start : Contents) (first schedule : List ℕ) (p : ℕ) 
             subst (λ l. Reached shape l h.base h.kind) (sym calm-is) own.1,
           )
 
-          held-own : (held under : Option Held) → Each (IsKept false (IsSettled Optimistic shape s)) (x.row ∷ (all_of held ++ all_of under))
+          held-own : (held under : Option HeldRow) → Each (IsKept false (IsSettled Optimistic shape s)) (x.row ∷ (all_of held ++ all_of under))
               → Each (IsHeldReached shape calm s.words) (all_of held) → Each (IsHeldReached shape after t.words) (all_of held)
           held-own None under kept own = tt
           held-own (Some a) under kept own = (own-moves a (settled-row Optimistic shape s a.base a.kind kept.1.0.1) own.0, tt)
 
-          back : (b : Held) → IsKept false (IsSettled Optimistic shape s) b → Stands t.words b → Stands s.words b
+          back : (b : HeldRow) → IsKept false (IsSettled Optimistic shape s) b → IsCurrent t.words b → IsCurrent s.words b
           back b kept stb = elim (cases_eq b.base x.row.base) [
             | inl f ↦
                 let one : locked_word x.row.kept ≡ b.kept = sym locked ∙ (ap (slice_index t.words) (sym f) ∙ stb) in
@@ -329,7 +329,7 @@ module _ (plan : Plan) (start : Contents) (first schedule : List ℕ) (p : ℕ) 
           more : x.row.kept ≤ slice_index t.words x.row.base
           more = omega (arith, locked, st, made.before.versions x.row.base x.row.kind row-at, made.few)
 
-          past-then : (b : Held) → IsPast s.words b → IsPast t.words b
+          past-then : (b : HeldRow) → IsPast s.words b → IsPast t.words b
           past-then b was = elim (cases_eq b.base x.row.base) [
             | inl f ↦
                 let one = ap (slice_index s.words) f in
@@ -338,7 +338,7 @@ module _ (plan : Plan) (start : Contents) (first schedule : List ℕ) (p : ℕ) 
             | inr d ↦ omega (arith, was, other-word b.base d)
           ]
 
-          taken : (held under : Option Held) (w : Work) → Each (IsReachedHere c calm s.words) (all_of under) → (AllStand s.words x.row under
+          taken : (held under : Option HeldRow) (w : Work) → Each (IsReachedHere c calm s.words) (all_of under) → (AllStand s.words x.row under
               → BeginsWork c calm (hold_taken x.row held under) w)
               → Each (IsKept false (IsSettled Optimistic shape s)) (x.row ∷ (all_of held ++ all_of under))
               → Each (IsPast s.words) (x.row ∷ (all_of held ++ all_of under))

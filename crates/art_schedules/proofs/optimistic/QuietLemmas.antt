@@ -1,11 +1,11 @@
 -- Steps without a store.
 use Rattle.art_schedules.proofs.Common.{◌≡◌, ℕ, ◌≤◌, List, [], ◌∷◌, ◌++◌, refl, sym, ◌∙◌, arith, false, true, Kind, Four, Sixteen, FortyEight}
 use Rattle.art_schedules.proofs.Common.{Full, claims_of, released_word, claims-few, Optimistic, Store, Asks, load-store, exchange-store}
-use Rattle.art_schedules.proofs.Common.{answers-asks, Held, ScanStep, FirstKeys, SecondKeys, Index, LoadChild, Release, setting, Walk, at}
+use Rattle.art_schedules.proofs.Common.{answers-asks, HeldRow, ScanStep, FirstKeys, SecondKeys, Index, LoadChild, Release, setting, Walk, at}
 use Rattle.art_schedules.proofs.Common.{scan_turn, keys_turn, calm_of, IsCalm, CalmChange, CalmStays, CalmFilled, CalmReleased}
 use Rattle.art_schedules.proofs.Common.{QuietStepsKeepTrees, ScansStoreNothing}
 use Rattle.std.proofs.Common.{slice_index}
-use Rattle.art_stages.specs.declared.stage.ScanStep.TheVariants.{Lock, Exchange, Wait, Info, Keys, Over}
+use Rattle.art_control_states.specs.declared.stage.ScanStep.TheVariants.{Lock, Exchange, Wait, Info, Keys, Over}
 use Rattle.art_schedules.proofs.calm.InductionLemmas.{step-of-run}
 use Rattle.art_schedules.proofs.calm.RunLemmas.{step-at, calm-at}
 use Rattle.art_schedules.proofs.changes.FollowLemmas.{low-words-keep}
@@ -13,7 +13,7 @@ use Rattle.art_schedules.proofs.changes.FollowLemmas.{low-words-keep}
 pub scans-store-nothing : ScansStoreNothing
 scans-store-nothing shape call low high scan word value mark e = go scan.step scan.walk e
   where
-    keys : (kind : Kind) (n : Held) → keys_turn kind n ≡ Asks (Store word value) mark → ⊥
+    keys : (kind : Kind) (n : HeldRow) → keys_turn kind n ≡ Asks (Store word value) mark → ⊥
     keys Four n e = load-store e
     keys Sixteen n e = load-store e
     keys FortyEight n e = load-store e

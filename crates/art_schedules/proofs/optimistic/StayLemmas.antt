@@ -1,12 +1,12 @@
 -- What a call knows on its way stays so, whatever other calls do.
 use Rattle.art_schedules.proofs.Common.{◌≡◌, ℕ, ◌+◌, List, [], ◌∷◌, ◌++◌, Bool, true, false, sym, ap, ◌∙◌, arith, inl, Option, Some, None}
 use Rattle.art_schedules.proofs.Common.{false≢true, Contents, Call, Reply, Shape, Kind, Child, ChildRow, kind_at, key_bytes, first_difference}
-use Rattle.art_schedules.proofs.Common.{info_of, is_obsolete, seven-words, Optimistic, Setting, key_of, is_insert, Held, Position}
+use Rattle.art_schedules.proofs.Common.{info_of, is_obsolete, seven-words, Optimistic, Setting, key_of, is_insert, HeldRow, Position}
 use Rattle.art_schedules.proofs.Common.{Down, Work, Root, Below, Taken, Stage, Wait, Between, Info, Find, FindKeys, FindMore, FindCount, Slot}
 use Rattle.art_schedules.proofs.Common.{Check, CheckLast, Take, Unlock, Over, held, setting, State, path_in, SameRow, Each, IsKept, rows_kept}
 use Rattle.art_schedules.proofs.Common.{ComesInBy, IsGoneBy, IsSettled, IsSteady, IsStill, all_of, held_at_stage, is_busy, pairs_by}
 use Rattle.art_schedules.proofs.versions.MoveLemmas.{settled-row}
-use Rattle.art_schedules.proofs.Common.{Effect, Follows, BeginsWork, Stands, IsBelow, HangsBelow, KnowsPlace, KnowsStage, IsReachedHere}
+use Rattle.art_schedules.proofs.Common.{Effect, Follows, BeginsWork, IsCurrent, IsBelow, HangsBelow, KnowsPlace, KnowsStage, IsReachedHere}
 use Rattle.art_schedules.proofs.Common.{AllStand, hold_taken, IsPast, IsHeldReached, Agrees, HangsOnWay}
 use Rattle.std.proofs.Common.{slice_index}
 use Rattle.art_schedules.proofs.calm.VersionLemmas.{free-parts, unmarked-free}
@@ -24,20 +24,20 @@ module _ (shape : Shape) (call : Call) (n : ℕ) (calm after : List ℕ) (pairs 
   abbrev c : Setting
   c = setting shape Optimistic call
 
-  abbrev S : Held → Type 0
+  abbrev S : HeldRow → Type 0
   S h = SameRow calm after h.base h.kind × (IsGoneBy effect h.base → ⊥)
 
-  abbrev Kept : Held → Type 0
+  abbrev Kept : HeldRow → Type 0
   Kept h = IsKept false (IsSettled Optimistic shape s) h
 
-  abbrev Past : Held → Type 0
+  abbrev Past : HeldRow → Type 0
   Past h = IsPast s.words h
 
   -- a row whose version is the kept one after the step had it before, and stays
-  back : (h : Held) → Kept h → Past h → Stands t.words h → Stands s.words h × S h
+  back : (h : HeldRow) → Kept h → Past h → IsCurrent t.words h → IsCurrent s.words h × S h
   back h kept past st = (stood, (row, stays))
     where
-      stood : Stands s.words h
+      stood : IsCurrent s.words h
       stood = omega (arith, past, st, steady.rises h.base h.kind kept.1)
 
       here : kind_at shape h.base ≡ Some h.kind
@@ -57,7 +57,7 @@ module _ (shape : Shape) (call : Call) (n : ℕ) (calm after : List ℕ) (pairs 
       stays : IsGoneBy effect h.base → ⊥
       stays g = false≢true (sym (ap is_obsolete st ∙ (free-parts h.kept free).1) ∙ leaving h.base g)
 
-  hangs : (h : Held) (slot : ℕ) (child : Child) → S h → HangsOnWay c calm h slot child → HangsOnWay c after h slot child
+  hangs : (h : HeldRow) (slot : ℕ) (child : Child) → S h → HangsOnWay c calm h slot child → HangsOnWay c after h slot child
   hangs h slot child = hangs-still c follows h slot child
 
   below-kept : (d : Down) → Kept d.above → Past d.above → IsBelow c calm s.words d → IsBelow c after t.words d
@@ -65,7 +65,7 @@ module _ (shape : Shape) (call : Call) (n : ℕ) (calm after : List ℕ) (pairs 
       let x = back d.above kept past st in
       hangs d.above d.slot (ChildRow d.base d.kind) x.1 (k x.0)
 
-  above-kept : (h : Held) (slot : ℕ) (above : Option Held) → Each Kept (all_of above) → Each Past (all_of above)
+  above-kept : (h : HeldRow) (slot : ℕ) (above : Option HeldRow) → Each Kept (all_of above) → Each Past (all_of above)
       → HangsBelow c calm s.words h slot above
       → HangsBelow c after t.words h slot above
   above-kept h slot None kept past k = tt
@@ -82,7 +82,7 @@ module _ (shape : Shape) (call : Call) (n : ℕ) (calm after : List ℕ) (pairs 
   )
 
   -- what was known of a row is still known, if its version is the kept one
-  says : (h : Held) → Kept h → Past h → (P Q : Type 0) → (S h → P → Q) → (Stands s.words h → P) → Stands t.words h → Q
+  says : (h : HeldRow) → Kept h → Past h → (P Q : Type 0) → (S h → P → Q) → (IsCurrent s.words h → P) → IsCurrent t.words h → Q
   says h kept past P Q f p st =
       let x = back h kept past st in
       f x.1 (p x.0)
@@ -105,7 +105,7 @@ module _ (shape : Shape) (call : Call) (n : ℕ) (calm after : List ℕ) (pairs 
       let x = back (held d.base d.kind 0 was) kept past st in
       (follows.rows d.base d.kind).1 (inl (k x.0, x.1.1))
 
-  taking-kept : (row : Held) (above under : Option Held) (w : Work) → Each Kept (row ∷ (all_of above ++ all_of under))
+  taking-kept : (row : HeldRow) (above under : Option HeldRow) (w : Work) → Each Kept (row ∷ (all_of above ++ all_of under))
       → Each Past (row ∷ (all_of above ++ all_of under)) → Each S (all_of above)
       → (AllStand s.words row under → BeginsWork c calm (hold_taken row above under) w)
       → AllStand t.words row under → BeginsWork c after (hold_taken row above under) w
@@ -121,12 +121,12 @@ module _ (shape : Shape) (call : Call) (n : ℕ) (calm after : List ℕ) (pairs 
       let y = back b kept.1.1.0 past.1.1.0 st.1 in
       begins-still c follows (record { row = b; above = Some row }) w (y.1, (x.1, tt)) (k (x.0, y.0))
 
-  here-kept : (h : Held) → Kept h → Past h → IsReachedHere c calm s.words h → IsReachedHere c after t.words h
+  here-kept : (h : HeldRow) → Kept h → Past h → IsReachedHere c calm s.words h → IsReachedHere c after t.words h
   here-kept h kept past k = λ st.
       let x = back h kept past st in
       (follows.rows h.base h.kind).1 (inl (k x.0, x.1.1))
 
-  under-kept : (row : Held) (above under : Option Held) → Each Kept (row ∷ (all_of above ++ all_of under))
+  under-kept : (row : HeldRow) (above under : Option HeldRow) → Each Kept (row ∷ (all_of above ++ all_of under))
       → Each Past (row ∷ (all_of above ++ all_of under))
       → Each (IsReachedHere c calm s.words) (all_of under) → Each (IsReachedHere c after t.words) (all_of under)
   under-kept row above None kept past k = tt
@@ -193,15 +193,15 @@ module _ (shape : Shape) (call : Call) (n : ℕ) (calm after : List ℕ) (pairs 
   at-kept None i stage kept past still k = stage-kept i stage kept past still k
   at-kept (Some r) i stage kept past still k = reply-kept r i stage kept k
 
-  past-kept : (hs : List Held) → Each Kept hs → Each Past hs → Each (IsPast t.words) hs
+  past-kept : (hs : List HeldRow) → Each Kept hs → Each Past hs → Each (IsPast t.words) hs
   past-kept [] kept past = tt
   past-kept (h ∷ hs) kept past = (omega (arith, past.0, steady.rises h.base h.kind kept.0.1), past-kept hs kept.1 past.1)
 
-  rows-still : (hs : List Held) → Each (IsStill calm s.words after t.words effect) hs → Each S hs
+  rows-still : (hs : List HeldRow) → Each (IsStill calm s.words after t.words effect) hs → Each S hs
   rows-still [] still = tt
   rows-still (h ∷ hs) still = ((still.0.row, still.0.stays), rows-still hs still.1)
 
-  own-kept : (hs : List Held) → Each (IsStill calm s.words after t.words effect) hs → Each (IsHeldReached shape calm s.words) hs
+  own-kept : (hs : List HeldRow) → Each (IsStill calm s.words after t.words effect) hs → Each (IsHeldReached shape calm s.words) hs
       → Each (IsHeldReached shape after t.words) hs
   own-kept [] still own = tt
   own-kept (h ∷ hs) still own = (

@@ -3,7 +3,7 @@ use Rattle.art_schedules.proofs.Common.{◌≡◌, ℕ, ◌≤◌, true, List, [
 use Rattle.art_schedules.proofs.Common.{same_Some, none-some, take-length, Call, Scan, Reply, Contents, Does, Shape, Optimistic, Answers}
 use Rattle.art_schedules.proofs.Common.{reply_of, is_tree_call, Stage, Info, CheckLast, Unlock, Over, setting, reply_for, turn_at, OnKey}
 use Rattle.art_schedules.proofs.Common.{call_turn, Process, Plan, State, begun, opened_on, known_reply, At, Gives, IsIn, IsOpen, stage_of}
-use Rattle.art_schedules.proofs.Common.{AllFit, Before, Found, HasNotChanged, HasReply, IsInCall, IsToldStep, Status, Tale, calm_of}
+use Rattle.art_schedules.proofs.Common.{AllFit, Before, Found, HasNotChanged, HasReply, IsInCall, IsTraceStep, Status, Trace, calm_of}
 use Rattle.art_schedules.proofs.versions.StepLemmas.{next-turn}
 use Rattle.art_schedules.proofs.Common.{Stays, FindsAt, AnswersCall, MeansAt, HasItsReply, the_plan, KnowsWay, AtWork, AtEnd, Answering, Leaving}
 use Rattle.art_schedules.proofs.Common.{WorkStep, Ghosts, IsWorld, IsFit, Seeks, Works, Finds, Walks, OptimisticFits}
@@ -40,8 +40,8 @@ found-answers shape calm words call reply answer (Over outcome) k e = k.way ∙ 
 found-answers shape calm words call reply answer stage k e = absurd k.way
 
 module _ (laws : LawsOfParts) (shape : Shape) (scripts : List (List Call)) (start : Contents) (words : List ℕ)
-    (schedule : List ℕ) (tale : Tale) (p : ℕ) (s t : State) (g : Ghosts)
-    (told : IsToldStep (the_plan Optimistic shape scripts) start words schedule tale p s t
+    (schedule : List ℕ) (tale : Trace) (p : ℕ) (s t : State) (g : Ghosts)
+    (told : IsTraceStep (the_plan Optimistic shape scripts) start words schedule tale p s t
     (calm_of (the_plan Optimistic shape scripts) words schedule)
     (calm_of (the_plan Optimistic shape scripts) words (schedule ++ p ∷ [])))
     (world : IsWorld shape g s)

@@ -1,7 +1,7 @@
 -- Every run of the optimistic tree is linearizable, from the laws of the parts.
 use Rattle.art_schedules.proofs.Common.{◌≡◌, ℕ, List, [], ◌∷◌, ◌++◌, length, refl, sym, subst, None, none-some, Call, Get, Insert, Remove, Scan}
 use Rattle.art_schedules.proofs.Common.{Replace, Reply, Contents, Shape, Variant, Optimistic, Access, Wait, Root, Process, Plan, State}
-use Rattle.art_schedules.proofs.Common.{OptimisticIsLinearizable, calm_of, StartsAreAtRest, StoriesGiveOrders, Status, Before, Tale, IsToldStep}
+use Rattle.art_schedules.proofs.Common.{OptimisticIsLinearizable, calm_of, StartsAreAtRest, StoriesGiveOrders, Status, Before, Trace, IsTraceStep}
 use Rattle.art_schedules.proofs.Common.{AllFit, AreLed, IsLedOn, OwnStep, BeginsCall, MakesAccess, AnswersCall, HasItsReply, set_at, the_plan}
 use Rattle.art_schedules.proofs.Common.{Makes, Ghosts, IsWorld, IsFit, Seeks, Walks, OptimisticFits, TreeGoesOn}
 use Rattle.art_schedules.proofs.stories.ClaimLemmas.{optimistic-from-ghosts}
@@ -20,7 +20,7 @@ module _ (laws : LawsOfParts) (shape : Shape) (scripts : List (List Call)) (star
   abbrev World : Ghosts → List ℕ → State → List ℕ → Type 0
   World g schedule s calm = IsWorld shape g s
 
-  module _ (schedule : List ℕ) (tale : Tale) (p : ℕ) (s t : State) (g : Ghosts) where
+  module _ (schedule : List ℕ) (tale : Trace) (p : ℕ) (s t : State) (g : Ghosts) where
     abbrev here : List ℕ
     here = calm_of plan words schedule
 
@@ -32,7 +32,7 @@ module _ (laws : LawsOfParts) (shape : Shape) (scripts : List (List Call)) (star
 
     abbrev OwnClause : List ℕ → List ℕ → Type 0
     OwnClause x y =
-        (told : IsToldStep plan start words schedule tale p s t x y) → IsWorld shape g s → AllFit (OptimisticFits shape g) schedule s x
+        (told : IsTraceStep plan start words schedule tale p s t x y) → IsWorld shape g s → AllFit (OptimisticFits shape g) schedule s x
         → (call : Call) (q later : Process) (a : Access) (status : Status) → MakesAccess plan s p t call q later a
         → OptimisticFits shape g schedule s x p call q status
         → OwnStep plan words schedule tale p t x y call q status
@@ -45,7 +45,7 @@ module _ (laws : LawsOfParts) (shape : Shape) (scripts : List (List Call)) (star
 
     abbrev BeginClause : List ℕ → List ℕ → Type 0
     BeginClause x y =
-        (told : IsToldStep plan start words schedule tale p s t x y) → IsWorld shape g s → AllFit (OptimisticFits shape g) schedule s x
+        (told : IsTraceStep plan start words schedule tale p s t x y) → IsWorld shape g s → AllFit (OptimisticFits shape g) schedule s x
         → (call : Call) (q later : Process) → BeginsCall plan s p t call q later
         → TreeGoesOn shape t.words x y (tale.pairs (length schedule)) None
         → IsLedOn Ghosts World (OptimisticFits shape) g schedule p s t x y
@@ -72,7 +72,7 @@ module _ (laws : LawsOfParts) (shape : Shape) (scripts : List (List Call)) (star
 
     abbrev AnswerClause : List ℕ → List ℕ → Type 0
     AnswerClause x y =
-        (told : IsToldStep plan start words schedule tale p s t x y) → IsWorld shape g s → AllFit (OptimisticFits shape g) schedule s x
+        (told : IsTraceStep plan start words schedule tale p s t x y) → IsWorld shape g s → AllFit (OptimisticFits shape g) schedule s x
         → (call : Call) (q : Process) (status : Status) (reply : Reply) → AnswersCall plan s p t call q reply
         → OptimisticFits shape g schedule s x p call q status → TreeGoesOn shape t.words x y (tale.pairs (length schedule)) None
         → IsLedOn Ghosts World (OptimisticFits shape) g schedule p s t x y

@@ -4,7 +4,7 @@ use Rattle.art_schedules.proofs.Common.{slice_index, Option, Some, None, same_So
 use Rattle.art_schedules.proofs.Common.{Optimistic, is_insert, Stage, setting, CallAt, OnKey, OnScan, Process, Plan, State, Reached, IsClaimed}
 use Rattle.art_schedules.proofs.Common.{Effect, IsAmong, IsGoneBy, IsOpen, Named, TreeGoesOn, calm_of, held_at_stage, holds, stage_of}
 use Rattle.art_schedules.proofs.versions.KnownLemmas.{each-map}
-use Rattle.art_schedules.proofs.Common.{KeepsTree, Status, Tale, IsToldStep, AllFit, IsLedOn, set_at, the_plan, KnowsWay, AtWork, fresh_of}
+use Rattle.art_schedules.proofs.Common.{KeepsTree, Status, Trace, IsTraceStep, AllFit, IsLedOn, set_at, the_plan, KnowsWay, AtWork, fresh_of}
 use Rattle.art_schedules.proofs.Common.{Makes, HoldsReached, IsOther, AreTwoRows, Ghosts, IsWorld, IsFit, Seeks, Works, Finds, Walks}
 use Rattle.art_schedules.proofs.Common.{OptimisticFits}
 use Rattle.art_schedules.proofs.calm.CalmLemmas.{claimed-row}
@@ -36,8 +36,8 @@ module _ (laws : LawsOfParts) (shape : Shape) (scripts : List (List Call)) (star
   abbrev World : Ghosts → List ℕ → State → List ℕ → Type 0
   World g schedule s calm = IsWorld shape g s
 
-  module _ (schedule : List ℕ) (tale : Tale) (p : ℕ) (s t : State) (g : Ghosts)
-      (told : IsToldStep plan start words schedule tale p s t (calm_of plan words schedule) (calm_of plan words (schedule ++ p ∷ [])))
+  module _ (schedule : List ℕ) (tale : Trace) (p : ℕ) (s t : State) (g : Ghosts)
+      (told : IsTraceStep plan start words schedule tale p s t (calm_of plan words schedule) (calm_of plan words (schedule ++ p ∷ [])))
       (world : IsWorld shape g s) (all : AllFit (OptimisticFits shape g) schedule s (calm_of plan words schedule)) where
     abbrev calm : List ℕ
     calm = calm_of plan words schedule

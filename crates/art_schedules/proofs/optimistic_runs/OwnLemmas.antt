@@ -1,11 +1,11 @@
 -- What a call of the optimistic tree does in a step of its own.
 use Rattle.art_schedules.proofs.Common.{◌≡◌, ◌⊎◌, ℕ, true, false, List, [], ◌∷◌, ◌++◌, length, refl, sym, ap, subst, ◌∙◌, inl, inr, ⊎_elim}
 use Rattle.art_schedules.proofs.Common.{Option, Some, None, Call, Scan, Reply, Contents, Shape, Optimistic, Access, Point, Asks, is_tree_call}
-use Rattle.art_schedules.proofs.Common.{is_insert, is_scan, Held, Hold, Outcome, Stage, Over, Work, setting, ScanAt, turn_at, work_at, OnKey}
+use Rattle.art_schedules.proofs.Common.{is_insert, is_scan, HeldRow, Hold, Outcome, Stage, Over, Work, setting, ScanAt, turn_at, work_at, OnKey}
 use Rattle.art_schedules.proofs.Common.{OnScan, call_turn, call_after, Process, got_by, Plan, State, begun, opened_on, IsClaimed, Named, Each}
 use Rattle.art_schedules.proofs.Common.{Effect, IsKept, IsOpen, KeepsTree, Knows, RowsOf, Status, calm_of, rows_of_hold, stage_of}
 use Rattle.art_schedules.proofs.versions.KnownLemmas.{each-map}
-use Rattle.art_schedules.proofs.Common.{Before, Found, Changed, HasNotChanged, Tale, IsToldStep, AllFit, IsLedOn, OwnStep, Changes, Next, Stays}
+use Rattle.art_schedules.proofs.Common.{Before, Found, Changed, HasNotChanged, Trace, IsTraceStep, AllFit, IsLedOn, OwnStep, Changes, Next, Stays}
 use Rattle.art_schedules.proofs.Common.{Forgets, FindsNow, MakesAccess, set_at, the_plan, KnowsWay, IsHeldReached, StepsOn, BeginsWork, AtWork}
 use Rattle.art_schedules.proofs.Common.{AtEnd, Makes, WorkStep, EndStep, Ghosts, IsWorld, IsFit, Seeks, Works, Finds, Walks, OptimisticFits}
 use Rattle.events.specs.declared.event.Reply.TheVariants.{Refused}
@@ -26,8 +26,8 @@ over-asks : (shape : Shape) (call : Call) (o : Outcome) (a : Access) (mark : Opt
 over-asks shape call o a mark e = cc
 
 module _ (laws : LawsOfParts) (shape : Shape) (scripts : List (List Call)) (start : Contents) (words : List ℕ)
-    (schedule : List ℕ) (tale : Tale) (p : ℕ) (s t : State) (g : Ghosts)
-    (told : IsToldStep (the_plan Optimistic shape scripts) start words schedule tale p s t
+    (schedule : List ℕ) (tale : Trace) (p : ℕ) (s t : State) (g : Ghosts)
+    (told : IsTraceStep (the_plan Optimistic shape scripts) start words schedule tale p s t
     (calm_of (the_plan Optimistic shape scripts) words schedule)
     (calm_of (the_plan Optimistic shape scripts) words (schedule ++ p ∷ [])))
     (world : IsWorld shape g s)
@@ -101,13 +101,13 @@ module _ (laws : LawsOfParts) (shape : Shape) (scripts : List (List Call)) (star
             → AtWork (setting shape Optimistic call) t.words after None from.0.next
         works h w f begins each =
             subst (AtWork (setting shape Optimistic call) t.words after None) (sym f)
-            (laws.work_begins (setting shape Optimistic call) t.words after h w told.calm_behind.long known begins
-            (each-map (λ (x : Held) y. record {
+            (laws.work_begins (setting shape Optimistic call) t.words after h w told.calm_after_step.long known begins
+            (each-map (λ (x : HeldRow) y. record {
               reached = y.0.1;
               live = kept-live Optimistic (RowsOf shape) x y.1 (inl refl);
             }) (rows_of_hold h)
             (each-both (IsHeldReached shape after t.words) (IsKept false (RowsOf shape)) (rows_of_hold h) each kept))
-            (each-map (λ (x : Held) y. y.0) (rows_of_hold h) each))
+            (each-map (λ (x : HeldRow) y. y.0) (rows_of_hold h) each))
           where
             known : Knows (RowsOf shape) (setting shape Optimistic call) (OnKey (work_at (setting shape Optimistic call) h w))
             known =

@@ -1,8 +1,8 @@
 -- Small facts of stages, of ghosts, of rows that are held, and of calls that are open.
 use Rattle.art_schedules.proofs.Common.{◌≡◌, ◌≢◌, ℕ, zero, suc, Bool, false, List, [], ◌∷◌, refl, sym, subst, inl, inr, Option, Some, None, Kind}
-use Rattle.art_schedules.proofs.Common.{Four, Sixteen, FortyEight, Full, Setting, Held, Hold, Work, work_at, moves_at, put_at, IsAmong, Named}
+use Rattle.art_schedules.proofs.Common.{Four, Sixteen, FortyEight, Full, Setting, HeldRow, Hold, Work, work_at, moves_at, put_at, IsAmong, Named}
 use Rattle.art_schedules.proofs.Common.{Each, rows_kept, locks_of, rows_of_hold, AreTwoRows}
-use Rattle.art_stages.specs.declared.stage.Work.TheVariants as work
+use Rattle.art_control_states.specs.declared.stage.Work.TheVariants as work
 
 -- if work begins, the rows of the hold are those whose versions are kept
 pub work-kept : (i : Bool) (c : Setting) (h : Hold) (w : Work) → rows_kept false i (work_at c h w) ≡ rows_of_hold h
@@ -22,13 +22,13 @@ work-kept i c h (work.Put keys) = puts h.row.kind
     puts Full = refl
 
 -- what holds of each row of a list holds of a row that is held as one of them
-pub among-locks : (P : ℕ → Kind → Type 0) (rows : List Held) → Each (λ (x : Held). P x.base x.kind) rows → (h : Held)
+pub among-locks : (P : ℕ → Kind → Type 0) (rows : List HeldRow) → Each (λ (x : HeldRow). P x.base x.kind) rows → (h : HeldRow)
     → IsAmong h (locks_of rows) → P h.base h.kind
 among-locks P [] each h a = absurd a
-among-locks P (x ∷ xs) each h (inl same) = subst (λ (y : Held). P y.base y.kind) (sym same) each.0
+among-locks P (x ∷ xs) each h (inl same) = subst (λ (y : HeldRow). P y.base y.kind) (sym same) each.0
 among-locks P (x ∷ xs) each h (inr a) = among-locks P xs each.1 h a
 
-pub each-both : (P Q : Held → Type 0) → (xs : List Held) → Each P xs → Each Q xs → Each (λ x. P x × Q x) xs
+pub each-both : (P Q : HeldRow → Type 0) → (xs : List HeldRow) → Each P xs → Each Q xs → Each (λ x. P x × Q x) xs
 each-both P Q [] e f = tt
 each-both P Q (x ∷ xs) e f = ((e.0, f.0), each-both P Q xs e.1 f.1)
 

@@ -3,18 +3,18 @@ use Rattle.art_schedules.proofs.Common.{◌≡◌, ℕ, zero, suc, ◌+◌, ◌<
 use Rattle.art_schedules.proofs.Common.{inl, inr, arith, slice_index, Option, Some, length-append, append-nil, set-get_or, cases_lt, take-length}
 use Rattle.art_schedules.proofs.Common.{Call, Scan, Reply, Kind, Four, Sixteen, FortyEight, Full, kind_at, Optimistic, Access, Load, Point, Turn}
 use Rattle.art_schedules.proofs.Common.{Asks, Answers, Setting, act, asks-same, answers-asks, answers-same, ScanStep, FirstKeys, SecondKeys}
-use Rattle.art_schedules.proofs.Common.{Index, LoadChild, Release, Held, Walk, ScanAt, at, scan_start, scan_turn, keys_turn, call_turn}
+use Rattle.art_schedules.proofs.Common.{Index, LoadChild, Release, HeldRow, Walk, ScanAt, at, scan_start, scan_turn, keys_turn, call_turn}
 use Rattle.art_schedules.proofs.Common.{Plan, RunsAlone, after_all, call_begun, ends, goes, got_by, is_busy, same-runs}
 use Rattle.art_schedules.proofs.moments.AttemptLemmas.{stage}
 use Rattle.art_schedules.proofs.moments.ValidLemmas.{turn-is}
 use Rattle.art_schedules.proofs.Common.{SameWords}
 use Rattle.std.proofs.Common.{append_assoc}
 use Rattle.events.specs.declared.event.Reply.TheVariants as replies
-use Rattle.art_stages.specs.declared.stage.ScanStep.TheVariants.{Lock, Exchange, Wait, Info, Keys, Over}
+use Rattle.art_control_states.specs.declared.stage.ScanStep.TheVariants.{Lock, Exchange, Wait, Info, Keys, Over}
 use Rattle.art_core.specs.Moments.{next_word, alone, AnswersAlone, Reads}
 use Rattle.art_schedules.proofs.calm.VersionLemmas.{unmarked-free}
 use Rattle.art_schedules.proofs.moments.TimeLemmas.{take-more, index-more, index-last}
-use Rattle.art_schedules.proofs.moments.StandsLemmas.{Stands}
+use Rattle.art_schedules.proofs.moments.StandsLemmas.{IsCurrent}
 use Rattle.art_schedules.proofs.moments.ScanLemmas.{all-fold, all-append, at-end, attempted}
 use Rattle.art_schedules.proofs.moments.ValidLemmas.{validated}
 use Rattle.art_schedules.proofs.moments.AloneLemmas.{answers-alone}
@@ -82,7 +82,7 @@ module _ (plan : Plan) (lo hi : ℕ) (v : plan.variant ≡ Optimistic) (some : 1
       here : ScanAt
       here = stage plan.shape lo hi x.attempt
 
-      stands : Stands plan.shape some lo hi x.attempt here.step here.walk
+      stands : IsCurrent plan.shape some lo hi x.attempt here.step here.walk
       stands = at-end plan.shape some lo hi x.attempt x.stands
 
       is : act plan.shape plan.variant scan got ≡ scan_turn set here
@@ -91,13 +91,13 @@ module _ (plan : Plan) (lo hi : ℕ) (v : plan.variant ≡ Optimistic) (some : 1
           x.earlier x.attempt
           ∙ (ap (λ y. after_all set y x.attempt) x.begins ∙ all-fold plan.shape some lo hi (scan_start set) x.attempt))))
 
-      keys : (kind : Kind) (n : Held) → act plan.shape plan.variant scan got ≡ keys_turn kind n → LoadsOrAnswers got
+      keys : (kind : Kind) (n : HeldRow) → act plan.shape plan.variant scan got ≡ keys_turn kind n → LoadsOrAnswers got
       keys Four n e = LoadsWord _ _ e
       keys Sixteen n e = LoadsWord _ _ e
       keys FortyEight n e = LoadsWord _ _ e
       keys Full n e = LoadsWord _ _ e
 
-      go : (step : ScanStep) (w : Walk) → Stands plan.shape some lo hi x.attempt step w
+      go : (step : ScanStep) (w : Walk) → IsCurrent plan.shape some lo hi x.attempt step w
           → act plan.shape plan.variant scan got ≡ scan_turn set (at step w)
           → LoadsOrAnswers got
       go (Lock entry first) w h e = absurd h

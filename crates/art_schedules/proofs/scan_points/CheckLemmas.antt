@@ -4,7 +4,7 @@ use Rattle.art_schedules.proofs.Common.{arith, if◌then◌else◌, slice_index,
 use Rattle.art_schedules.proofs.Common.{Answers, Asks, Setting, act, ScanAt, entry_base, scan_start, scan_after, scan_turn, Plan, State}
 use Rattle.art_schedules.proofs.moments.ValidLemmas.{turn-is}
 use Rattle.std.specs.Prelude.{◌⊎◌}
-use Rattle.art_stages.specs.declared.stage.Entry.TheVariants.{Root}
+use Rattle.art_control_states.specs.declared.stage.Entry.TheVariants.{Root}
 use Rattle.art_core.specs.Moments.{Reads, HasMoment}
 use Rattle.art_schedules.proofs.moments.AttemptLemmas.{fold, Loads}
 use Rattle.art_schedules.proofs.moments.ValidLemmas.{from-load}

@@ -12,7 +12,7 @@ use Rattle.art_schedules.proofs.versions.ChangeLemmas.{index-other}
 use Rattle.art_schedules.proofs.versions.RunLemmas.{idle-idle}
 use Rattle.art_schedules.proofs.versions.StepLemmas.{after-more, next-turn}
 use Rattle.art_schedules.proofs.Common.{CalmChange, CalmStays, CalmFilled, CalmReleased, Effect, KeptTreesFollow, Status, Before, Changed}
-use Rattle.art_schedules.proofs.Common.{HasReply, Tale, HasStatus, IsStory, MeansAt, IsToldStep, Next, OwnStep, Changes, MakesAccess}
+use Rattle.art_schedules.proofs.Common.{HasReply, Trace, HasStatus, IsStory, MeansAt, IsTraceStep, Next, OwnStep, Changes, MakesAccess}
 use Rattle.art_schedules.proofs.Common.{AnswersCall, AllFit, OfState, OfCall, IsLedOn, AreLed, HasItsReply, StartsAreAtRest, StoriesGiveOrders}
 use Rattle.art_schedules.proofs.Common.{pairs_by, TreeGoesOn}
 use Rattle.orders.specs.Orders.{IsLinearizable}
@@ -64,7 +64,7 @@ module _ (starts : StartsAreAtRest) (trees : KeptTreesFollow) (plan : Plan) (ful
 
   -- A story so far, with calm at each moment, and a status that fits each open call.
   record IsTold (schedule : List ℕ) (s : State) : Type 0 where
-    tale : Tale
+    tale : Trace
     story : IsStory plan start first schedule tale
     means : (u : ℕ) → u ≤ length schedule → MeansAt plan words schedule u (tale.pairs u)
     ghost : Ghost
@@ -115,13 +115,13 @@ module _ (starts : StartsAreAtRest) (trees : KeptTreesFollow) (plan : Plan) (ful
     here-means : MeansAt plan words schedule n m
     here-means = h.means n (omega arith)
 
-    told : IsToldStep plan start words schedule h.tale p s t calm after
+    told : IsTraceStep plan start words schedule h.tale p s t calm after
     told = record {
       step = record { full = full; before = before; behind = behind; made = made };
       calm_is = refl;
       after_is = refl;
       calm_before = calm-at plan start words schedule s before full;
-      calm_behind = calm-at plan start words (schedule ++ p ∷ []) t behind full;
+      calm_after_step = calm-at plan start words (schedule ++ p ∷ []) t behind full;
       change = step-at plan start words schedule p s t behind full before.gives;
       claims = here-means.claims;
       rests = subst (λ l. IsAtRest plan.shape here-means.claims (calm_of plan words l)) (take-length schedule) here-means.rests;
@@ -139,8 +139,8 @@ module _ (starts : StartsAreAtRest) (trees : KeptTreesFollow) (plan : Plan) (ful
     low-goes w own move word is none = record {
       claims = told.claims;
       follows = trees plan.shape told.claims told.claims calm after m told.rests told.means
-          (low-words-keep plan.shape told.claims calm after told.rests (told.calm_behind.long ∙ sym told.calm_before.long)
-          told.calm_behind.small
+          (low-words-keep plan.shape told.claims calm after told.rests (told.calm_after_step.long ∙ sym told.calm_before.long)
+          told.calm_after_step.small
           (λ k. let e = claims k in omega arith) (stays told.change.change))
           (λ k. let e = claims k in omega (arith, told.rests.claims k));
       gone = λ b gone. absurd gone;
@@ -159,7 +159,7 @@ module _ (starts : StartsAreAtRest) (trees : KeptTreesFollow) (plan : Plan) (ful
 
         claims : (k : Kind) → slice_index after (claims_of k) ≡ slice_index calm (claims_of k)
         claims k =
-            told.calm_behind.low (claims_of k) (low k).0
+            told.calm_after_step.low (claims_of k) (low k).0
             ∙ (ap (λ x. slice_index x.words (claims_of k)) is
             ∙ (index-other s.words (word_of_move move) _ (claims_of k) (λ e. (low k).1 (e ∙ word))
             ∙ sym (told.calm_before.low (claims_of k) (low k).0)))
@@ -171,7 +171,7 @@ module _ (starts : StartsAreAtRest) (trees : KeptTreesFollow) (plan : Plan) (ful
       abbrev next : Contents
       next = pairs_by effect m
 
-      abbrev later : Tale
+      abbrev later : Trace
       later = continued n h.tale change next
 
       abbrev longer : List ℕ

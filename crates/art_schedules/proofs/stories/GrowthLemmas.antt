@@ -3,7 +3,7 @@ use Rattle.art_schedules.proofs.Common.{◌≡◌, ◌≢◌, ℕ, ◌+◌, ◌<
 use Rattle.art_schedules.proofs.Common.{◌∙◌, subst, inl, inr, ⊎_elim, arith, slice_get, nat_lt, false≢true, cases_lt, le-ltb, lt-ltb}
 use Rattle.art_schedules.proofs.Common.{take-append-le, length-append, same_Some, slice_get_within, take-length, Call, Reply, Contents, Does}
 use Rattle.art_schedules.proofs.Common.{Process, Plan, State, begun, known_reply, Gives, At, run_on, IsIn, EndsAt, IsInCallAt, IsOpen, Status}
-use Rattle.art_schedules.proofs.Common.{Before, Found, Changed, HasNotChanged, HasReply, Tale, IsInCall, HasKept, HasStatus, IsStory, IsOwnStep}
+use Rattle.art_schedules.proofs.Common.{Before, Found, Changed, HasNotChanged, HasReply, Trace, IsInCall, HasKept, HasStatus, IsStory, IsOwnStep}
 use Rattle.art_schedules.proofs.Common.{Next, Stays, Forgets, FindsNow, FindsAt}
 use Rattle.std.proofs.Common.{Some, None}
 use Rattle.std.specs.Prelude.{◌⊎◌}
@@ -12,20 +12,20 @@ use Rattle.events.specs.declared.event.Reply.TheVariants as replies
 use Rattle.art_schedules.proofs.calls.MomentLemmas.{stage-rises, stage-open, stage-idle}
 
 -- The later tale is the same up to moment n, and says this of step n and of the pairs after it.
-pub record Continues (n : ℕ) (tale later : Tale) (change : Bool) (next : Contents) : Type 0 where
+pub record Continues (n : ℕ) (tale later : Trace) (change : Bool) (next : Contents) : Type 0 where
   pub pairs : (u : ℕ) → u ≤ n → later.pairs u ≡ tale.pairs u
   pub changes : (u : ℕ) → u < n → later.changes u ≡ tale.changes u
   pub here : later.changes n ≡ change
   pub behind : later.pairs (n + 1) ≡ next
 
-abbrev pub continued : ℕ → Tale → Bool → Contents → Tale
+abbrev pub continued : ℕ → Trace → Bool → Contents → Trace
 continued n tale change next = record {
   pairs = λ u. cond (nat_lt n u) next (tale.pairs u);
   changes = λ u. cond (nat_lt u n)
       (tale.changes u) change;
 }
 
-pub continues : (n : ℕ) (tale : Tale) (change : Bool) (next : Contents) → Continues n tale (continued n tale change next) change next
+pub continues : (n : ℕ) (tale : Trace) (change : Bool) (next : Contents) → Continues n tale (continued n tale change next) change next
 continues n tale change next = record {
   pairs = λ u le. ap (λ b. cond b next (tale.pairs u)) (le-ltb n u le);
   changes = λ u less. ap (λ b. cond b (tale.changes u) change) (lt-ltb u n less);
@@ -75,14 +75,14 @@ module _ (plan : Plan) (start : Contents) (first : State) (schedule : List ℕ) 
     pub in-now : (r : ℕ) (call : Call) (w : Process) → IsOpen s r call w → IsInCall plan first schedule n r (length (begun w)) call
     in-now r call w o = record { now = s; at = at-last; is_in = record { process = w; own = o.own; count = refl; is_open = o.is_open } }
 
-  pub kept-so-far : (tale : Tale) (t r calls : ℕ) (call : Call) (status : Status) → HasNotChanged status
+  pub kept-so-far : (tale : Trace) (t r calls : ℕ) (call : Call) (status : Status) → HasNotChanged status
       → HasStatus plan first schedule tale t r calls call status → HasKept plan first schedule tale t r calls call
   kept-so-far tale t r calls call Before not h = h
   kept-so-far tale t r calls call (Found reply) not h = h.kept
   kept-so-far tale t r calls call (Changed reply) not h = absurd not
 
   -- a status that goes on where the pairs stay
-  pub status-goes : (tale : Tale) (calls : ℕ) (call : Call) (status next : Status) → Next plan first schedule tale p calls call status next
+  pub status-goes : (tale : Trace) (calls : ℕ) (call : Call) (status next : Status) → Next plan first schedule tale p calls call status next
       → IsInCall plan first schedule n p calls call
       → HasStatus plan first schedule tale n p calls call status → HasStatus plan first schedule tale n p calls call next
   status-goes tale calls call status next (Stays e) in-it h = subst (HasStatus plan first schedule tale n p calls call) (sym e) h
@@ -95,7 +95,7 @@ module _ (plan : Plan) (start : Contents) (first : State) (schedule : List ℕ) 
       subst (HasStatus plan first schedule tale n p calls call) (sym e)
       (record { kept = kept-so-far tale n p calls call status not h; moment = u; until = le; within = within; finds = does })
 
-  module _ (tale later : Tale) (change : Bool) (next : Contents) (c : Continues n tale later change next) where
+  module _ (tale later : Trace) (change : Bool) (next : Contents) (c : Continues n tale later change next) where
     kept-more : (t r calls : ℕ) (call : Call) → t ≤ n → HasKept plan first schedule tale t r calls call
         → HasKept plan first longer later t r calls call
     kept-more t r calls call le kept u less own = c.changes u (omega arith) ∙ kept u less (own-front u r calls call (omega arith) own)

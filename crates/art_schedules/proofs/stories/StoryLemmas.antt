@@ -3,7 +3,7 @@ use Rattle.art_schedules.proofs.Common.{◌≡◌, ℕ, ◌+◌, ◌<◌, ◌≤
 use Rattle.art_schedules.proofs.Common.{cases_lt, take-length, false≢true, slice_get_within, Reply, Operation, Response, pair_limit, Contents}
 use Rattle.art_schedules.proofs.Common.{Does, DoesCall, Plan, State, opened_on, Gives, At, EndsWith, IsWithin, RunCall, IsRunCall, IsStepOf}
 use Rattle.art_schedules.proofs.Common.{ChangesNothing, Pends, HasOwnEffect, EffectsGiveOrders, IsRun, Status, Before, Found, Changed, HasReply}
-use Rattle.art_schedules.proofs.Common.{Tale, IsInCall, HasKept, HasStatus, IsStory, IsOwnStep, StoriesGiveOrders}
+use Rattle.art_schedules.proofs.Common.{Trace, IsInCall, HasKept, HasStatus, IsStory, IsOwnStep, StoriesGiveOrders}
 use Rattle.std.proofs.Common.{Option, Some, None}
 use Rattle.std.specs.Prelude.{◌⊎◌}
 use Rattle.art_schedules.specs.calls.Effects.{Changes, Finds}
@@ -12,7 +12,7 @@ use Rattle.art_schedules.proofs.calls.MomentLemmas.{earlier-moment}
 use Rattle.art_schedules.specs.stories.Stories.{HasChanged}
 use Rattle.art_schedules.specs.stories.Laws.{StoriesGiveEffects}
 
-module _ (plan : Plan) (start : Contents) (first s : State) (schedule : List ℕ) (tale : Tale)
+module _ (plan : Plan) (start : Contents) (first s : State) (schedule : List ℕ) (tale : Trace)
     (gives : At plan first schedule (length schedule) s)
     (story : IsStory plan start first schedule tale) (a : Operation) (c : RunCall) (is : IsRunCall plan first schedule a c) where
   -- the moments within the call are those at which its process is in it
@@ -106,7 +106,7 @@ story-gives-orders orders plan start words schedule s tale run story =
     orders plan start words schedule s run (story-gives-effects plan start words schedule s tale run story)
 
 -- The pairs of a story are never more than a scan may answer.
-pub story-few : (plan : Plan) (start : Contents) (words schedule : List ℕ) (s : State) (tale : Tale) → IsRun plan start words schedule s
+pub story-few : (plan : Plan) (start : Contents) (words schedule : List ℕ) (s : State) (tale : Trace) → IsRun plan start words schedule s
     → IsStory plan start (opened_on plan words) schedule tale → (t : ℕ) → t ≤ length schedule → length (tale.pairs t) ≤ pair_limit
 unfolding story-gives-effects
 story-few plan start words schedule s tale run story =

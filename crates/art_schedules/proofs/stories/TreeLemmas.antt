@@ -1,6 +1,6 @@
 -- How calm's tree goes on in a step of a run with a tale.
 use Rattle.art_schedules.proofs.Common.{ℕ, ◌+◌, List, length, arith, slice_index, None, Contents, Four, Sixteen, FortyEight, Full, Plan, State}
-use Rattle.art_schedules.proofs.Common.{IsFull, HasFewClaims, KeepsTree, KeptTreesFollow, Tale, IsToldStep, TreeGoesOn}
+use Rattle.art_schedules.proofs.Common.{IsFull, HasFewClaims, KeepsTree, KeptTreesFollow, Trace, IsTraceStep, TreeGoesOn}
 
 -- at most this many claims of each kind were made
 abbrev pub all_claims : List ℕ → ℕ
@@ -12,9 +12,9 @@ few-claims words Sixteen = omega arith
 few-claims words FortyEight = omega arith
 few-claims words Full = omega arith
 
-module _ (plan : Plan) (full : IsFull plan.variant) (start : Contents) (words schedule : List ℕ) (tale : Tale) (p : ℕ) (s t : State)
+module _ (plan : Plan) (full : IsFull plan.variant) (start : Contents) (words schedule : List ℕ) (tale : Trace) (p : ℕ) (s t : State)
     (calm after : List ℕ)
-    (told : IsToldStep plan start words schedule tale p s t calm after) where
+    (told : IsTraceStep plan start words schedule tale p s t calm after) where
   -- if the rows of the tree say the same, calm's tree goes on by no effect
   pub tree-kept : KeptTreesFollow → KeepsTree plan.shape calm after
       → TreeGoesOn plan.shape t.words calm after (tale.pairs (length schedule)) None

@@ -3,14 +3,14 @@ use Rattle.art_schedules.proofs.Common.{MayWrite, WritesOwn, ◌≡◌, ◌≢�
 use Rattle.art_schedules.proofs.Common.{Bool, Some, arith, cases_eq, false, inl, inr, same_Some, slice_get, slice_index, slice_set, true}
 use Rattle.std.specs.Prelude.{◌⊎◌}
 use Rattle.art_schedules.proofs.Common.{Call, Shape, Kind, row_words, claims_of, kind_at, is_locked, locked_word, some-words, claims-few}
-use Rattle.art_schedules.proofs.Common.{row_begins, rows_apart, stored-at, set-here, Variant, Setting, locks, Held, setting, CallAt, Process}
-use Rattle.art_schedules.proofs.Common.{State, OfRows, Named, IsSlot, IsKept, Knows, holds, fills, IsGoodAt, IsAmong, IsWith, IsBehindVersion}
+use Rattle.art_schedules.proofs.Common.{row_begins, rows_apart, stored-at, set-here, Variant, Setting, locks, HeldRow, setting, CallAt, Process}
+use Rattle.art_schedules.proofs.Common.{State, OfRows, Named, IsSlot, IsKept, Knows, holds, fills, IsGoodAt, IsAmong, IsWith, IsAfterVersion}
 use Rattle.art_schedules.proofs.Common.{AreDistinct, IsHeld, IsOpen, IsSettled, IsSound, IsSteady, SameWords, held_by, stage_of}
 use Rattle.art_schedules.specs.versions.Effects.{Has}
 use Rattle.art_schedules.specs.versions.Writers.{IsHeldBy, IsTakenBy}
 use Rattle.art_rows.specs.Words.{released_word, obsolete_word}
-use Rattle.art_serial.proofs.words.TableLemmas.{row_ends}
-use Rattle.art_serial.proofs.words.VersionLemmas.{even-free, taken-locked}
+use Rattle.art_sequential.proofs.words.TableLemmas.{row_ends}
+use Rattle.art_sequential.proofs.words.VersionLemmas.{even-free, taken-locked}
 use Rattle.art_schedules.proofs.versions.KeyLemmas.{slot-behind}
 use Rattle.art_schedules.proofs.versions.KnownLemmas.{knows-more}
 use Rattle.art_schedules.proofs.versions.WordFacts.{version-free}
@@ -37,7 +37,7 @@ module _ (variant : Variant) (shape : Shape) (n : ℕ) (s : State) (h : IsSound 
   opens : IsOpen s p call q
   opens = record { own = here; is_open = is-open }
 
-  lift : (Q : OfRows) (x : CallAt) (hs : List Held) (fs : List Named) → ((b : ℕ) (k : Kind) → P b k → Q b k)
+  lift : (Q : OfRows) (x : CallAt) (hs : List HeldRow) (fs : List Named) → ((b : ℕ) (k : Kind) → P b k → Q b k)
       → Has P c x hs fs → Has Q c x hs fs
   lift Q x hs fs more has = (knows-more P Q c more x has.0, has.1, has.2)
 
@@ -79,7 +79,7 @@ module _ (variant : Variant) (shape : Shape) (n : ℕ) (s : State) (h : IsSound 
         )
 
     -- a word after a version changes, in a row that is locked or being filled
-    module _ (b : ℕ) (k : Kind) (row : kind_at shape b ≡ Some k) (behind : IsBehindVersion b k word)
+    module _ (b : ℕ) (k : Kind) (row : kind_at shape b ≡ Some k) (behind : IsAfterVersion b k word)
         (private : (l : Kind) → P b l → is_locked (slice_index s.words b) ≡ false → ⊥) (may : MayWrite variant shape s p later b word) where
       bases : (base : ℕ) (kind : Kind) → kind_at shape base ≡ Some kind → now base ≡ slice_index s.words base
       bases base kind e = index-other s.words word value base
@@ -133,15 +133,15 @@ module _ (variant : Variant) (shape : Shape) (n : ℕ) (s : State) (h : IsSound 
               subst (λ a. MayWrite variant shape s p later a word) (sym one.0) may
 
   -- a row that it holds is locked
-  pub is-locked : (x : Held) → IsAmong x (holds c place) → IsKept l P x → is_locked (slice_index s.words x.base) ≡ true
+  pub is-locked : (x : HeldRow) → IsAmong x (holds c place) → IsKept l P x → is_locked (slice_index s.words x.base) ≡ true
   is-locked x a k = ap is_locked (h.locked p call q opens x a) ∙ taken-locked x.kept (version-free l x.kept k.0)
 
   -- versions are small
-  version-small : (x : Held) → IsKept l P x → slice_index s.words x.base ≤ 3 * n
+  version-small : (x : HeldRow) → IsKept l P x → slice_index s.words x.base ≤ 3 * n
   version-small x k = h.versions x.base x.kind (settled-row variant shape s x.base x.kind k.1)
 
   -- a row's version rises
-  module _ (x : Held) (k : IsKept l P x) (value : ℕ) (q' : Process) (its : q'.call ≡ Some call)
+  module _ (x : HeldRow) (k : IsKept l P x) (value : ℕ) (q' : Process) (its : q'.call ≡ Some call)
       (more-than : slice_index s.words x.base < value)
       (at-most : value ≤ slice_index s.words x.base + 3) where
     abbrev after : State
@@ -207,15 +207,15 @@ module _ (variant : Variant) (shape : Shape) (n : ℕ) (s : State) (h : IsSound 
             other one.0
 
     -- the call holds these rows then, and their versions are as they were kept
-    pub keeps-rising : (rows : List Held) → fills place ≡ [] → Has P c (stage_of variant shape call q') rows []
-        → ((y : Held) → IsAmong y rows → then-at y.base ≡ y.kept + 2)
-        → ((y : Held) → IsAmong y (holds c place) → y.base ≢ x.base → IsAmong y rows) → (is_locked value ≡ true → IsAmong x rows)
+    pub keeps-rising : (rows : List HeldRow) → fills place ≡ [] → Has P c (stage_of variant shape call q') rows []
+        → ((y : HeldRow) → IsAmong y rows → then-at y.base ≡ y.kept + 2)
+        → ((y : HeldRow) → IsAmong y (holds c place) → y.base ≢ x.base → IsAmong y rows) → (is_locked value ≡ true → IsAmong x rows)
         → AreDistinct rows
         → MayWrite variant shape s p after x.base x.base
-        → ((r : ℕ) (other : Call) (w : Process) → r ≢ p → IsOpen s r other w → (y z : Held) → IsAmong y rows
+        → ((r : ℕ) (other : Call) (w : Process) → r ≢ p → IsOpen s r other w → (y z : HeldRow) → IsAmong y rows
         → IsAmong z (held_by variant shape other w)
         → y.base ≢ z.base)
-        → ((r : ℕ) (other : Call) (w : Process) → r ≢ p → IsOpen s r other w → (z : Held) → IsAmong z (held_by variant shape other w)
+        → ((r : ℕ) (other : Call) (w : Process) → r ≢ p → IsOpen s r other w → (z : HeldRow) → IsAmong z (held_by variant shape other w)
         → z.base ≢ x.base)
         → IsSound variant shape (n + 1) after × IsSteady variant shape s after × WritesOwn variant shape s p after
     keeps-rising rows none has locked stay held distinct may apart others =
@@ -229,11 +229,11 @@ module _ (variant : Variant) (shape : Shape) (n : ℕ) (s : State) (h : IsSound 
             others = λ r other w away o z a. elsewhere z.base (others r other w away o z a);
             knows = λ other e. own (λ v. Knows (IsSettled variant shape after) (setting shape variant v) (stage_of variant shape v q'))
                 (knows-more P (IsSettled variant shape after) c more (stage_of variant shape call q') has.0) other e;
-            locked = λ other e. own (λ v. (y : Held) → IsAmong y (held_by variant shape v q') → then-at y.base ≡ y.kept + 2)
+            locked = λ other e. own (λ v. (y : HeldRow) → IsAmong y (held_by variant shape v q') → then-at y.base ≡ y.kept + 2)
                 (λ y a. locked y (subst (IsAmong y) has.1 a)) other e;
             held = held-now;
             distinct = λ other e. own (λ v. AreDistinct (held_by variant shape v q')) (subst AreDistinct (sym has.1) distinct) other e;
-            apart = λ other e. own (λ v. (r : ℕ) (o : Call) (w : Process) → r ≢ p → IsOpen s r o w → (y z : Held)
+            apart = λ other e. own (λ v. (r : ℕ) (o : Call) (w : Process) → r ≢ p → IsOpen s r o w → (y z : HeldRow)
                 → IsAmong y (held_by variant shape v q') → IsAmong z (held_by variant shape o w) → y.base ≢ z.base)
                 (λ r o w away ow y z a b. apart r o w away ow y z (subst (IsAmong y) has.1 a) b) other e;
           }),
@@ -250,7 +250,7 @@ module _ (variant : Variant) (shape : Shape) (n : ℕ) (s : State) (h : IsSound 
             let one = rows_apart shape base x.base kind x.kind x.base e row low high (omega arith) (omega (arith, some-words x.kind)) in
             subst (λ a. MayWrite variant shape s p after a x.base) (sym one.0) may
 
-        for-call : (other : Call) → q.call ≡ Some other → (y : Held) → IsAmong y (held_by variant shape other q) → y.base ≢ x.base
+        for-call : (other : Call) → q.call ≡ Some other → (y : HeldRow) → IsAmong y (held_by variant shape other q) → y.base ≢ x.base
             → (q'.call ≡ Some other) × IsAmong y (held_by variant shape other q')
         for-call other f y a away =
             let is = same_Some call other (sym is-open ∙ f) in (
@@ -277,15 +277,15 @@ module _ (variant : Variant) (shape : Shape) (n : ℕ) (s : State) (h : IsSound 
         ]
 
   -- the row is taken
-  locked-apart : (x y : Held) → IsKept l P x → slice_index s.words x.base ≡ x.kept → IsKept l P y
+  locked-apart : (x y : HeldRow) → IsKept l P x → slice_index s.words x.base ≡ x.kept → IsKept l P y
       → slice_index s.words y.base ≡ y.kept + 2 → y.base ≢ x.base
   locked-apart x y kx ex ky ey same =
       omega (arith, ap (slice_index s.words) same, ex, ey, version-free l x.kept kx.0, version-free l y.kept ky.0)
 
-  pub takes : (x : Held) (all : List Held) → IsKept l P x → slice_index s.words x.base ≡ x.kept → IsWith x (holds c place) all
+  pub takes : (x : HeldRow) (all : List HeldRow) → IsKept l P x → slice_index s.words x.base ≡ x.kept → IsWith x (holds c place) all
       → fills place ≡ []
       → (q' : Process) (its : q'.call ≡ Some call)
-      → (((y : Held) → IsAmong y (holds c place) → y.base ≢ x.base) → Has P c (stage_of variant shape call q') all [])
+      → (((y : HeldRow) → IsAmong y (holds c place) → y.base ≢ x.base) → Has P c (stage_of variant shape call q') all [])
       → IsSound variant shape (n + 1) (record {
         words = slice_set s.words x.base (locked_word x.kept);
         processes = slice_set
@@ -308,7 +308,7 @@ module _ (variant : Variant) (shape : Shape) (n : ℕ) (s : State) (h : IsSound 
       value : locked_word x.kept ≡ x.kept + 2
       value = omega (arith, is, version-small x k, few)
 
-      held-apart : (r : ℕ) (other : Call) (w : Process) → IsOpen s r other w → (y : Held)
+      held-apart : (r : ℕ) (other : Call) (w : Process) → IsOpen s r other w → (y : HeldRow)
           → IsAmong y (held_by variant shape other w) → y.base ≢ x.base
       held-apart r other w o y a =
           locked-apart x y k is (m.held-row variant shape n s h few p q here call is-open r other w o y a) (h.locked r other w o y a)
@@ -332,27 +332,27 @@ module _ (variant : Variant) (shape : Shape) (n : ℕ) (s : State) (h : IsSound 
         is,
       )
 
-      locked : (y : Held) → (y ≡ x) ⊎ IsAmong y (holds c place)
+      locked : (y : HeldRow) → (y ≡ x) ⊎ IsAmong y (holds c place)
           → slice_index (slice_set s.words x.base (locked_word x.kept)) y.base ≡ y.kept + 2
       locked y (inl e) = subst (λ z. slice_index (slice_set s.words x.base (locked_word x.kept)) z.base ≡ z.kept + 2) (sym e)
           (version x k (locked_word x.kept) q' its (omega (arith, is, value)) (omega (arith, is, value)) ∙ value)
       locked y (inr a) = index-other s.words x.base (locked_word x.kept) y.base (held-apart p call q opens y a)
           ∙ h.locked p call q opens y a
 
-      new : (y : Held) → IsAmong y (holds c place) → x.base ≢ y.base
+      new : (y : HeldRow) → IsAmong y (holds c place) → x.base ≢ y.base
       new y a e = held-apart p call q opens y a (sym e)
 
-      apart : (r : ℕ) (other : Call) (w : Process) → r ≢ p → IsOpen s r other w → (y z : Held) → (y ≡ x) ⊎ IsAmong y (holds c place)
+      apart : (r : ℕ) (other : Call) (w : Process) → r ≢ p → IsOpen s r other w → (y z : HeldRow) → (y ≡ x) ⊎ IsAmong y (holds c place)
           → IsAmong z (held_by variant shape other w) → y.base ≢ z.base
       apart r other w away o y z (inl e) b same = held-apart r other w o z b (sym same ∙ ap (λ v. v.base) e)
       apart r other w away o y z (inr a) b same = away (sym (h.apart p r call other q w opens o y z a b same))
 
-      others : (r : ℕ) (other : Call) (w : Process) → r ≢ p → IsOpen s r other w → (z : Held)
+      others : (r : ℕ) (other : Call) (w : Process) → r ≢ p → IsOpen s r other w → (z : HeldRow)
           → IsAmong z (held_by variant shape other w) → z.base ≢ x.base
       others r other w away o z a = held-apart r other w o z a
 
   -- a row is released
-  pub releases : (x : Held) (rest : List Held) (value : ℕ) → IsKept l P x → IsWith x rest (holds c place) → fills place ≡ []
+  pub releases : (x : HeldRow) (rest : List HeldRow) (value : ℕ) → IsKept l P x → IsWith x rest (holds c place) → fills place ≡ []
       → (value ≡ released_word x.kept) ⊎ (value ≡ obsolete_word x.kept) → (q' : Process) (its : q'.call ≡ Some call)
       → Has P c (stage_of variant shape call q') rest []
       → IsSound variant shape (n + 1) (record { words = slice_set s.words x.base value; processes = slice_set s.processes p q' })
@@ -368,13 +368,13 @@ module _ (variant : Variant) (shape : Shape) (n : ℕ) (s : State) (h : IsSound 
       by-it : IsHeldBy variant shape s p x.base
       by-it = (record { holder = p; call = call; process = q; is_open = opens; row = x; among = among-x; is = refl }, refl)
 
-      later-among : (y : Held) → IsAmong y rest → IsAmong y (holds c place)
+      later-among : (y : HeldRow) → IsAmong y rest → IsAmong y (holds c place)
       later-among y a = with-more x rest (holds c place) y with a
 
       is : slice_index s.words x.base ≡ x.kept + 2
       is = h.locked p call q opens x among-x
 
-      distinct : AreDistinct rest × ((y : Held) → IsAmong y rest → x.base ≢ y.base)
+      distinct : AreDistinct rest × ((y : HeldRow) → IsAmong y rest → x.base ≢ y.base)
       distinct = distinct-without x rest (holds c place) with (h.distinct p call q opens)
 
       more-than : slice_index s.words x.base < value
@@ -389,10 +389,10 @@ module _ (variant : Variant) (shape : Shape) (n : ℕ) (s : State) (h : IsSound 
         | inr e ↦ omega (arith, is, e, version-small x k, few, version-free l x.kept k.0)
       ]
 
-      locked : (y : Held) → IsAmong y rest → slice_index (slice_set s.words x.base value) y.base ≡ y.kept + 2
+      locked : (y : HeldRow) → IsAmong y rest → slice_index (slice_set s.words x.base value) y.base ≡ y.kept + 2
       locked y a = index-other s.words x.base value y.base (λ e. distinct.1 y a (sym e)) ∙ h.locked p call q opens y (later-among y a)
 
-      stay : (y : Held) → IsAmong y (holds c place) → y.base ≢ x.base → IsAmong y rest
+      stay : (y : HeldRow) → IsAmong y (holds c place) → y.base ≢ x.base → IsAmong y rest
       stay y a away = elim (with-split x rest (holds c place) y with a) [
         | inl e ↦ absurd (away (ap (λ v. v.base) e))
         | inr b ↦ b
@@ -404,10 +404,10 @@ module _ (variant : Variant) (shape : Shape) (n : ℕ) (s : State) (h : IsSound 
         | inr e ↦ even-free value (omega (arith, is, e, version-small x k, few, version-free l x.kept k.0))
       ]
 
-      apart : (r : ℕ) (other : Call) (w : Process) → r ≢ p → IsOpen s r other w → (y z : Held) → IsAmong y rest
+      apart : (r : ℕ) (other : Call) (w : Process) → r ≢ p → IsOpen s r other w → (y z : HeldRow) → IsAmong y rest
           → IsAmong z (held_by variant shape other w) → y.base ≢ z.base
       apart r other w away o y z a b same = away (sym (h.apart p r call other q w opens o y z (later-among y a) b same))
 
-      others : (r : ℕ) (other : Call) (w : Process) → r ≢ p → IsOpen s r other w → (z : Held)
+      others : (r : ℕ) (other : Call) (w : Process) → r ≢ p → IsOpen s r other w → (z : HeldRow)
           → IsAmong z (held_by variant shape other w) → z.base ≢ x.base
       others r other w away o z a same = away (h.apart r p other call w q o opens z x a among-x same)

@@ -3,17 +3,17 @@
 use Rattle.art_schedules.proofs.Common.{◌≡◌, ℕ, zero, suc, ◌+◌, ◌-◌, ◌<◌, List, [], ◌∷◌, refl, sym, subst, Bool, true, false, arith, inl, ◌==◌}
 use Rattle.art_schedules.proofs.Common.{Option, Some, None, if◌then◌else◌, Call, Kind, Four, Sixteen, FortyEight, Full, Shape, capacity, kind_at}
 use Rattle.art_schedules.proofs.Common.{child_at, root_base, place_of, child_of, new_place-most, key_byte-small, Setting, key_of, is_insert}
-use Rattle.art_schedules.proofs.Common.{locks, releases_early, Held, Finding, Lacks, Position, Hold, Work, Stage, FindCount, Slot, Over, row_at}
+use Rattle.art_schedules.proofs.Common.{locks, releases_early, HeldRow, Finding, Lacks, Position, Hold, Work, Stage, FindCount, Slot, Over, row_at}
 use Rattle.art_schedules.proofs.Common.{held, count_in, keys_in, keys_among, byte_in, place_in, leaf_place, setting, start_at, work_at}
 use Rattle.art_schedules.proofs.Common.{checked_at, among_at, find_at, release_at, keys_one, OfRows, Each, IsSlot, child_rows, row_filled}
 use Rattle.art_schedules.proofs.Common.{IsUnder, IsFound, FitsWork, IsKept, IsNamed, KnowsKey, rows_of_work, rows_found, FitsPlace, HasSlot}
 use Rattle.art_schedules.proofs.Common.{kept_at_place, KnowsRows, Variant, all_of, held_at_place, locks_of, rows_of_hold, held_at_stage}
-use Rattle.art_stages.specs.declared.stage.Keys.{Keys}
-use Rattle.art_stages.specs.declared.stage.Finding.TheVariants.{Has}
-use Rattle.art_stages.specs.Automaton.{moves_at, put_at, words_at}
+use Rattle.art_control_states.specs.declared.stage.Keys.{Keys}
+use Rattle.art_control_states.specs.declared.stage.Finding.TheVariants.{Has}
+use Rattle.art_control_states.specs.Automaton.{moves_at, put_at, words_at}
 use Rattle.art_schedules.specs.versions.Holding.{HasPlace}
 use Rattle.art_schedules.proofs.versions.WordFacts.{place-fits, entry-fits}
-use Rattle.art_stages.specs.declared.stage.Work.TheVariants as work
+use Rattle.art_control_states.specs.declared.stage.Work.TheVariants as work
 
 own-slot : (l : Bool) (h : Hold) (slot : ℕ) → IsSlot h.row.base h.row.kind slot → HasSlot l h slot
 own-slot true h slot e = inl e
@@ -34,7 +34,7 @@ module _ (variant : Variant) (s : Shape) (call : Call) (P : OfRows) (is_row : (b
   e = releases_early variant
 
   -- at a stage that holds these rows and fills none
-  abbrev pub IsAt : List Held → Stage → Type 0
+  abbrev pub IsAt : List HeldRow → Stage → Type 0
   IsAt rows stage = KnowsKey P c stage × (locks_of (held_at_stage l i stage) ≡ locks_of rows) × (row_filled stage ≡ [])
 
   pub at-start : IsAt [] (start_at l)
@@ -49,7 +49,7 @@ module _ (variant : Variant) (s : Shape) (call : Call) (P : OfRows) (is_row : (b
 
   -- work on rows that are held
 
-  leaf-fits : (base : ℕ) (kind : Kind) (info kept : ℕ) (above : Option Held) (keys : Keys) → HasPlace kind keys
+  leaf-fits : (base : ℕ) (kind : Kind) (info kept : ℕ) (above : Option HeldRow) (keys : Keys) → HasPlace kind keys
       → leaf_place kind c (record { row = held base kind info kept; above = above }) keys < capacity kind
   leaf-fits base Four info kept above keys h =
       let x = byte_in c (held base Four info kept) in
@@ -74,7 +74,7 @@ module _ (variant : Variant) (s : Shape) (call : Call) (P : OfRows) (is_row : (b
   )
   moves h keys (suc n) kept place less = (record { kept = kept; known = tt; fits = (place, omega (arith, less)); filled = tt }, refl, refl)
 
-  puts : (base : ℕ) (kind : Kind) (info was : ℕ) (above : Option Held) (keys : Keys)
+  puts : (base : ℕ) (kind : Kind) (info was : ℕ) (above : Option HeldRow) (keys : Keys)
       → Each (IsKept l P) (held base kind info was ∷ all_of above)
       → count_in kind keys < capacity kind
       → IsAt (held base kind info was ∷ all_of above) (put_at kind c (record { row = held base kind info was; above = above }) keys)
@@ -98,7 +98,7 @@ module _ (variant : Variant) (s : Shape) (call : Call) (P : OfRows) (is_row : (b
   works h (work.Put keys) kept known fits = puts h.row.base h.row.kind h.row.info h.row.kept h.above keys kept fits
   works h (work.Grow slot keys) kept known fits = (record { kept = kept; known = tt; fits = fits; filled = tt }, refl, refl)
 
-  pub released : (above : Option Held) (o : _) → Each (IsKept l P) (all_of above) → IsAt (all_of above) (release_at l above o)
+  pub released : (above : Option HeldRow) (o : _) → Each (IsKept l P) (all_of above) → IsAt (all_of above) (release_at l above o)
   released None None kept = at-start
   released None (Some o) kept = at-end o
   released (Some n) o kept = (record { kept = kept; known = tt; fits = tt; filled = tt }, refl, refl)
@@ -141,11 +141,11 @@ module _ (variant : Variant) (s : Shape) (call : Call) (P : OfRows) (is_row : (b
         go true false = checked p (Lacks (keys_one index)) kept under tt tt
         go false j = (record { kept = kept; known = tt; fits = (under, slot); filled = tt }, refl, refl)
 
-    abbrev place : ℕ → Kind → ℕ → ℕ → Option Held → ℕ → Position
+    abbrev place : ℕ → Kind → ℕ → ℕ → Option HeldRow → ℕ → Position
     place base kind info was above slot = record { row = held base kind info was; above = above; slot = slot }
 
     -- the first word of FIND; a child that was loaded is one of P
-    pub finds : (base : ℕ) (kind : Kind) (info was : ℕ) (above : Option Held) (slot w : ℕ)
+    pub finds : (base : ℕ) (kind : Kind) (info was : ℕ) (above : Option HeldRow) (slot w : ℕ)
         → Each (IsKept l P) (kept_at_place l i (place base kind info was above slot)) → IsUnder above (held base kind info was) slot
         → (IsSlot base Full (child_at Full base (byte_in c (held base kind info was))) → kind ≡ Full
         → Each (IsNamed P) (child_rows (child_of s w)))

@@ -2,7 +2,7 @@
 use Rattle.art_schedules.proofs.Common.{row_words, MayWrite, WritesOwn, ◌≡◌, ◌≢◌, ℕ, zero, suc, ◌+◌, ◌*◌, ◌<◌, ◌≤◌, true, List, [], ◌∷◌, length}
 use Rattle.art_schedules.proofs.Common.{Some, ap, arith, inl, inr, length-set, refl, slice_get, slice_index, slice_set, subst, sym, ◌∙◌}
 use Rattle.std.specs.Prelude.{◌⊎◌}
-use Rattle.art_schedules.proofs.Common.{cases_eq, same_Some, Call, Shape, Kind, Full, claims_of, root_base, kind_at, is_locked, child_of, Held}
+use Rattle.art_schedules.proofs.Common.{cases_eq, same_Some, Call, Shape, Kind, Full, claims_of, root_base, kind_at, is_locked, child_of, HeldRow}
 use Rattle.art_schedules.proofs.Common.{setting, Variant, Process, State, changed-at, stored-at, set-here, IsClaimed, OfRows, IsNamed, child_rows}
 use Rattle.art_schedules.proofs.Common.{Knows, IsGoodAt, IsAmong, IsOpen, stage_of, held_by, filled_by, IsSettled, IsHeld, AreDistinct, IsSound}
 use Rattle.std.proofs.Common.{get_or-set_other}
@@ -56,7 +56,7 @@ module _ (variant : Variant) (shape : Shape) (n : ℕ) (s : State) (h : IsSound 
 
   -- a row that was held is held still, where its process holds it still
   pub held-still : (base : ℕ) → IsHeld variant shape s base
-      → ((call : Call) → q.call ≡ Some call → (x : Held) → IsAmong x (held_by variant shape call q) → x.base ≡ base
+      → ((call : Call) → q.call ≡ Some call → (x : HeldRow) → IsAmong x (held_by variant shape call q) → x.base ≡ base
       → (q'.call ≡ Some call) × IsAmong x (held_by variant shape call q')) → IsHeld variant shape next base
   held-still base x stays = elim (cases_eq x.holder p) [
     | inl same ↦
@@ -114,14 +114,14 @@ module _ (variant : Variant) (shape : Shape) (n : ℕ) (s : State) (h : IsSound 
       pub within : word < length s.words
       pub versions : (base : ℕ) (kind : Kind) → kind_at shape base ≡ Some kind → now base ≤ 3 * (n + 1)
       pub good : IsGoodAt (IsSettled variant shape next) shape word value
-      pub others : (r : ℕ) (call : Call) (w : Process) → r ≢ p → IsOpen s r call w → (x : Held) → IsAmong x (held_by variant shape call w)
+      pub others : (r : ℕ) (call : Call) (w : Process) → r ≢ p → IsOpen s r call w → (x : HeldRow) → IsAmong x (held_by variant shape call w)
           → now x.base ≡ slice_index s.words x.base
       pub knows : (call : Call) → q'.call ≡ Some call
           → Knows (IsSettled variant shape next) (setting shape variant call) (stage_of variant shape call q')
-      pub locked : (call : Call) → q'.call ≡ Some call → (x : Held) → IsAmong x (held_by variant shape call q') → now x.base ≡ x.kept + 2
+      pub locked : (call : Call) → q'.call ≡ Some call → (x : HeldRow) → IsAmong x (held_by variant shape call q') → now x.base ≡ x.kept + 2
       pub held : (base : ℕ) (kind : Kind) → kind_at shape base ≡ Some kind → is_locked (now base) ≡ true → IsHeld variant shape next base
       pub distinct : (call : Call) → q'.call ≡ Some call → AreDistinct (held_by variant shape call q')
-      pub apart : (call : Call) → q'.call ≡ Some call → (r : ℕ) (other : Call) (w : Process) → r ≢ p → IsOpen s r other w → (x y : Held)
+      pub apart : (call : Call) → q'.call ≡ Some call → (r : ℕ) (other : Call) (w : Process) → r ≢ p → IsOpen s r other w → (x y : HeldRow)
           → IsAmong x (held_by variant shape call q') → IsAmong y (held_by variant shape other w) → x.base ≢ y.base
 
     module _ (k : Rows) where
@@ -143,7 +143,7 @@ module _ (variant : Variant) (shape : Shape) (n : ℕ) (s : State) (h : IsSound 
             (stage_of variant shape call w) (h.knows r call w t.1)
       ]
 
-      locked-now : (r : ℕ) (call : Call) (w : Process) → IsOpen next r call w → (x : Held) → IsAmong x (held_by variant shape call w)
+      locked-now : (r : ℕ) (call : Call) (w : Process) → IsOpen next r call w → (x : HeldRow) → IsAmong x (held_by variant shape call w)
           → now x.base ≡ x.kept + 2
       locked-now r call w o x a = elim (whose r call w o) [
         | inl t ↦ k.locked call (own-call r call w o t.1) x (subst (λ v. IsAmong x (held_by variant shape call v)) t.1 a)
@@ -156,7 +156,7 @@ module _ (variant : Variant) (shape : Shape) (n : ℕ) (s : State) (h : IsSound 
         | inr t ↦ h.distinct r call w t.1
       ]
 
-      apart-now : (r t : ℕ) (call other : Call) (w v : Process) → IsOpen next r call w → IsOpen next t other v → (x y : Held)
+      apart-now : (r t : ℕ) (call other : Call) (w v : Process) → IsOpen next r call w → IsOpen next t other v → (x y : HeldRow)
           → IsAmong x (held_by variant shape call w) → IsAmong y (held_by variant shape other v) → x.base ≡ y.base → r ≡ t
       apart-now r t call other w v o l x y a b e = elim (whose r call w o) [
         | inl m ↦ elim (whose t other v l) [

@@ -4,23 +4,23 @@ use Rattle.art_schedules.proofs.Common.{inl, inr, ap, eq-eqb, ne_eqb, ◌==◌, 
 use Rattle.art_schedules.proofs.Common.{Empty, ChildRow, Leaf, Asks, Root, Taken, Between, ClaimGrow, ClaimPair, Info, LetGo, Unlock, Write, Call}
 use Rattle.art_schedules.proofs.Common.{Coupled, Down, Each, FitsPlace, IsFound, IsKept, IsNamed, IsSlot, IsUnder, IsVersion, KnowsKey, OfRows}
 use Rattle.art_schedules.proofs.Common.{kept_at_place, kept_below, row_filled, rows_found, KnowsRows, Finding, FortyEight, Four, Full, Sixteen}
-use Rattle.art_schedules.proofs.Common.{Lacks, Held, Kind, OnKey, Outcome, Position, Setting, is_insert, key_of, path_differs_at, Shape, Stage}
+use Rattle.art_schedules.proofs.Common.{Lacks, HeldRow, Kind, OnKey, Outcome, Position, Setting, is_insert, key_of, path_differs_at, Shape, Stage}
 use Rattle.art_schedules.proofs.Common.{Target, all_of, held_at_place, held_below, lock_of, locks_of, held_at_stage, below_at, entered_at}
 use Rattle.art_schedules.proofs.Common.{found_at, no_value, work_at, capacity, kind_at, root_base, child_word, is_locked, key_bytes, locked_word}
 use Rattle.art_schedules.proofs.Common.{count_in, row_at, setting, keys_differ_at, new_leaf, overwriting, not_full}
-use Rattle.art_stages.specs.Stages.{target_base}
-use Rattle.art_stages.specs.declared.stage.Keys.{Keys}
+use Rattle.art_control_states.specs.Stages.{target_base}
+use Rattle.art_control_states.specs.declared.stage.Keys.{Keys}
 use Rattle.art_schedules.proofs.versions.WordFacts.{full-not-less, count-most, child-good, new-leaf-rows, overwriting-good}
 use Rattle.art_rows.specs.declared.access.Access.TheVariants.{Exchange as Swap}
-use Rattle.art_stages.specs.declared.stage.Target.TheVariants.{Below}
-use Rattle.art_stages.specs.declared.stage.Stage.TheVariants.{Exchange, Lock}
+use Rattle.art_control_states.specs.declared.stage.Target.TheVariants.{Below}
+use Rattle.art_control_states.specs.declared.stage.Stage.TheVariants.{Exchange, Lock}
 use Rattle.art_schedules.specs.versions.Holding.{FitsDown, FitsTarget, HasRoom, rows_of_wait}
-use Rattle.art_stages.specs.declared.stage.Finding.TheVariants.{Has}
+use Rattle.art_control_states.specs.declared.stage.Finding.TheVariants.{Has}
 use Rattle.art_schedules.proofs.versions.KeyLemmas.{Own}
 use Rattle.art_schedules.specs.versions.Locking.{rows_of_target}
-use Rattle.art_stages.specs.Automaton.{down_from, hold_alone, insert_coupled, let_go_at, overwrite_at, place_coupled, seek_coupled}
+use Rattle.art_control_states.specs.Automaton.{down_from, hold_alone, insert_coupled, let_go_at, overwrite_at, place_coupled, seek_coupled}
 use Rattle.art_schedules.proofs.versions.AfterLemmas.{works}
-use Rattle.art_stages.specs.declared.stage.Work.TheVariants as work
+use Rattle.art_control_states.specs.declared.stage.Work.TheVariants as work
 
 module _ (s : Shape) (call : Call) (P : OfRows) (is_row : (b : ℕ) (k : Kind) → P b k → kind_at s b ≡ Some k)
     (root : P (root_base s) Full) where
@@ -28,32 +28,32 @@ module _ (s : Shape) (call : Call) (P : OfRows) (is_row : (b : ℕ) (k : Kind) �
   c = setting s Coupled call
 
   -- where the call is an insert, and where it is none
-  abbrev At : Bool → List Held → Stage → Type 0
+  abbrev At : Bool → List HeldRow → Stage → Type 0
   At i rows stage = KnowsRows P true i c stage × (locks_of (held_at_stage true i stage) ≡ locks_of rows) × (row_filled stage ≡ [])
 
   abbrev Doing : Stage → Type 0
   Doing stage = AccessDoes P c (OnKey stage)
 
-  abbrev Keeps : Held → Type 0
+  abbrev Keeps : HeldRow → Type 0
   Keeps h = IsKept true P h
 
   -- a get or remove after FIND
 
-  unlocks : (i : Bool) (n : Held) (o : Option Outcome) → Keeps n → At i (n ∷ []) (Unlock (hold_alone n) o)
+  unlocks : (i : Bool) (n : HeldRow) (o : Option Outcome) → Keeps n → At i (n ∷ []) (Unlock (hold_alone n) o)
   unlocks i n o kept = (record { kept = (kept, tt); known = tt; fits = tt; filled = tt }, refl, refl)
 
-  goes-down : (i : Bool) (n : Held) (slot base : ℕ) (kind : Kind) → Keeps n → IsSlot n.base n.kind slot → P base kind
+  goes-down : (i : Bool) (n : HeldRow) (slot base : ℕ) (kind : Kind) → Keeps n → IsSlot n.base n.kind slot → P base kind
       → At i (n ∷ []) (Lock (Below (down_from n slot base kind)) true)
   goes-down i n slot base kind kept fits known =
       (record { kept = (kept, tt); known = (known, tt); fits = (tt, fits); filled = tt }, refl, refl)
 
-  overwrites : (n : Held) (slot value : ℕ) (o : Option ℕ) → overwriting call value ≡ o → Keeps n → IsSlot n.base n.kind slot
+  overwrites : (n : HeldRow) (slot value : ℕ) (o : Option ℕ) → overwriting call value ≡ o → Keeps n → IsSlot n.base n.kind slot
       → At false (n ∷ []) (overwrite_at n slot value o)
   overwrites n slot value None e kept fits = unlocks false n _ kept
   overwrites n slot value (Some word) e kept fits =
       (record { kept = (kept, tt); known = overwriting-good s P call value word e; fits = inl fits; filled = tt }, refl, refl)
 
-  seeks : (n : Held) (f : Finding) → Keeps n → IsFound n f → Each (IsNamed P) (rows_found f) → At false (n ∷ []) (seek_coupled false c n f)
+  seeks : (n : HeldRow) (f : Finding) → Keeps n → IsFound n f → Each (IsNamed P) (rows_found f) → At false (n ∷ []) (seek_coupled false c n f)
   seeks n (Lacks keys) kept fits known = unlocks false n _ kept
   seeks n (Has slot Empty) kept fits known = unlocks false n _ kept
   seeks n (Has slot (Leaf key value)) kept fits known = go (key == key_of call)
@@ -66,7 +66,7 @@ module _ (s : Shape) (call : Call) (P : OfRows) (is_row : (b : ℕ) (k : Kind) �
 
   -- an insert after FIND, where it holds this row alone, which has room,
 
-  writes : (n : Held) (slot : ℕ) (o : Option ℕ) → Keeps n → IsSlot n.base n.kind slot
+  writes : (n : HeldRow) (slot : ℕ) (o : Option ℕ) → Keeps n → IsSlot n.base n.kind slot
       → At true (n ∷ []) (Write (hold_alone n) slot (child_word (new_leaf call)) o)
   writes n slot o kept fits = (
     record { kept = (kept, tt); known = child-good s P is_row (new_leaf call) (new-leaf-rows s P call); fits = inl fits; filled = tt },
@@ -74,7 +74,7 @@ module _ (s : Shape) (call : Call) (P : OfRows) (is_row : (b : ℕ) (k : Kind) �
     refl,
   )
 
-  alone : is_insert call ≡ true → (n : Held) (f : Finding) → Keeps n → IsFound n f → HasRoom n f → Each (IsNamed P) (rows_found f)
+  alone : is_insert call ≡ true → (n : HeldRow) (f : Finding) → Keeps n → IsFound n f → HasRoom n f → Each (IsNamed P) (rows_found f)
       → At true (n ∷ []) (insert_coupled c n f)
   alone ins n (Lacks keys) kept fits room known =
       subst (λ i. At i (n ∷ []) (work_at c (hold_alone n) (work.Put keys))) ins
@@ -95,14 +95,14 @@ module _ (s : Shape) (call : Call) (P : OfRows) (is_row : (b : ℕ) (k : Kind) �
 
   -- an insert after FIND that may hold the row above too
 
-  lets-go : is_insert call ≡ true → (n : Held) (above : Option Held) (slot : ℕ) (f : Finding) → Each Keeps (n ∷ all_of above)
+  lets-go : is_insert call ≡ true → (n : HeldRow) (above : Option HeldRow) (slot : ℕ) (f : Finding) → Each Keeps (n ∷ all_of above)
       → IsFound n f → HasRoom n f
       → Each (IsNamed P) (rows_found f) → At true (n ∷ all_of above) (let_go_at c n above slot f)
   lets-go ins n None slot f kept fits room known = alone ins n f kept.0 fits room known
   lets-go ins n (Some a) slot f kept fits room known =
       (record { kept = kept; known = known; fits = (refl, fits, room); filled = tt }, refl, refl)
 
-  grows : (base : ℕ) (kind : Kind) (info was : ℕ) (above : Option Held) (slot : ℕ) (keys : Keys)
+  grows : (base : ℕ) (kind : Kind) (info was : ℕ) (above : Option HeldRow) (slot : ℕ) (keys : Keys)
       → Each Keeps (held base kind info was ∷ all_of above)
       → IsUnder above (held base kind info was) slot → (count_in kind keys == capacity kind) ≡ true
       → At true (held base kind info was ∷ all_of above) (ClaimGrow (record { row = held base kind info was; above = above }) slot keys)
@@ -157,7 +157,7 @@ module _ (s : Shape) (call : Call) (P : OfRows) (is_row : (b : ℕ) (k : Kind) �
 
   entered : (i : Bool) (t : Target) (v : ℕ) → IsVersion true v → Each Keeps (rows_of_target t)
       → Each (IsNamed P) (rows_of_wait t) → FitsTarget t
-      → (n : Held) × (n.base ≡ target_base c t) × (n.kept ≡ v) × (lock_of n ≡ n) × Keeps n
+      → (n : HeldRow) × (n.base ≡ target_base c t) × (n.kept ≡ v) × (lock_of n ≡ n) × Keeps n
       × KnowsRows P true i c (entered_at true i false c t v)
       × (locks_of (held_at_stage true i (entered_at true i false c t v)) ≡ n ∷ locks_of (rows_of_target t))
       × (row_filled (entered_at true i false c t v) ≡ [])
@@ -233,7 +233,7 @@ module _ (s : Shape) (call : Call) (P : OfRows) (is_row : (b : ℕ) (k : Kind) �
       again : At i (rows_of_target t) (Lock t false)
       again = (record { kept = k.kept; known = k.known; fits = (k.fits.0, k.fits.1); filled = tt }, refl, refl)
 
-      turn : (n : Held) → n.base ≡ target_base c t → n.kept ≡ v
+      turn : (n : HeldRow) → n.base ≡ target_base c t → n.kept ≡ v
           → Asks (Swap (target_base c t) v (locked_word v)) None ≡ Asks (Swap n.base n.kept (locked_word n.kept)) None
       turn n base kept = ap (λ b. Asks (Swap b v (locked_word v)) None) (sym base)
           ∙ ap (λ w. Asks (Swap n.base w (locked_word w)) None) (sym kept)
@@ -254,7 +254,7 @@ module _ (s : Shape) (call : Call) (P : OfRows) (is_row : (b : ℕ) (k : Kind) �
   below true d info kept (Some x) k fits = (record { kept = k; known = (k.0.1, tt); fits = inr fits; filled = tt }, refl, refl)
   below false d info kept (Some x) k fits = (record { kept = k; known = tt; fits = tt; filled = tt }, refl, refl)
 
-  let-go-does : (i : Bool) → is_insert call ≡ i → (above : Held) (p : Position) (f : Finding) → KnowsRows P true i c (LetGo above p f)
+  let-go-does : (i : Bool) → is_insert call ≡ i → (above : HeldRow) (p : Position) (f : Finding) → KnowsRows P true i c (LetGo above p f)
       → Doing (LetGo above p f)
   let-go-does false e above p f k = absurd k.fits
   let-go-does true e above p f k = Releases (lock_of above) (lock_of p.row ∷ []) _ _ refl

@@ -5,7 +5,7 @@ use Rattle.art_schedules.proofs.Common.{FortyEight, Full, opening, rows_of, clai
 use Rattle.art_schedules.proofs.Common.{row_begins, rows_apart, IsClaimed, Variant, setting, Plan, State, opened, opened_on, step, run_on}
 use Rattle.art_schedules.proofs.Common.{StartsOn, start_plan, IsRun, nowhere, run-steps, IsHeld, IsSettled, IsSound, stage_of, IsSteady, MayWrite}
 use Rattle.art_schedules.proofs.Common.{WritesOwn, IsFull}
-use Rattle.art_serial.specs.trees.Trees.{AreZeroPastClaims}
+use Rattle.art_sequential.specs.trees.Trees.{AreZeroPastClaims}
 use Rattle.art_schedules.proofs.versions.KnownLemmas.{held-is-kept}
 use Rattle.art_schedules.proofs.versions.ChangeLemmas.{index-other}
 use Rattle.art_schedules.proofs.versions.MoveLemmas.{differ-from}

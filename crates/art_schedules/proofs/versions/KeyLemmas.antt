@@ -5,34 +5,34 @@ use Rattle.std.specs.Prelude.{◌⊎◌}
 use Rattle.art_schedules.proofs.Common.{Sixteen, FortyEight, Full, Shape, Child, ChildRow, capacity, kind_at, child_at, root_base, rows_of}
 use Rattle.art_schedules.proofs.Common.{base_of, info_at, keys_at, more_keys_at, index_at, count_at, entries_of, child_of, row_word}
 use Rattle.art_schedules.proofs.Common.{new_place-most, key_byte-small, keys4-few, keys16-few, kind_at-base_of, rows_apart, Setting, key_of}
-use Rattle.art_schedules.proofs.Common.{is_insert, locks, releases_early, new_leaf, Held, Hold, Stage, Wait, Leave, Between, Info, Find, FindKeys}
+use Rattle.art_schedules.proofs.Common.{is_insert, locks, releases_early, new_leaf, HeldRow, Hold, Stage, Wait, Leave, Between, Info, Find, FindKeys}
 use Rattle.art_schedules.proofs.Common.{FindMore, FindCount, Slot, Check, CheckLast, LetGo, Take, Write, ClaimPair, StorePair, PutLoad, PutStore}
 use Rattle.art_schedules.proofs.Common.{PutLeaf, PutKeys, PutMore, PutCount, ClaimGrow, GrowInfo, GrowLoad, GrowStore, SpreadIndex, SpreadLoad}
 use Rattle.art_schedules.proofs.Common.{SpreadStore, GrowLeaf, GrowKeys, GrowCount, Hang, Obsolete, Unlock, Over, row_at, held, count_in, keys_in}
 use Rattle.art_schedules.proofs.Common.{byte_in, place_in, leaf_place, setting, checked_at, Turn, OnKey, OfRows, Named, Each, IsSlot, child_rows}
 use Rattle.art_schedules.proofs.Common.{IsKept, IsNamed, KnowsKey, FitsPlace, HasSlot, IsFound, kept_at_place, rows_found, IsAmong, With}
-use Rattle.art_schedules.proofs.Common.{AccessDoes, Answered, Claims, Down, Ends, Finding, IsBehindVersion, Reads, Releases, Writes}
+use Rattle.art_schedules.proofs.Common.{AccessDoes, Answered, Claims, Down, Ends, Finding, IsAfterVersion, Reads, Releases, Writes}
 use Rattle.art_schedules.specs.versions.Effects.{Fills, Has}
 use Rattle.art_schedules.proofs.Common.{Position, Target, Variant, all_of, held_at_place, lock_of, locks_of, rows_of_hold, behind}
 use Rattle.std.proofs.lemmas.Bool.{lt-ltb, le-ltb}
 use Rattle.std.specs.Prelude.{nat_lt}
 use Rattle.art_rows.specs.Words.{keys16_word, more_keys16_word}
 use Rattle.art_rows.specs.Updates.{lesser, greater, Under, next_kind}
-use Rattle.art_stages.specs.declared.stage.Keys.{Keys}
-use Rattle.art_stages.specs.declared.stage.Finding.TheVariants.{Has as Seen}
-use Rattle.art_stages.specs.declared.stage.Pair.{Pair}
-use Rattle.art_stages.specs.declared.stage.PairWord.{PairWord}
-use Rattle.art_stages.specs.declared.stage.Growing.{Growing}
-use Rattle.art_stages.specs.declared.stage.Spread.{Spread}
-use Rattle.art_stages.specs.declared.stage.Outcome.TheVariants.{Refused}
-use Rattle.art_stages.specs.declared.stage.Stage.TheVariants.{Lock, Exchange}
-use Rattle.art_stages.specs.Stages.{keys_after, old_child, new_child}
-use Rattle.art_stages.specs.Automaton.{copies_at, spreads_at, entries_at, keys_at_after, store_of}
+use Rattle.art_control_states.specs.declared.stage.Keys.{Keys}
+use Rattle.art_control_states.specs.declared.stage.Finding.TheVariants.{Has as Seen}
+use Rattle.art_control_states.specs.declared.stage.Pair.{Pair}
+use Rattle.art_control_states.specs.declared.stage.PairWord.{PairWord}
+use Rattle.art_control_states.specs.declared.stage.Growing.{Growing}
+use Rattle.art_control_states.specs.declared.stage.Spread.{Spread}
+use Rattle.art_control_states.specs.declared.stage.Outcome.TheVariants.{Refused}
+use Rattle.art_control_states.specs.declared.stage.Stage.TheVariants.{Lock, Exchange}
+use Rattle.art_control_states.specs.Stages.{keys_after, old_child, new_child}
+use Rattle.art_control_states.specs.Automaton.{copies_at, spreads_at, entries_at, keys_at_after, store_of}
 use Rattle.art_schedules.specs.versions.Holding.{row_grown, HangsIn, IsCopied, FitsGrowing}
 use Rattle.art_schedules.proofs.versions.WordFacts.{entry-fits, child-good, new-leaf-rows}
 use Rattle.art_schedules.proofs.versions.AfterLemmas.{among, finds, released, moves, IsAt}
-use Rattle.art_stages.specs.declared.stage.Taking.{Taking}
-use Rattle.art_stages.specs.declared.stage.PairWord.TheVariants as pair_word
+use Rattle.art_control_states.specs.declared.stage.Taking.{Taking}
+use Rattle.art_control_states.specs.declared.stage.PairWord.TheVariants as pair_word
 
 pub each-weaker : {A : Type 0} (P Q : A → Type 0) → ((x : A) → P x → Q x) → (xs : List A) → Each P xs → Each Q xs
 each-weaker P Q w [] h = tt
@@ -42,7 +42,7 @@ pub each-split : {A : Type 0} (P : A → Type 0) (xs ys : List A) → Each P (xs
 each-split P [] ys h = (tt, h)
 each-split P (x ∷ xs) ys h = let rest = each-split P xs ys h.1 in ((h.0, rest.0), rest.1)
 
-pub slot-behind : (base : ℕ) (kind : Kind) (word : ℕ) → IsSlot base kind word → IsBehindVersion base kind word
+pub slot-behind : (base : ℕ) (kind : Kind) (word : ℕ) → IsSlot base kind word → IsAfterVersion base kind word
 slot-behind base Four word h = (omega (arith, h.1, h.2), omega (arith, h.1, h.2))
 slot-behind base Sixteen word h = (omega (arith, h.1, h.2), omega (arith, h.1, h.2))
 slot-behind base FortyEight word h = (omega (arith, h.1, h.2), omega (arith, h.1, h.2))
@@ -55,12 +55,12 @@ place-row true false P p k = k.0
 place-row false i P p k = k.0
 
 record Holder (l : Bool) (P : OfRows) (h : Hold) (slot : ℕ) : Type 0 where
-  row : Held
+  row : HeldRow
   among : IsAmong row (locks_of (rows_of_hold h))
   kept : IsKept l P row
   has : IsSlot row.base row.kind slot
 
-slot-holder : (l : Bool) (P : OfRows) (row : Held) (above : Option Held) (slot : ℕ) → HasSlot l (record { row = row; above = above }) slot
+slot-holder : (l : Bool) (P : OfRows) (row : HeldRow) (above : Option HeldRow) (slot : ℕ) → HasSlot l (record { row = row; above = above }) slot
     → Each (IsKept l P) (row ∷ all_of above) → Holder l P (record { row = row; above = above }) slot
 slot-holder false P row above slot fits kept = record { row = lock_of row; among = inl refl; kept = kept.0; has = fits }
 slot-holder true P row above slot (inl fits) kept = record { row = lock_of row; among = inl refl; kept = kept.0; has = fits }
@@ -68,11 +68,11 @@ slot-holder true P row (Some a) slot (inr fits) kept = record { row = lock_of a;
 slot-holder true P row None slot (inr fits) kept = absurd fits
 
 module _ (l : Bool) (s : Shape) (P : OfRows) where
-  kept-with : (b : ℕ) (k : Kind) (xs : List Held) → Each (IsKept l P) xs → Each (IsKept l (With P b k)) xs
+  kept-with : (b : ℕ) (k : Kind) (xs : List HeldRow) → Each (IsKept l P) xs → Each (IsKept l (With P b k)) xs
   kept-with b k xs h = each-weaker (IsKept l P) (IsKept l (With P b k)) (λ x y. (y.0, inl y.1)) xs h
 
   -- a word of a row that is none of its slots is no slot
-  bare : (b : ℕ) (k : Kind) (word : ℕ) → kind_at s b ≡ Some k → IsBehindVersion b k word → (IsSlot b k word → ⊥)
+  bare : (b : ℕ) (k : Kind) (word : ℕ) → kind_at s b ≡ Some k → IsAfterVersion b k word → (IsSlot b k word → ⊥)
       → (base : ℕ) (kind : Kind) → kind_at s base ≡ Some kind → IsSlot base kind word → ⊥
   bare b k word row behind none base kind e slot =
       let other = slot-behind base kind word slot in
@@ -98,18 +98,18 @@ module _ (variant : Variant) (s : Shape) (call : Call) (P : OfRows) (is_row : (b
 
   -- PUT
 
-  put-keys-does : (base : ℕ) (kind : Kind) (info was : ℕ) (above : Option Held) (keys : Keys)
+  put-keys-does : (base : ℕ) (kind : Kind) (info was : ℕ) (above : Option HeldRow) (keys : Keys)
       → KnowsKey P c (PutKeys (record { row = held base kind info was; above = above }) keys)
       → Doing (PutKeys (record { row = held base kind info was; above = above }) keys)
   put-keys-does base Four info was above keys k =
       let row = is_row base Four k.kept.0.1 in
-      let behind : IsBehindVersion base Four (keys_at base) = (omega arith, omega arith) in
+      let behind : IsAfterVersion base Four (keys_at base) = (omega arith, omega arith) in
       Writes (held base Four 0 was) _ _ _ refl (inl refl) k.kept.0 behind
       (λ ob ok oe os. absurd (bare l s P base Four (keys_at base) row behind (λ h. omega (arith, h.2)) ob ok oe os))
       (record { kept = k.kept; known = tt; fits = tt; filled = tt }, refl, refl)
   put-keys-does base Sixteen info was above keys k =
       let row = is_row base Sixteen k.kept.0.1 in
-      let behind : IsBehindVersion base Sixteen (keys_at base) = (omega arith, omega arith) in
+      let behind : IsAfterVersion base Sixteen (keys_at base) = (omega arith, omega arith) in
       Writes (held base Sixteen 0 was) _ _ _ refl (inl refl) k.kept.0 behind
       (λ ob ok oe os. absurd (bare l s P base Sixteen (keys_at base) row behind (λ h. omega (arith, h.2)) ob ok oe os))
       (record { kept = k.kept; known = tt; fits = refl; filled = tt }, refl, refl)
@@ -117,18 +117,18 @@ module _ (variant : Variant) (s : Shape) (call : Call) (P : OfRows) (is_row : (b
       let row = is_row base FortyEight k.kept.0.1 in
       let small = key_byte-small (key_of call) (row_at (held base FortyEight info was)).level in
       let word = index_at base (byte_in c (held base FortyEight info was)) in
-      let behind : IsBehindVersion base FortyEight word = (omega (arith, small), omega (arith, small)) in
+      let behind : IsAfterVersion base FortyEight word = (omega (arith, small), omega (arith, small)) in
       Writes (held base FortyEight 0 was) _ _ _ refl (inl refl) k.kept.0 behind
       (λ ob ok oe os. absurd (bare l s P base FortyEight word row behind (λ h. omega (arith, h.2, small)) ob ok oe os))
       (record { kept = k.kept; known = tt; fits = inr refl; filled = tt }, refl, refl)
   put-keys-does base Full info was above keys k = absurd k.fits
 
-  put-more-does : (base : ℕ) (kind : Kind) (info was : ℕ) (above : Option Held) (keys : Keys) → kind ≡ Sixteen
+  put-more-does : (base : ℕ) (kind : Kind) (info was : ℕ) (above : Option HeldRow) (keys : Keys) → kind ≡ Sixteen
       → KnowsKey P c (PutMore (record { row = held base kind info was; above = above }) keys)
       → Doing (PutMore (record { row = held base kind info was; above = above }) keys)
   put-more-does base Sixteen info was above keys e k =
       let row = is_row base Sixteen k.kept.0.1 in
-      let behind : IsBehindVersion base Sixteen (more_keys_at base) = (omega arith, omega arith) in
+      let behind : IsAfterVersion base Sixteen (more_keys_at base) = (omega arith, omega arith) in
       Writes (held base Sixteen 0 was) _ _ _ refl (inl refl) k.kept.0 behind
       (λ ob ok oe os. absurd (bare l s P base Sixteen (more_keys_at base) row behind (λ h. omega (arith, h.2)) ob ok oe os))
       (record { kept = k.kept; known = tt; fits = inl refl; filled = tt }, refl, refl)
@@ -145,18 +145,18 @@ module _ (variant : Variant) (s : Shape) (call : Call) (P : OfRows) (is_row : (b
       differ : Full ≡ Sixteen → ⊥
       differ e = cc
 
-  put-count-does : (base : ℕ) (kind : Kind) (info was : ℕ) (above : Option Held) (keys : Keys) → (kind ≡ Sixteen) ⊎ (kind ≡ FortyEight)
+  put-count-does : (base : ℕ) (kind : Kind) (info was : ℕ) (above : Option HeldRow) (keys : Keys) → (kind ≡ Sixteen) ⊎ (kind ≡ FortyEight)
       → KnowsKey P c (PutCount (record { row = held base kind info was; above = above }) keys)
       → Doing (PutCount (record { row = held base kind info was; above = above }) keys)
   put-count-does base Sixteen info was above keys e k =
       let row = is_row base Sixteen k.kept.0.1 in
-      let behind : IsBehindVersion base Sixteen (count_at Sixteen base) = (omega arith, omega arith) in
+      let behind : IsAfterVersion base Sixteen (count_at Sixteen base) = (omega arith, omega arith) in
       Writes (held base Sixteen 0 was) _ _ _ refl (inl refl) k.kept.0 behind
       (λ ob ok oe os. absurd (bare l s P base Sixteen (count_at Sixteen base) row behind (λ h. omega (arith, h.2)) ob ok oe os))
       (record { kept = k.kept; known = tt; fits = tt; filled = tt }, refl, refl)
   put-count-does base FortyEight info was above keys e k =
       let row = is_row base FortyEight k.kept.0.1 in
-      let behind : IsBehindVersion base FortyEight (count_at FortyEight base) = (omega arith, omega arith) in
+      let behind : IsAfterVersion base FortyEight (count_at FortyEight base) = (omega arith, omega arith) in
       Writes (held base FortyEight 0 was) _ _ _ refl (inl refl) k.kept.0 behind
       (λ ob ok oe os. absurd (bare l s P base FortyEight (count_at FortyEight base) row behind (λ h. omega (arith, h.2)) ob ok oe os))
       (record { kept = k.kept; known = tt; fits = tt; filled = tt }, refl, refl)
@@ -187,25 +187,25 @@ module _ (variant : Variant) (s : Shape) (call : Call) (P : OfRows) (is_row : (b
   pair-does : (h : Hold) (p : Pair) (base : ℕ) (word : PairWord) → KnowsKey P c (StorePair h p base word) → Doing (StorePair h p base word)
   pair-does h p base pair_word.Info k =
       let row = k.filled.0 in
-      let behind : IsBehindVersion base Four (info_at base) = (omega arith, omega arith) in
+      let behind : IsAfterVersion base Four (info_at base) = (omega arith, omega arith) in
       Fills base Four _ _ _ refl refl behind row
       (λ ob ok oe os. absurd (bare l s P base Four (info_at base) row behind (λ x. omega (arith, x.2)) ob ok oe os))
       (record { kept = k.kept; known = k.known; fits = k.fits; filled = k.filled }, refl, refl)
   pair-does h p base pair_word.Keys k =
       let row = k.filled.0 in
-      let behind : IsBehindVersion base Four (keys_at base) = (omega arith, omega arith) in
+      let behind : IsAfterVersion base Four (keys_at base) = (omega arith, omega arith) in
       Fills base Four _ _ _ refl refl behind row
       (λ ob ok oe os. absurd (bare l s P base Four (keys_at base) row behind (λ x. omega (arith, x.2)) ob ok oe os))
       (record { kept = k.kept; known = k.known; fits = k.fits; filled = k.filled }, refl, refl)
   pair-does h p base pair_word.Lesser k =
       let row = k.filled.0 in
-      let behind : IsBehindVersion base Four (child_at Four base 0) = (omega arith, omega arith) in
+      let behind : IsAfterVersion base Four (child_at Four base 0) = (omega arith, omega arith) in
       let rows = lesser-rows (λ x. Each (IsNamed P) (child_rows x)) (old_child p) (new_child c p) k.known (new-leaf-rows s P call) in
       Fills base Four _ _ _ refl refl behind row (λ b k e slot. child-good s P is_row _ rows.0)
       (record { kept = k.kept; known = k.known; fits = k.fits; filled = k.filled }, refl, refl)
   pair-does h p base pair_word.Greater k =
       let row = k.filled.0 in
-      let behind : IsBehindVersion base Four (child_at Four base 1) = (omega arith, omega arith) in
+      let behind : IsAfterVersion base Four (child_at Four base 1) = (omega arith, omega arith) in
       let rows = lesser-rows (λ x. Each (IsNamed P) (child_rows x)) (old_child p) (new_child c p) k.known (new-leaf-rows s P call) in
       let after : KnowsKey (With P base Four) c (Write h p.slot (row_word base) None) = record {
         kept = kept-with l s P base Four (rows_of_hold h) k.kept;
@@ -217,7 +217,7 @@ module _ (variant : Variant) (s : Shape) (call : Call) (P : OfRows) (is_row : (b
 
   -- GROW
 
-  abbrev growing : ℕ → Kind → ℕ → ℕ → Option Held → ℕ → Keys → ℕ → Growing
+  abbrev growing : ℕ → Kind → ℕ → ℕ → Option HeldRow → ℕ → Keys → ℕ → Growing
   growing old kind info was above slot keys base =
       record { hold = record { row = held old kind info was; above = above }; slot = slot; keys = keys; base = base }
 
@@ -268,37 +268,37 @@ module _ (variant : Variant) (s : Shape) (call : Call) (P : OfRows) (is_row : (b
     refl,
   )
 
-  info-does : (old : ℕ) (kind : Kind) (info was : ℕ) (above : Option Held) (slot : ℕ) (keys : Keys) (base : ℕ)
+  info-does : (old : ℕ) (kind : Kind) (info was : ℕ) (above : Option HeldRow) (slot : ℕ) (keys : Keys) (base : ℕ)
       → KnowsKey P c (GrowInfo (growing old kind info was above slot keys base))
       → Doing (GrowInfo (growing old kind info was above slot keys base))
   info-does old Four info was above slot keys base k =
       let row = k.filled.0 in
-      let behind : IsBehindVersion base Sixteen (info_at base) = (omega arith, omega arith) in
+      let behind : IsAfterVersion base Sixteen (info_at base) = (omega arith, omega arith) in
       Fills base Sixteen _ _ _ refl refl behind row
       (λ ob ok oe os. absurd (bare l s P base Sixteen (info_at base) row behind (λ x. omega (arith, x.2)) ob ok oe os))
       (copies (growing old Four info was above slot keys base) 0 (count_in Four keys) k.kept k.fits tt
       (omega (arith, keys4-few keys.first)) row)
   info-does old Sixteen info was above slot keys base k =
       let row = k.filled.0 in
-      let behind : IsBehindVersion base FortyEight (info_at base) = (omega arith, omega arith) in
+      let behind : IsAfterVersion base FortyEight (info_at base) = (omega arith, omega arith) in
       Fills base FortyEight _ _ _ refl refl behind row
       (λ ob ok oe os. absurd (bare l s P base FortyEight (info_at base) row behind (λ x. omega (arith, x.2)) ob ok oe os))
       (copies (growing old Sixteen info was above slot keys base) 0 (count_in Sixteen keys) k.kept k.fits tt
       (omega (arith, keys16-few keys.count keys.first keys.second)) row)
   info-does old FortyEight info was above slot keys base k =
       let row = k.filled.0 in
-      let behind : IsBehindVersion base Full (info_at base) = (omega arith, omega arith) in
+      let behind : IsAfterVersion base Full (info_at base) = (omega arith, omega arith) in
       Fills base Full _ _ _ refl refl behind row
       (λ ob ok oe os. absurd (bare l s P base Full (info_at base) row behind (λ x. omega (arith, x.2)) ob ok oe os))
       (record { kept = k.kept; known = tt; fits = (k.fits, refl, omega arith); filled = (row, tt) }, refl, refl)
   info-does old Full info was above slot keys base k =
       let row = k.filled.0 in
-      let behind : IsBehindVersion base Full (info_at base) = (omega arith, omega arith) in
+      let behind : IsAfterVersion base Full (info_at base) = (omega arith, omega arith) in
       Ends base Full _ _ _ refl refl behind row
       (λ ob ok oe os. absurd (bare l s P base Full (info_at base) row behind (λ x. omega (arith, x.2)) ob ok oe os))
       (hangs (growing old Full info was above slot keys base) k.kept k.fits)
 
-  grow-store-does : (old : ℕ) (kind : Kind) (info was : ℕ) (above : Option Held) (slot : ℕ) (keys : Keys) (base place left word : ℕ)
+  grow-store-does : (old : ℕ) (kind : Kind) (info was : ℕ) (above : Option HeldRow) (slot : ℕ) (keys : Keys) (base place left word : ℕ)
       → KnowsKey P c (GrowStore (growing old kind info was above slot keys base) place left word)
       → Doing (GrowStore (growing old kind info was above slot keys base) place left word)
   grow-store-does old Four info was above slot keys base place left word k =
@@ -321,7 +321,7 @@ module _ (variant : Variant) (s : Shape) (call : Call) (P : OfRows) (is_row : (b
   grow-store-does old FortyEight info was above slot keys base place left word k = absurd k.fits.1
   grow-store-does old Full info was above slot keys base place left word k = absurd k.fits.1
 
-  spread-load-does : (old : ℕ) (kind : Kind) (info was : ℕ) (above : Option Held) (slot : ℕ) (keys : Keys)
+  spread-load-does : (old : ℕ) (kind : Kind) (info was : ℕ) (above : Option HeldRow) (slot : ℕ) (keys : Keys)
       (base place left index entry after : ℕ)
       → kind ≡ FortyEight
       → KnowsKey P c (SpreadLoad (record {
@@ -364,7 +364,7 @@ module _ (variant : Variant) (s : Shape) (call : Call) (P : OfRows) (is_row : (b
       differ : Full ≡ FortyEight → ⊥
       differ e = cc
 
-  spread-store-does : (old : ℕ) (kind : Kind) (info was : ℕ) (above : Option Held) (slot : ℕ) (keys : Keys)
+  spread-store-does : (old : ℕ) (kind : Kind) (info was : ℕ) (above : Option HeldRow) (slot : ℕ) (keys : Keys)
       (base place left index entry after word : ℕ)
       → kind ≡ FortyEight
       → KnowsKey P c (SpreadStore (record {
@@ -405,7 +405,7 @@ module _ (variant : Variant) (s : Shape) (call : Call) (P : OfRows) (is_row : (b
       differ : Full ≡ FortyEight → ⊥
       differ e = cc
 
-  grow-leaf-does : (old : ℕ) (kind : Kind) (info was : ℕ) (above : Option Held) (slot : ℕ) (keys : Keys) (base : ℕ)
+  grow-leaf-does : (old : ℕ) (kind : Kind) (info was : ℕ) (above : Option HeldRow) (slot : ℕ) (keys : Keys) (base : ℕ)
       → KnowsKey P c (GrowLeaf (growing old kind info was above slot keys base))
       → Doing (GrowLeaf (growing old kind info was above slot keys base))
   grow-leaf-does old Four info was above slot keys base k =
@@ -447,7 +447,7 @@ module _ (variant : Variant) (s : Shape) (call : Call) (P : OfRows) (is_row : (b
   keys-after g place (suc n) kept fits copied less row =
       (record { kept = kept; known = tt; fits = (fits, copied, omega (arith, less)); filled = (row, tt) }, refl, refl)
 
-  grow-keys-does : (old : ℕ) (kind : Kind) (info was : ℕ) (above : Option Held) (slot : ℕ) (keys : Keys) (base place left : ℕ)
+  grow-keys-does : (old : ℕ) (kind : Kind) (info was : ℕ) (above : Option HeldRow) (slot : ℕ) (keys : Keys) (base place left : ℕ)
       → KnowsKey P c (GrowKeys (growing old kind info was above slot keys base) place left)
       → Doing (GrowKeys (growing old kind info was above slot keys base) place left)
   grow-keys-does old Four info was above slot keys base place left k = go (place == 0) refl
@@ -462,10 +462,10 @@ module _ (variant : Variant) (s : Shape) (call : Call) (P : OfRows) (is_row : (b
       choose b = if b then store_of (keys_at base) (keys16_word (keys_after c g.hold keys))
           else store_of (more_keys_at base) (more_keys16_word (keys_after c g.hold keys))
 
-      first : IsBehindVersion base Sixteen (keys_at base)
+      first : IsAfterVersion base Sixteen (keys_at base)
       first = (omega arith, omega arith)
 
-      second : IsBehindVersion base Sixteen (more_keys_at base)
+      second : IsAfterVersion base Sixteen (more_keys_at base)
       second = (omega arith, omega arith)
 
       go : (b : Bool) → (place == 0) ≡ b → Doing (GrowKeys (growing old Four info was above slot keys base) place left)
@@ -477,7 +477,7 @@ module _ (variant : Variant) (s : Shape) (call : Call) (P : OfRows) (is_row : (b
   grow-keys-does old Sixteen info was above slot keys base place left k =
       let g = growing old Sixteen info was above slot keys base in
       let row = k.filled.0 in
-      let behind : IsBehindVersion base FortyEight (index_at base (8 * place)) = (omega (arith, k.fits.2), omega (arith, k.fits.2)) in
+      let behind : IsAfterVersion base FortyEight (index_at base (8 * place)) = (omega (arith, k.fits.2), omega (arith, k.fits.2)) in
       Fills base FortyEight _ _ _ refl refl behind row
       (λ ob ok oe os. absurd (bare l s P base FortyEight (index_at base (8 * place)) row behind
       (λ x. omega (arith, x.2, k.fits.2)) ob ok oe os))
@@ -485,25 +485,25 @@ module _ (variant : Variant) (s : Shape) (call : Call) (P : OfRows) (is_row : (b
   grow-keys-does old FortyEight info was above slot keys base place left k = absurd k.fits.1
   grow-keys-does old Full info was above slot keys base place left k = absurd k.fits.1
 
-  grow-count-does : (old : ℕ) (kind : Kind) (info was : ℕ) (above : Option Held) (slot : ℕ) (keys : Keys) (base : ℕ)
+  grow-count-does : (old : ℕ) (kind : Kind) (info was : ℕ) (above : Option HeldRow) (slot : ℕ) (keys : Keys) (base : ℕ)
       → KnowsKey P c (GrowCount (growing old kind info was above slot keys base))
       → Doing (GrowCount (growing old kind info was above slot keys base))
   grow-count-does old Four info was above slot keys base k =
       let row = k.filled.0 in
-      let behind : IsBehindVersion base Sixteen (count_at Sixteen base) = (omega arith, omega arith) in
+      let behind : IsAfterVersion base Sixteen (count_at Sixteen base) = (omega arith, omega arith) in
       Ends base Sixteen _ _ _ refl refl behind row
       (λ ob ok oe os. absurd (bare l s P base Sixteen (count_at Sixteen base) row behind (λ x. omega (arith, x.2)) ob ok oe os))
       (hangs (growing old Four info was above slot keys base) k.kept k.fits.0)
   grow-count-does old Sixteen info was above slot keys base k =
       let row = k.filled.0 in
-      let behind : IsBehindVersion base FortyEight (count_at FortyEight base) = (omega arith, omega arith) in
+      let behind : IsAfterVersion base FortyEight (count_at FortyEight base) = (omega arith, omega arith) in
       Ends base FortyEight _ _ _ refl refl behind row
       (λ ob ok oe os. absurd (bare l s P base FortyEight (count_at FortyEight base) row behind (λ x. omega (arith, x.2)) ob ok oe os))
       (hangs (growing old Sixteen info was above slot keys base) k.kept k.fits.0)
   grow-count-does old FortyEight info was above slot keys base k = absurd k.fits.1
   grow-count-does old Full info was above slot keys base k = absurd k.fits.1
 
-  hang-does : (g : Growing) (above : Option Held) → g.hold.above ≡ above → Each (IsKept l P) (all_of above) → HangsIn above g.slot
+  hang-does : (g : Growing) (above : Option HeldRow) → g.hold.above ≡ above → Each (IsKept l P) (all_of above) → HangsIn above g.slot
       → KnowsKey P c (Hang g) → Doing (Hang g)
   hang-does g None e kept fits k = absurd fits
   hang-does g (Some a) e kept fits k =
@@ -514,13 +514,13 @@ module _ (variant : Variant) (s : Shape) (call : Call) (P : OfRows) (is_row : (b
 
   -- each stage
 
-  claim-after : (kind : Kind) (value : ℕ) (to other : Stage) (rows : List Held) (filled : List Named)
+  claim-after : (kind : Kind) (value : ℕ) (to other : Stage) (rows : List HeldRow) (filled : List Named)
       → (value < rows_of s kind → Has P c (OnKey to) rows filled) → value < rows_of s kind
       → Has P c (OnKey (if nat_lt value (rows_of s kind) then to else other)) rows filled
   claim-after kind value to other rows filled h l =
       subst (λ b. Has P c (OnKey (if b then to else other)) rows filled) (sym (lt-ltb value (rows_of s kind) l)) (h l)
 
-  claim-fails : (kind : Kind) (value : ℕ) (to other : Stage) (rows : List Held) → Has P c (OnKey other) rows [] → rows_of s kind ≤ value
+  claim-fails : (kind : Kind) (value : ℕ) (to other : Stage) (rows : List HeldRow) → Has P c (OnKey other) rows [] → rows_of s kind ≤ value
       → Has P c (OnKey (if nat_lt value (rows_of s kind) then to else other)) rows []
   claim-fails kind value to other rows h l =
       subst (λ b. Has P c (OnKey (if b then to else other)) rows []) (sym (le-ltb value (rows_of s kind) l)) h
@@ -533,15 +533,15 @@ module _ (variant : Variant) (s : Shape) (call : Call) (P : OfRows) (is_row : (b
     pub between : (d : Down) (kept : ℕ) → KnowsKey P c (Between d kept) → Doing (Between d kept)
     pub info : (d : Down) (kept : ℕ) → KnowsKey P c (Info d kept) → Doing (Info d kept)
     pub check : (p : Position) (f : Finding) → KnowsKey P c (Check p f) → Doing (Check p f)
-    pub check_last : (n : Held) → KnowsKey P c (CheckLast n) → Doing (CheckLast n)
-    pub let_go : (above : Held) (p : Position) (f : Finding) → KnowsKey P c (LetGo above p f) → Doing (LetGo above p f)
+    pub check_last : (n : HeldRow) → KnowsKey P c (CheckLast n) → Doing (CheckLast n)
+    pub let_go : (above : HeldRow) (p : Position) (f : Finding) → KnowsKey P c (LetGo above p f) → Doing (LetGo above p f)
     pub take : (t : Taking) → KnowsKey P c (Take t) → Doing (Take t)
     -- with what FIND has seen of a row
     pub checked : (p : Position) (f : Finding) → Each (IsKept l P) (kept_at_place l i p) → FitsPlace p → IsFound p.row f
         → Each (IsNamed P) (rows_found f) → IsAt variant s call P is_row root (held_at_place l i p) (checked_at l i e c p f)
 
   module _ (own : Own) where
-    find-does : (base : ℕ) (kind : Kind) (info was : ℕ) (above : Option Held) (slot : ℕ)
+    find-does : (base : ℕ) (kind : Kind) (info was : ℕ) (above : Option HeldRow) (slot : ℕ)
         → KnowsKey P c (Find (record { row = held base kind info was; above = above; slot = slot }))
         → Doing (Find (record { row = held base kind info was; above = above; slot = slot }))
     find-does base Four info was above slot k =

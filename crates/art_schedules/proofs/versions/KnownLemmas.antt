@@ -1,6 +1,6 @@
 -- What a call knows stays known, and rows that it holds are rows that it knows.
 use Rattle.art_schedules.proofs.Common.{ℕ, List, [], ◌∷◌, sym, subst, Bool, true, false, inl, inr, ◌++◌, refl, ◌≡◌, ◌∙◌, ap, ◌==◌, map}
-use Rattle.art_schedules.proofs.Common.{Call, Held, Kind, Process, Setting, State, false≢true, has_row, is_insert, locks, same_Some}
+use Rattle.art_schedules.proofs.Common.{Call, HeldRow, Kind, Process, Setting, State, false≢true, has_row, is_insert, locks, same_Some}
 use Rattle.std.proofs.lemmas.Bool.{eqb-true}
 use Rattle.art_schedules.proofs.Common.{Frame, ScanStep, Stage, Wait, Leave, Between, Info, Find, FindKeys, FindMore, FindCount, Slot, Check}
 use Rattle.art_schedules.proofs.Common.{CheckLast, LetGo, Take, Write, ClaimPair, StorePair, PutLoad, PutStore, PutLeaf, PutKeys, PutMore}
@@ -10,18 +10,18 @@ use Rattle.art_schedules.proofs.Common.{OnScan, all_of, locks_of, held_at_place,
 use Rattle.art_schedules.proofs.Common.{kept_at_place, kept_below, FitsFrame, FitsScan, IsKept, IsNamed, Knows, holds, KnowsRows, IsAmong, IsOpen}
 use Rattle.art_schedules.proofs.Common.{FirstKeys, Index, Release, SecondKeys}
 use Rattle.std.proofs.Common.{if◌then◌else◌}
-use Rattle.art_stages.specs.declared.stage.Stage.TheVariants.{Lock, Exchange}
+use Rattle.art_control_states.specs.declared.stage.Stage.TheVariants.{Lock, Exchange}
 use Rattle.art_schedules.specs.versions.Locking.{held_between}
 use Rattle.art_schedules.proofs.versions.KeyLemmas.{each-weaker, each-split}
-use Rattle.art_stages.specs.declared.stage.ScanStep.TheVariants as scan
+use Rattle.art_control_states.specs.declared.stage.ScanStep.TheVariants as scan
 
-pub among-each : (P : Held → Type 0) (h : Held) (xs : List Held) → IsAmong h xs → Each P xs → P h
+pub among-each : (P : HeldRow → Type 0) (h : HeldRow) (xs : List HeldRow) → IsAmong h xs → Each P xs → P h
 among-each P h [] a e = absurd a
 among-each P h (x ∷ xs) (inl same) e = subst P (sym same) e.0
 among-each P h (x ∷ xs) (inr later) e = among-each P h xs later e.1
 
 module _ (P : OfRows) (l : Bool) where
-  locks-kept : (hs : List Held) → Each (IsKept l P) hs → Each (IsKept l P) (locks_of hs)
+  locks-kept : (hs : List HeldRow) → Each (IsKept l P) hs → Each (IsKept l P) (locks_of hs)
   locks-kept [] k = tt
   locks-kept (h ∷ hs) k = (k.0, locks-kept hs k.1)
 
@@ -81,7 +81,7 @@ module _ (P : OfRows) (l i : Bool) (c : Setting) where
   held-kept (Over outcome) k = tt
 
 module _ (P : OfRows) (c : Setting) where
-  pub held-is-kept : (at : CallAt) → Knows P c at → (h : Held) → IsAmong h (holds c at) → IsKept (locks c.variant) P h
+  pub held-is-kept : (at : CallAt) → Knows P c at → (h : HeldRow) → IsAmong h (holds c at) → IsKept (locks c.variant) P h
   held-is-kept (OnKey stage) k h a =
       let rows = held_at_stage (locks c.variant) (is_insert c.call) stage in
       among-each (IsKept (locks c.variant) P) h (locks_of rows) a
@@ -122,30 +122,30 @@ module _ (P Q : OfRows) (c : Setting) (more : (b : ℕ) (k : Kind) → P b k →
     way = frames at.walk.way k.way;
   }
 
-pub among-front : (n : Held) (xs ys : List Held) → IsAmong n xs → IsAmong n (xs ++ ys)
+pub among-front : (n : HeldRow) (xs ys : List HeldRow) → IsAmong n xs → IsAmong n (xs ++ ys)
 among-front n [] ys a = absurd a
 among-front n (x ∷ xs) ys (inl e) = inl e
 among-front n (x ∷ xs) ys (inr a) = inr (among-front n xs ys a)
 
-pub among-last : (n : Held) (xs : List Held) → IsAmong n (xs ++ n ∷ [])
+pub among-last : (n : HeldRow) (xs : List HeldRow) → IsAmong n (xs ++ n ∷ [])
 among-last n [] = inl refl
 among-last n (x ∷ xs) = inr (among-last n xs)
 
-pub found-row : (base : ℕ) (rows : List Held) → has_row base (map row_at rows) ≡ true → (n : Held) × IsAmong n rows × (n.base ≡ base)
+pub found-row : (base : ℕ) (rows : List HeldRow) → has_row base (map row_at rows) ≡ true → (n : HeldRow) × IsAmong n rows × (n.base ≡ base)
 found-row base [] h = absurd (false≢true h)
 found-row base (n ∷ rows) h = go (n.base == base) refl h (found-row base rows)
   where
     go : (b : Bool) → (n.base == base) ≡ b → (if b then true else has_row base (map row_at rows)) ≡ true
-        → (has_row base (map row_at rows) ≡ true → (m : Held) × IsAmong m rows × (m.base ≡ base)) → (m : Held)
+        → (has_row base (map row_at rows) ≡ true → (m : HeldRow) × IsAmong m rows × (m.base ≡ base)) → (m : HeldRow)
         × IsAmong m (n ∷ rows) × (m.base ≡ base)
     go true e k later = (n, inl refl, eqb-true n.base base e)
     go false e k later = let r = later k in (r.0, inr r.1, r.2)
 
-pub each-among : (P : Held → Type 0) (hs : List Held) → ((h : Held) → IsAmong h hs → P h) → Each P hs
+pub each-among : (P : HeldRow → Type 0) (hs : List HeldRow) → ((h : HeldRow) → IsAmong h hs → P h) → Each P hs
 each-among P [] f = tt
 each-among P (h ∷ hs) f = (f h (inl refl), each-among P hs (λ x a. f x (inr a)))
 
-pub each-map : {P Q : Held → Type 0} → ((x : Held) → P x → Q x) → (xs : List Held) → Each P xs → Each Q xs
+pub each-map : {P Q : HeldRow → Type 0} → ((x : HeldRow) → P x → Q x) → (xs : List HeldRow) → Each P xs → Each Q xs
 each-map f [] e = tt
 each-map f (x ∷ xs) e = (f x e.0, each-map f xs e.1)
 

@@ -3,7 +3,7 @@ use Rattle.art_schedules.proofs.Common.{MayWrite, WritesOwn, row_words, ◌≡�
 use Rattle.art_schedules.proofs.Common.{Call, Some, arith, cases_eq, inl, inr, same_Some, slice_get, slice_index, slice_set, subst, ◌∙◌}
 use Rattle.std.specs.Prelude.{◌⊎◌}
 use Rattle.art_schedules.proofs.Common.{Shape, Kind, Full, rows_of, claims_of, base_of, root_base, kind_at, is_locked, claims-few, row_begins}
-use Rattle.art_schedules.proofs.Common.{base_of-once, Held, setting, Variant, locks, Process, State, OfRows, Named, IsKept, Knows, IsGoodAt}
+use Rattle.art_schedules.proofs.Common.{base_of-once, HeldRow, setting, Variant, locks, Process, State, OfRows, Named, IsKept, Knows, IsGoodAt}
 use Rattle.art_schedules.proofs.Common.{AreDistinct, IsAmong, IsOpen, IsSettled, IsSound, IsSteady, filled_by, held_by, stage_of, stored-at}
 use Rattle.art_schedules.specs.versions.Effects.{Has}
 use Rattle.art_schedules.proofs.Common.{IsClaimed}
@@ -21,7 +21,7 @@ same-item e = let same = first-item e in (ap (λ x. x.0) same, ap (λ x. x.1) sa
 
 module _ (variant : Variant) (shape : Shape) (n : ℕ) (s : State) (h : IsSound variant shape n s) (few : n < 2 ^ 62) (p : ℕ) (q : Process)
     (here : slice_get s.processes p ≡ Some q) where
-  held-row : (r : ℕ) (other : Call) (w : Process) → IsOpen s r other w → (x : Held) → IsAmong x (held_by variant shape other w)
+  held-row : (r : ℕ) (other : Call) (w : Process) → IsOpen s r other w → (x : HeldRow) → IsAmong x (held_by variant shape other w)
       → IsKept (locks variant) (IsSettled variant shape s) x
   held-row r other w o x a = held-is-kept (IsSettled variant shape s) (setting shape variant other) (stage_of variant shape other w)
       (h.knows r other w o) x a

@@ -3,8 +3,8 @@ use Rattle.art_schedules.proofs.Common.{◌≡◌, ◌≢◌, ℕ, ◌+◌, ◌*
 use Rattle.art_schedules.proofs.Common.{Call, Kind, Shape, Some, cases_eq, false, same_Some, slice_get, slice_index, slice_set, true}
 use Rattle.std.specs.Prelude.{◌⊎◌}
 use Rattle.art_schedules.proofs.Common.{claims_of, kind_at, is_locked, some-words, claims-few, kind_at-base_of, rows_apart, stored-at, IsClaimed}
-use Rattle.art_schedules.proofs.Common.{Setting, locks, Held, CallAt, setting, Variant, Process, State, Named, IsKept, Knows, holds, fills}
-use Rattle.art_schedules.proofs.Common.{AreDistinct, IsAmong, IsBehindVersion, IsGoodAt, IsOpen, IsSettled, filled_by, held_by, stage_of}
+use Rattle.art_schedules.proofs.Common.{Setting, locks, HeldRow, CallAt, setting, Variant, Process, State, Named, IsKept, Knows, holds, fills}
+use Rattle.art_schedules.proofs.Common.{AreDistinct, IsAmong, IsAfterVersion, IsGoodAt, IsOpen, IsSettled, filled_by, held_by, stage_of}
 use Rattle.art_schedules.specs.versions.Effects.{Has}
 use Rattle.art_schedules.proofs.Common.{IsSound, behind}
 use Rattle.art_schedules.proofs.versions.KnownLemmas.{held-is-kept}
@@ -39,12 +39,12 @@ module _ (variant : Variant) (shape : Shape) (n : ℕ) (s : State) (h : IsSound 
   opens = record { own = here; is_open = is-open }
 
   -- a row that some process holds
-  pub held-row : (r : ℕ) (other : Call) (w : Process) → IsOpen s r other w → (x : Held) → IsAmong x (held_by variant shape other w)
+  pub held-row : (r : ℕ) (other : Call) (w : Process) → IsOpen s r other w → (x : HeldRow) → IsAmong x (held_by variant shape other w)
       → IsKept (locks variant) (IsSettled variant shape s) x
   held-row r other w o x a = held-is-kept (IsSettled variant shape s) (setting shape variant other) (stage_of variant shape other w)
       (h.knows r other w o) x a
 
-  pub kind-of : (x : Held) → IsKept (locks variant) (IsSettled variant shape s) x → kind_at shape x.base ≡ Some x.kind
+  pub kind-of : (x : HeldRow) → IsKept (locks variant) (IsSettled variant shape s) x → kind_at shape x.base ≡ Some x.kind
   kind-of x k = settled-row variant shape s x.base x.kind k.1
 
   module _ (word value : ℕ) (q' : Process) (its : q'.call ≡ Some call) where
@@ -110,22 +110,22 @@ module _ (variant : Variant) (shape : Shape) (n : ℕ) (s : State) (h : IsSound 
         others = λ r other w away o x a. calm x (held-row r other w o x a);
         knows = λ other e. for-own (λ v. Knows (IsSettled variant shape later) (setting shape variant v) (stage_of variant shape v
             q')) has.0 other e;
-        locked = λ other e. for-own (λ v. (x : Held) → IsAmong x (held_by variant shape v q') → at-now x.base ≡ x.kept + 2)
+        locked = λ other e. for-own (λ v. (x : HeldRow) → IsAmong x (held_by variant shape v q') → at-now x.base ≡ x.kept + 2)
             (λ x a. let b = subst (IsAmong x) has.1 a in calm x (held-row p call q opens x b) ∙ h.locked p call q opens x b) other e;
         held = λ base kind e free. held-still variant shape n s h p q here word value q' base
             (h.held base kind e (ap is_locked (sym (same base kind e)) ∙ free))
             (λ other f x a is. for-call other f x a);
         distinct = λ other e. for-own (λ v. AreDistinct (held_by variant shape v q'))
             (subst AreDistinct (sym has.1) (h.distinct p call q opens)) other e;
-        apart = λ other e. for-own (λ v. (r : ℕ) (o : Call) (w : Process) → r ≢ p → IsOpen s r o w → (x y : Held)
+        apart = λ other e. for-own (λ v. (r : ℕ) (o : Call) (w : Process) → r ≢ p → IsOpen s r o w → (x y : HeldRow)
             → IsAmong x (held_by variant shape v q') → IsAmong y (held_by variant shape o w) → x.base ≢ y.base)
             (λ r o w away ow x y a b same. away (sym (h.apart p r call o q w opens ow x y (subst (IsAmong x) has.1 a) b same))) other e;
       })
         where
-          calm : (x : Held) → IsKept (locks variant) (IsSettled variant shape s) x → at-now x.base ≡ slice_index s.words x.base
+          calm : (x : HeldRow) → IsKept (locks variant) (IsSettled variant shape s) x → at-now x.base ≡ slice_index s.words x.base
           calm x k = same x.base x.kind (kind-of x k)
 
-          for-call : (other : Call) → q.call ≡ Some other → (x : Held) → IsAmong x (held_by variant shape other q)
+          for-call : (other : Call) → q.call ≡ Some other → (x : HeldRow) → IsAmong x (held_by variant shape other q)
               → (q'.call ≡ Some other) × IsAmong x (held_by variant shape other q')
           for-call other f x a =
               let is = same_Some call other (sym is-open ∙ f) in (
@@ -135,7 +135,7 @@ module _ (variant : Variant) (shape : Shape) (n : ℕ) (s : State) (h : IsSound 
               )
 
     -- a word that is after a version is no version
-    pub no-version : (b : ℕ) (k : Kind) → kind_at shape b ≡ Some k → IsBehindVersion b k word → (base : ℕ) (kind : Kind)
+    pub no-version : (b : ℕ) (k : Kind) → kind_at shape b ≡ Some k → IsAfterVersion b k word → (base : ℕ) (kind : Kind)
         → kind_at shape base ≡ Some kind
         → base ≢ word
     no-version b k row behind base kind e same =

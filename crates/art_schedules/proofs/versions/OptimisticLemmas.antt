@@ -4,21 +4,21 @@ use Rattle.art_schedules.proofs.Common.{false≢true, Reads, Takes, held, ◌≡
 use Rattle.art_schedules.proofs.Common.{eq-eqb, ne_eqb, ◌==◌, if◌then◌else◌, None, Option, Some, slice_index, Leads, AccessDoes, Empty, ChildRow}
 use Rattle.art_schedules.proofs.Common.{Leaf, Between, Check, CheckLast, Take, Info, Over, Wait, Call, Down, Each, FitsPlace, FitsWork, IsFound}
 use Rattle.art_schedules.proofs.Common.{IsKept, IsNamed, IsSlot, IsUnder, KnowsKey, OfRows, rows_found, rows_of_work, Finding, FortyEight, Four}
-use Rattle.art_schedules.proofs.Common.{Full, Sixteen, Held, Kind, Lacks, OnKey, Optimistic, Position, Setting, is_insert, key_of}
+use Rattle.art_schedules.proofs.Common.{Full, Sixteen, HeldRow, Kind, Lacks, OnKey, Optimistic, Position, Setting, is_insert, key_of}
 use Rattle.art_schedules.proofs.Common.{path_differs_at, Shape, Stage, Taken, Root, Target, Work, below_at, checked_at, entered_at, found_at}
 use Rattle.art_schedules.proofs.Common.{no_value, release_at, seek_unlocked, start_at, all_of, lock_of, locks_of, capacity, kind_at, root_base}
 use Rattle.art_schedules.proofs.Common.{child_word, is_locked, is_obsolete, key_bytes, count_in, row_at, setting, keys_differ_at, new_leaf}
 use Rattle.art_schedules.proofs.Common.{overwriting, not_full}
-use Rattle.art_stages.specs.declared.stage.Keys.{Keys}
+use Rattle.art_control_states.specs.declared.stage.Keys.{Keys}
 use Rattle.art_schedules.proofs.versions.WordFacts.{count-most, free-version, child-good, new-leaf-rows, overwriting-good}
 use Rattle.std.specs.Prelude.{nat_le}
 use Rattle.art_schedules.specs.versions.Holding.{FitsTaking}
 use Rattle.art_schedules.proofs.versions.AfterLemmas.{IsAt, at-end, at-start, released, works}
-use Rattle.art_stages.specs.declared.stage.Finding.TheVariants.{Has}
+use Rattle.art_control_states.specs.declared.stage.Finding.TheVariants.{Has}
 use Rattle.art_schedules.proofs.versions.KeyLemmas.{Own, each-split}
-use Rattle.art_stages.specs.declared.stage.Target.TheVariants.{Below}
-use Rattle.art_stages.specs.Automaton.{after_with, grow_unlocked, insert_unlocked, overwrite_unlocked, take_alone, taken_at}
-use Rattle.art_stages.specs.declared.stage.Work.TheVariants as work
+use Rattle.art_control_states.specs.declared.stage.Target.TheVariants.{Below}
+use Rattle.art_control_states.specs.Automaton.{after_with, grow_unlocked, insert_unlocked, overwrite_unlocked, take_alone, taken_at}
+use Rattle.art_control_states.specs.declared.stage.Work.TheVariants as work
 
 module _ (s : Shape) (call : Call) (P : OfRows) (is_row : (b : ℕ) (k : Kind) → P b k → kind_at s b ≡ Some k)
     (root : P (root_base s) Full) where
@@ -28,7 +28,7 @@ module _ (s : Shape) (call : Call) (P : OfRows) (is_row : (b : ℕ) (k : Kind) �
   abbrev i : Bool
   i = is_insert call
 
-  abbrev Here : List Held → Stage → Type 0
+  abbrev Here : List HeldRow → Stage → Type 0
   Here rows stage = IsAt Optimistic s call P is_row root rows stage
 
   abbrev Doing : Stage → Type 0
@@ -42,17 +42,17 @@ module _ (s : Shape) (call : Call) (P : OfRows) (is_row : (b : ℕ) (k : Kind) �
 
   -- what is done with what FIND saw
 
-  takes-alone : (n : Held) (work : Work) → IsKept false P n → Each (IsNamed P) (rows_of_work s work) → FitsWork n None work
+  takes-alone : (n : HeldRow) (work : Work) → IsKept false P n → Each (IsNamed P) (rows_of_work s work) → FitsWork n None work
       → Here [] (take_alone c n work)
   takes-alone n work kept known fits = (record { kept = (kept, tt); known = known; fits = (tt, fits); filled = tt }, refl, refl)
 
-  overwrites : (n : Held) (slot value : ℕ) (o : Option ℕ) → overwriting call value ≡ o → IsKept false P n → IsSlot n.base n.kind slot
+  overwrites : (n : HeldRow) (slot value : ℕ) (o : Option ℕ) → overwriting call value ≡ o → IsKept false P n → IsSlot n.base n.kind slot
       → Here [] (overwrite_unlocked c n slot value o)
   overwrites n slot value None e kept fits = ends _
   overwrites n slot value (Some word) e kept fits =
       takes-alone n (work.Write slot word (Some value)) kept (overwriting-good s P call value word e) fits
 
-  seeks : (n : Held) (f : Finding) → IsKept false P n → IsFound n f → Each (IsNamed P) (rows_found f) → Here [] (seek_unlocked c n f)
+  seeks : (n : HeldRow) (f : Finding) → IsKept false P n → IsFound n f → Each (IsNamed P) (rows_found f) → Here [] (seek_unlocked c n f)
   seeks n (Lacks keys) kept fits known = ends _
   seeks n (Has slot Empty) kept fits known = ends _
   seeks n (Has slot (Leaf key value)) kept fits known = go (key == key_of call)
@@ -63,7 +63,7 @@ module _ (s : Shape) (call : Call) (P : OfRows) (is_row : (b : ℕ) (k : Kind) �
   seeks n (Has slot (ChildRow base kind)) kept fits known =
       (record { kept = (kept, tt); known = known; fits = (tt, fits); filled = tt }, refl, refl)
 
-  grows : (base : ℕ) (kind : Kind) (info was : ℕ) (above : Option Held) (slot : ℕ) (keys : Keys)
+  grows : (base : ℕ) (kind : Kind) (info was : ℕ) (above : Option HeldRow) (slot : ℕ) (keys : Keys)
       → Each (IsKept false P) (held base kind info was ∷ all_of above)
       → IsUnder above (held base kind info was) slot → (count_in kind keys == capacity kind) ≡ true
       → Here [] (grow_unlocked c (held base kind info was) above slot keys)
@@ -148,7 +148,7 @@ module _ (s : Shape) (call : Call) (P : OfRows) (is_row : (b : ℕ) (k : Kind) �
       go false true e f = starts
       go false false e f = entered i t w (free-version w e f) k
 
-  below : (i : Bool) (d : Down) (m : Held) (o : Option ℕ) → IsKept false P m → IsKept false P d.above
+  below : (i : Bool) (d : Down) (m : HeldRow) (o : Option ℕ) → IsKept false P m → IsKept false P d.above
       → IsSlot d.above.base d.above.kind d.slot
       → Here [] (below_at false i c d m o)
   below i d m None km ka fits = (record { kept = (km, (ka, tt)); known = tt; fits = fits; filled = tt }, refl, refl)
@@ -166,7 +166,7 @@ module _ (s : Shape) (call : Call) (P : OfRows) (is_row : (b : ℕ) (k : Kind) �
 
   -- TAKE
 
-  taken : (n : Held) (above below : Option Held) (work : Work) → Each (IsKept false P) (n ∷ all_of above)
+  taken : (n : HeldRow) (above below : Option HeldRow) (work : Work) → Each (IsKept false P) (n ∷ all_of above)
       → Each (IsKept false P) (all_of below)
       → Each (IsNamed P) (rows_of_work s work) → FitsTaking n above below work → Here (n ∷ all_of above) (taken_at c above below work n)
   taken n above None work kept others known fits =
@@ -175,7 +175,7 @@ module _ (s : Shape) (call : Call) (P : OfRows) (is_row : (b : ℕ) (k : Kind) �
       (record { kept = (others.0, (kept.0, tt)); known = known; fits = (tt, fits); filled = tt }, refl, refl)
   taken n (Some a) (Some m) work kept others known fits = absurd fits
 
-  take-does : (n : Held) (above below : Option Held) (work : _)
+  take-does : (n : HeldRow) (above below : Option HeldRow) (work : _)
       → KnowsKey P c (Take (record { row = n; held = above; below = below; work = work }))
       → Doing (Take (record { row = n; held = above; below = below; work = work }))
   take-does n above below work k =
@@ -202,7 +202,7 @@ module _ (s : Shape) (call : Call) (P : OfRows) (is_row : (b : ℕ) (k : Kind) �
       go true = found i p f k.kept k.fits.0 k.fits.1 k.known
       go false = starts
 
-  last-does : (n : Held) → KnowsKey P c (CheckLast n) → Doing (CheckLast n)
+  last-does : (n : HeldRow) → KnowsKey P c (CheckLast n) → Doing (CheckLast n)
   last-does n k = Reads _ _ refl (λ value good. go (value == n.kept))
     where
       go : (b : Bool) → Leads P c (OnKey (if b then Over no_value else start_at false)) [] []

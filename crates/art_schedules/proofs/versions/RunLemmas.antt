@@ -11,7 +11,7 @@ use Rattle.std.proofs.lemmas.List.{length-replicate}
 use Rattle.art_core.proofs.RunLemmas.{run-on-append}
 use Rattle.std.proofs.lemmas.Option.{slice_get_within}
 use Rattle.art_rows.specs.Table.{table_words}
-use Rattle.art_serial.proofs.trees.Opening.{only-zeros}
+use Rattle.art_sequential.proofs.trees.Opening.{only-zeros}
 use Rattle.art_core.proofs.HistoryLemmas.{opening-length, run-lengths}
 use Rattle.art_schedules.proofs.versions.KeyLemmas.{slot-behind}
 use Rattle.art_schedules.proofs.versions.ChangeLemmas.{index-other, good-more}

@@ -5,33 +5,33 @@ use Rattle.art_schedules.specs.versions.Effects.{Has}
 use Rattle.art_schedules.proofs.Common.{suc, ◌+◌, ◌-◌, ◌%◌, ◌<◌, ◌≤◌, List, [], ◌∷◌, ◌++◌, refl, sym, Bool, true, false, arith, ◌==◌}
 use Rattle.art_schedules.proofs.Common.{if◌then◌else◌, slice_index, map, filter, Option, Some, None, none-some, same_Some, Call, Kind, Four}
 use Rattle.art_schedules.proofs.Common.{Sixteen, FortyEight, Full, Shape, Child, Empty, ChildRow, Leaf, kind_at, child_at, root_base, is_locked}
-use Rattle.art_schedules.proofs.Common.{Held, KeyWords, Setting, bytes_of, child_of, entries_of, has_row, is_obsolete, place_of, with_leaf}
-use Rattle.art_stages.specs.declared.stage.Entry.TheVariants.{Below}
+use Rattle.art_schedules.proofs.Common.{HeldRow, KeyWords, Setting, bytes_of, child_of, entries_of, has_row, is_obsolete, place_of, with_leaf}
+use Rattle.art_control_states.specs.declared.stage.Entry.TheVariants.{Below}
 use Rattle.art_schedules.proofs.Common.{FirstKeys, Frame, Index, LoadChild, Release, ScanStep, SecondKeys, held, row_at}
-use Rattle.art_stages.specs.declared.stage.ScanStep.TheVariants.{Exchange, Keys, Lock}
+use Rattle.art_control_states.specs.declared.stage.ScanStep.TheVariants.{Exchange, Keys, Lock}
 use Rattle.art_schedules.proofs.Common.{keys_among, keys_one, Walk, ScanAt, at, walked, on_way, in_word, frame_of, keys16, release_rows, close_at}
 use Rattle.art_schedules.proofs.Common.{slot_at, bytes_at, index_at_list, words_at, child_from, frame_at, way_at, resume_at, with_frame}
 use Rattle.art_schedules.proofs.Common.{visit_list, entry_at, child_after, scan_start, step_after, OnScan, OfRows, Each, IsSlot, child_rows}
 use Rattle.art_schedules.proofs.Common.{IsNamed, FitsFrame, KnowsScanRows, Reads, Answered, AccessDoes}
 use Rattle.art_rows.specs.Rows.{leaves_out_check}
-use Rattle.art_stages.specs.Scans.{enter_at, place_slot, row_begins, visit_at}
+use Rattle.art_control_states.specs.Scans.{enter_at, place_slot, row_begins, visit_at}
 use Rattle.art_schedules.specs.versions.Locking.{scan_locked}
 use Rattle.art_schedules.specs.versions.Holding.{rows_entered, rows_walked}
 use Rattle.art_schedules.proofs.versions.WithLemmas.{with-last}
 use Rattle.art_rows.proofs.AccessLemmas.{each-append}
-use Rattle.art_stages.specs.declared.stage.Entry.{Entry}
-use Rattle.art_stages.specs.declared.stage.Entry.TheVariants.{Root}
-use Rattle.art_stages.specs.declared.stage.ScanStep.TheVariants.{Wait, Info, Over}
+use Rattle.art_control_states.specs.declared.stage.Entry.{Entry}
+use Rattle.art_control_states.specs.declared.stage.Entry.TheVariants.{Root}
+use Rattle.art_control_states.specs.declared.stage.ScanStep.TheVariants.{Wait, Info, Over}
 use Rattle.art_schedules.proofs.versions.ByteLemmas.{index-small}
 use Rattle.art_schedules.proofs.versions.WordFacts.{place-fits, entry-fits}
 
 -- the rows that a scan holds, where it has walked these
-abbrev pub walked_held : Bool → List Held → List Held
+abbrev pub walked_held : Bool → List HeldRow → List HeldRow
 walked_held true rows = rows
 walked_held false rows = []
 
 -- a row that is met again, and one that is not
-fresh-row : (base : ℕ) (rows : List Held) → Each (λ n. n.base ≢ base) rows → has_row base (map row_at rows) ≡ false
+fresh-row : (base : ℕ) (rows : List HeldRow) → Each (λ n. n.base ≢ base) rows → has_row base (map row_at rows) ≡ false
 fresh-row base [] h = refl
 fresh-row base (n ∷ rows) h = ap (λ b. if b then true else has_row base (map row_at rows)) (ne_eqb n.base base h.0)
     ∙ fresh-row base rows h.1
@@ -40,12 +40,12 @@ each-init : {A : Type 0} (Q : A → Type 0) (xs : List A) (x : A) → Each Q (xs
 each-init Q [] x h = (tt, h.0)
 each-init Q (y ∷ xs) x h = let rest = each-init Q xs x h.1 in ((h.0, rest.0), rest.1)
 
-locks-end : (rows : List Held) (n : Held) → locks_of (rows ++ n ∷ []) ≡ locks_of rows ++ lock_of n ∷ []
+locks-end : (rows : List HeldRow) (n : HeldRow) → locks_of (rows ++ n ∷ []) ≡ locks_of rows ++ lock_of n ∷ []
 locks-end [] n = refl
 locks-end (x ∷ rows) n = ap (λ xs. lock_of x ∷ xs) (locks-end rows n)
 
-among-all : (Q : Held → Type 0) (rows : List Held) → ((x : Held) → IsAmong x (locks_of rows) → Q x)
-    → ((x : Held) → Q (lock_of x) → Q x) → Each Q rows
+among-all : (Q : HeldRow → Type 0) (rows : List HeldRow) → ((x : HeldRow) → IsAmong x (locks_of rows) → Q x)
+    → ((x : HeldRow) → Q (lock_of x) → Q x) → Each Q rows
 among-all Q [] h back = tt
 among-all Q (x ∷ rows) h back = (back x (h (lock_of x) (inl refl)), among-all Q rows (λ y a. h y (inr a)) back)
 
@@ -75,7 +75,7 @@ module _ (variant : Variant) (s : Shape) (call : Call) (P : OfRows) (is_row : (b
   l = locks variant
 
   -- the scan is there, and holds these rows that it has walked
-  module _ (rows : List Held) where
+  module _ (rows : List HeldRow) where
     abbrev pub GoodAt : Bool → ScanAt → Type 0
     GoodAt l x = KnowsScanRows P l x × (scan_held l x.step x.walk ≡ walked_held l rows)
 
@@ -123,7 +123,7 @@ module _ (variant : Variant) (s : Shape) (call : Call) (P : OfRows) (is_row : (b
             (omega (arith, few)) way later
         go false later = later
 
-    words-good : (n : Held) (w : Walk) (j m : ℕ) (other : ScanAt) → w.rows ≡ rows → AreKept → n.kind ≡ FortyEight → P n.base n.kind
+    words-good : (n : HeldRow) (w : Walk) (j m : ℕ) (other : ScanAt) → w.rows ≡ rows → AreKept → n.kind ≡ FortyEight → P n.base n.kind
         → Each (FitsFrame P) w.way → Good other → Good (words_at lo hi n w j m other)
     words-good n w j zero other is kept full p way rest = rest
     words-good n w j (suc m) other is kept full p way rest =
@@ -158,7 +158,7 @@ module _ (variant : Variant) (s : Shape) (call : Call) (P : OfRows) (is_row : (b
     closed : (w : Walk) → w.rows ≡ rows → AreKept → Good (close_at c w)
     closed w is kept = go l (leaves_out_check variant call) kept
       where
-        released : (hs : List Held) → hs ≡ rows → (b : Bool) → Each (IsKept b P) (walked_held b rows) → GoodAt b (release_rows hs w.pairs)
+        released : (hs : List HeldRow) → hs ≡ rows → (b : Bool) → Each (IsKept b P) (walked_held b rows) → GoodAt b (release_rows hs w.pairs)
         released [] e true kept = (record { kept = tt; known = tt; fits = tt; way = tt }, e)
         released [] e false kept = (record { kept = tt; known = tt; fits = tt; way = tt }, refl)
         released (n ∷ hs) e true kept = (record { kept = subst (Each (IsKept true P)) (sym e) kept; known = tt; fits = tt; way = tt }, e)
@@ -192,7 +192,7 @@ module _ (variant : Variant) (s : Shape) (call : Call) (P : OfRows) (is_row : (b
     begins base Full info was w is kept p way =
         frame-good w base Full info was (keys_one 0) 0 256 0 0 _ is kept p (omega arith) way (resumed w is kept way)
 
-    listed : (n : Held) (w : Walk) (xs : List ℕ) → w.rows ≡ rows → AreKept → P n.base n.kind → Each (FitsFrame P) w.way
+    listed : (n : HeldRow) (w : Walk) (xs : List ℕ) → w.rows ≡ rows → AreKept → P n.base n.kind → Each (FitsFrame P) w.way
         → Good (visit_list c lo hi n w xs)
     listed n w [] is kept p way = resumed w is kept way
     listed n w (x ∷ xs) is kept p way = begins n.base n.kind n.info n.kept w is kept p way
@@ -217,7 +217,7 @@ module _ (variant : Variant) (s : Shape) (call : Call) (P : OfRows) (is_row : (b
     abbrev Doing : ScanStep → Type 0
     Doing step = AccessDoes P c (OnScan lo hi (at step w))
 
-    locked-same : (rows : List Held) (step : ScanStep) → scan_locked step w ≡ rows → scan_held l step w ≡ walked_held l rows
+    locked-same : (rows : List HeldRow) (step : ScanStep) → scan_locked step w ≡ rows → scan_held l step w ≡ walked_held l rows
     locked-same rows step e = go l
       where
         go : (b : Bool) → scan_held b step w ≡ walked_held b rows
@@ -256,7 +256,7 @@ module _ (variant : Variant) (s : Shape) (call : Call) (P : OfRows) (is_row : (b
       pub exchange : (entry : Entry) (v : ℕ) → KnowsScanRows P l (at (Exchange entry v) w) → Doing (Exchange entry v)
       pub wait : (entry : Entry) → KnowsScanRows P l (at (Wait entry) w) → Doing (Wait entry)
       pub info : (base : ℕ) (kind : Kind) (kept : ℕ) → KnowsScanRows P l (at (Info base kind kept) w) → Doing (Info base kind kept)
-      pub release : (n : Held) → KnowsScanRows P l (at (Release n) w) → Doing (Release n)
+      pub release : (n : HeldRow) → KnowsScanRows P l (at (Release n) w) → Doing (Release n)
 
     pub step-does : Own → (step : ScanStep) → KnowsScanRows P l (at step w) → Doing step
     step-does own (Lock entry first) k = own.lock entry first k
@@ -288,7 +288,7 @@ module _ (s : Shape) (call : Call) (P : OfRows) (is_row : (b : ℕ) (k : Kind) �
   abbrev optimistic-setting : Setting
   optimistic-setting = setting s Optimistic call
 
-  met : (n : Held) (w : Walk) → P n.base n.kind → Each (FitsFrame P) w.way
+  met : (n : HeldRow) (w : Walk) → P n.base n.kind → Each (FitsFrame P) w.way
       → Has P optimistic-setting (OnScan lo hi (visit_at optimistic-setting lo hi n w)) [] []
   met n w p way = go (bytes_of lo hi (row_at n)) (has_row n.base (map row_at w.rows))
     where
@@ -342,7 +342,7 @@ module _ (s : Shape) (call : Call) (P : OfRows) (is_row : (b : ℕ) (k : Kind) �
   coupled-setting = setting s Coupled call
 
   -- a row that was locked last is met
-  locked-row : (n : Held) (w : Walk) → Each (λ x. x.base ≢ n.base) w.rows → Each (IsKept true P) w.rows → IsKept true P n
+  locked-row : (n : HeldRow) (w : Walk) → Each (λ x. x.base ≢ n.base) w.rows → Each (IsKept true P) w.rows → IsKept true P n
       → Each (FitsFrame P) w.way
       → Has P coupled-setting (OnScan lo hi (visit_at coupled-setting lo hi n w)) (locks_of (w.rows ++ n ∷ [])) []
   locked-row n w fresh kept new way = go (bytes_of lo hi (row_at n)) (has_row n.base (map row_at w.rows)) (fresh-row n.base w.rows fresh)
@@ -372,7 +372,7 @@ module _ (s : Shape) (call : Call) (P : OfRows) (is_row : (b : ℕ) (k : Kind) �
       go true = Reads _ _ refl (λ value good. after value (is_locked value) refl)
       go false = Reads _ _ refl (λ value good. after value (is_locked value) refl)
 
-  apart-rows : (base : ℕ) (rows : List Held) → ((x : Held) → IsAmong x (locks_of rows) → x.base ≢ base) → Each (λ x. x.base ≢ base) rows
+  apart-rows : (base : ℕ) (rows : List HeldRow) → ((x : HeldRow) → IsAmong x (locks_of rows) → x.base ≢ base) → Each (λ x. x.base ≢ base) rows
   apart-rows base rows h = among-all (λ x. x.base ≢ base) rows h (λ x y. y)
 
   exchanges-does : (w : Walk) (entry : Entry) (v : ℕ) → KnowsScanRows P true (at (Exchange entry v) w)
@@ -432,11 +432,11 @@ module _ (s : Shape) (call : Call) (P : OfRows) (is_row : (b : ℕ) (k : Kind) �
           → Has P coupled-setting (OnScan lo hi x) (locks_of (w.rows ++ held base kind 0 kept ∷ [])) []
       same-locks value h = (h.0, h.1 ∙ (locks-end w.rows (held base kind value kept) ∙ sym (locks-end w.rows (held base kind 0 kept))), h.2)
 
-  releases-does : (w : Walk) (n : Held) → KnowsScanRows P true (at (Release n) w)
+  releases-does : (w : Walk) (n : HeldRow) → KnowsScanRows P true (at (Release n) w)
       → AccessDoes P coupled-setting (OnScan lo hi (at (Release n) w))
   releases-does w n k = Releases (lock_of n) (locks_of w.rows) _ _ refl (inl (refl, refl)) refl (inl refl) k.kept.0 (go w.rows k.kept.1)
     where
-      go : (rows : List Held) → Each (IsKept true P) rows
+      go : (rows : List HeldRow) → Each (IsKept true P) rows
           → Has P coupled-setting (OnScan lo hi (release_rows rows w.pairs)) (locks_of rows) []
       go [] kept = (record { kept = tt; known = tt; fits = tt; way = tt }, refl, refl)
       go (m ∷ rows) kept = (record { kept = kept; known = tt; fits = tt; way = tt }, refl, refl)

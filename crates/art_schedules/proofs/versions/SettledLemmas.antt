@@ -1,15 +1,15 @@
 -- What a scan loads before its checks lies in a row that it knows.
 use Rattle.art_schedules.proofs.Common.{◌≡◌, ◌≢◌, ℕ, ◌+◌, ◌*◌, ◌<◌, ◌≤◌, refl, sym, subst, false, arith, Option, Some, Call, Kind, Four, Sixteen}
 use Rattle.art_schedules.proofs.Common.{FortyEight, Full, Shape, row_words, root_base, info_at, keys_at, more_keys_at, index_at, count_at}
-use Rattle.art_schedules.proofs.Common.{Asks, Held, Load, Point, ScanStep, answers-asks, loads-same, seven-words}
-use Rattle.art_stages.specs.declared.stage.Entry.TheVariants.{Below}
-use Rattle.art_stages.specs.declared.stage.ScanStep.TheVariants.{Exchange, Keys, Lock}
+use Rattle.art_schedules.proofs.Common.{Asks, HeldRow, Load, Point, ScanStep, answers-asks, loads-same, seven-words}
+use Rattle.art_control_states.specs.declared.stage.Entry.TheVariants.{Below}
+use Rattle.art_control_states.specs.declared.stage.ScanStep.TheVariants.{Exchange, Keys, Lock}
 use Rattle.art_schedules.proofs.Common.{FirstKeys, SecondKeys, Index, LoadChild, Release, Walk, ScanAt, at, scan_turn, optimistic, OfRows}
 use Rattle.art_schedules.proofs.Common.{KnowsScanRows}
 use Rattle.art_rows.specs.declared.access.Point.TheVariants as point
-use Rattle.art_stages.specs.declared.stage.Entry.TheVariants.{Root}
-use Rattle.art_stages.specs.declared.stage.ScanStep.TheVariants.{Wait, Info, Over}
-use Rattle.art_stages.specs.Scans.{keys_turn}
+use Rattle.art_control_states.specs.declared.stage.Entry.TheVariants.{Root}
+use Rattle.art_control_states.specs.declared.stage.ScanStep.TheVariants.{Wait, Info, Over}
+use Rattle.art_control_states.specs.Scans.{keys_turn}
 use Rattle.art_schedules.proofs.versions.KeyLemmas.{slot-behind}
 
 module _ (s : Shape) (call : Call) (P : OfRows) (root : P (root_base s) Full) where
@@ -31,7 +31,7 @@ module _ (s : Shape) (call : Call) (P : OfRows) (root : P (root_base s) Full) wh
         (arith, high, e);
   }
 
-  keys-known : (kind : Kind) (n : Held) (word : ℕ) (mark : Option Point) → n.kind ≡ kind → P n.base n.kind
+  keys-known : (kind : Kind) (n : HeldRow) (word : ℕ) (mark : Option Point) → n.kind ≡ kind → P n.base n.kind
       → keys_turn kind n ≡ Asks (Load word) mark
       → IsInKnown word
   keys-known Four n word mark k p e = in-row n.base n.kind (keys_at n.base) word p (loads-same e).0 (omega arith)

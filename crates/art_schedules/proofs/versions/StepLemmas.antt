@@ -4,7 +4,7 @@ use Rattle.art_schedules.proofs.Common.{ap, sym, subst, ◌∙◌, inl, inr, ari
 use Rattle.art_schedules.proofs.Common.{None, if◌then◌else◌, append-nil, cases_eq, cases_lt, same_Some, none-some, Call, Get, Insert, Remove}
 use Rattle.art_schedules.proofs.Common.{Scan, Replace, Reply, Shape, Kind, Four, Sixteen, FortyEight, Full, rows_of, claims_of, base_of}
 use Rattle.art_schedules.proofs.Common.{root_base, kind_at, locked_word, claims-few, Optimistic, Access, Load, Point, Turn, Asks, Answers}
-use Rattle.art_schedules.proofs.Common.{Setting, act, word_of, row_begins, IsClaimed, Held, CallAt, OnKey, OnScan, call_turn, call_after}
+use Rattle.art_schedules.proofs.Common.{Setting, act, word_of, row_begins, IsClaimed, HeldRow, CallAt, OnKey, OnScan, call_turn, call_after}
 use Rattle.art_schedules.proofs.Common.{Invokes, Move, Plan, Process, State, Variant, after_all, behind, call_begun, call_next, told}
 use Rattle.art_core.specs.Core.{Makes}
 use Rattle.art_schedules.proofs.Common.{Responds, after_move, move_of, invocation, next_call, move_from, step, is-moved, OfRows, Named, Knows}
@@ -16,15 +16,15 @@ use Rattle.art_schedules.proofs.Common.{KnowsScanRows, setting}
 use Rattle.std.specs.Prelude.{Bool}
 use Rattle.art_rows.specs.declared.access.Access.TheVariants.{Store, Exchange, Add}
 use Rattle.art_rows.proofs.AccessLemmas.{act-stays}
-use Rattle.art_stages.specs.Calls.{begun_as}
+use Rattle.art_control_states.specs.Calls.{begun_as}
 use Rattle.art_core.specs.Core.{moved}
 use Rattle.art_schedules.proofs.versions.KeyLemmas.{key-does}
 use Rattle.art_schedules.proofs.versions.ScanLemmas.{coupled-scan-does, optimistic-scan-does}
 use Rattle.art_schedules.proofs.versions.CoupledLemmas.{coupled-own}
 use Rattle.art_schedules.proofs.versions.OptimisticLemmas.{optimistic-own}
-use Rattle.art_stages.specs.Scans.{no_walk}
-use Rattle.art_stages.specs.declared.stage.Entry.TheVariants.{Root as EntryRoot}
-use Rattle.art_stages.specs.declared.stage.ScanStep.TheVariants as scan
+use Rattle.art_control_states.specs.Scans.{no_walk}
+use Rattle.art_control_states.specs.declared.stage.Entry.TheVariants.{Root as EntryRoot}
+use Rattle.art_control_states.specs.declared.stage.ScanStep.TheVariants as scan
 use Rattle.art_schedules.proofs.versions.ChangeLemmas.{whose, own-call, index-other}
 use Rattle.art_schedules.proofs.versions.MoveLemmas.{settled-row, true-false, no-items, differ}
 use Rattle.art_schedules.proofs.versions.AccessLemmas.{keeps-words, keeps-versions, is-locked, takes, releases}
@@ -91,7 +91,7 @@ module _ (variant : Variant) (shape : Shape) (root : 1 ≤ shape.rows256) (n : �
     abbrev later : Access → Process
     later a = after_move p (Makes a) (now a) q
 
-    has-at : (Q : OfRows) (a : Access) (hs : List Held) (fs : List Named) → Has Q c (call_after c place (told a (now a))) hs fs
+    has-at : (Q : OfRows) (a : Access) (hs : List HeldRow) (fs : List Named) → Has Q c (call_after c place (told a (now a))) hs fs
         → Has Q c (stage_of variant shape call (later a)) hs fs
     has-at Q a hs fs has = subst (λ x. Has Q c x hs fs) (sym (after-more c (call_begun c) q.got (told a (now a)))) has
 

@@ -2,7 +2,7 @@
 use Rattle.art_schedules.proofs.Common.{◌≡◌, ℕ, ◌+◌, ◌%◌, ◌^◌, ◌<◌, ◌≤◌, List, ◌∷◌, length, refl, ap, sym, subst, ◌∙◌, Bool, true, false, inl}
 use Rattle.art_schedules.proofs.Common.{inr, arith, nat_lt, slice_index, slice_set, Option, Some, None, if◌then◌else◌, cases_lt, true≢false}
 use Rattle.art_schedules.proofs.Common.{lt-ltb, le-ltb, Reply, Shape, Kind, Child, Empty, row_words, rows_of, table_words, claims_of, base_of}
-use Rattle.art_schedules.proofs.Common.{kind_at, child_of, claims-few, Add, Point, Asks, Setting, is_scan, load-add, store-add, Held, Hold}
+use Rattle.art_schedules.proofs.Common.{kind_at, child_of, claims-few, Add, Point, Asks, Setting, is_scan, load-add, store-add, HeldRow, Hold}
 use Rattle.art_schedules.proofs.Common.{Refused, Stage, Unlock, rest_in, turn_at, stage_after, CallAt, OnKey, call_turn, call_after, RunsAlone}
 use Rattle.art_schedules.proofs.Common.{row_ends, IsOutside, stored-at, stored-other, stored-long, IsUnused, all_of, Each, IsKept, IsSlot}
 use Rattle.art_schedules.proofs.Common.{HangsIn, IsFull, IsRelease, KnowsKey, RowsOf, Solo, Step, claims, loads, stores}
@@ -63,14 +63,14 @@ outside-fresh s words kind number slot child claim is some = elim (cases_lt slot
 ]
 
 -- a slot of a held row
-pub slot-row : (s : Shape) (l : Bool) (row : Held) (above : Option Held) (slot : ℕ) → HasSlot l (record { row = row; above = above }) slot
+pub slot-row : (s : Shape) (l : Bool) (row : HeldRow) (above : Option HeldRow) (slot : ℕ) → HasSlot l (record { row = row; above = above }) slot
     → Each (IsKept l (RowsOf s)) (row ∷ all_of above) → (base : ℕ) × (kind : Kind) × (kind_at s base ≡ Some kind) × IsSlot base kind slot
 slot-row s false row above slot fits kept = (row.base, row.kind, kept.0.1, fits)
 slot-row s true row above slot (inl fits) kept = (row.base, row.kind, kept.0.1, fits)
 slot-row s true row (Some a) slot (inr fits) kept = (a.base, a.kind, kept.1.0.1, fits)
 slot-row s true row None slot (inr fits) kept = absurd fits
 
-pub hangs-row : (s : Shape) (l : Bool) (above : Option Held) (slot : ℕ) → HangsIn above slot
+pub hangs-row : (s : Shape) (l : Bool) (above : Option HeldRow) (slot : ℕ) → HangsIn above slot
     → Each (IsKept l (RowsOf s)) (all_of above) → (base : ℕ) × (kind : Kind) × (kind_at s base ≡ Some kind) × IsSlot base kind slot
 hangs-row s l None slot fits kept = absurd fits
 hangs-row s l (Some a) slot fits kept = (a.base, a.kind, kept.0.1, fits)

@@ -1,7 +1,7 @@
 -- What the work leaves, whatever its kind is.
 use Rattle.art_schedules.proofs.Common.{◌≡◌, ℕ, ◌≤◌, List, length, false, table_words, Setting, is_scan, Hold, Work, Stage, work_at, OnKey}
 use Rattle.art_schedules.proofs.Common.{Knows, IsFull, Solo, RowsOf, FitsWords, IsRelease, IsWorkDone}
-use Rattle.art_stages.specs.declared.stage.Work.TheVariants as work
+use Rattle.art_control_states.specs.declared.stage.Work.TheVariants as work
 use Rattle.art_schedules.proofs.work.DoneLemmas.{write-done, put-done}
 use Rattle.art_schedules.proofs.work.PairDoneLemmas.{pair-done}
 use Rattle.art_schedules.proofs.work.GrowDoneLemmas.{grow-done}

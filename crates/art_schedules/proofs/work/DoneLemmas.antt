@@ -1,7 +1,7 @@
 -- What is left where a slot was overwritten, and where a byte was put into a row.
 use Rattle.art_schedules.proofs.Common.{◌≡◌, ℕ, zero, suc, ◌+◌, ◌<◌, ◌≤◌, List, length, refl, ap, sym, subst, ◌∙◌, Bool, false, inl, inr, arith}
 use Rattle.art_schedules.proofs.Common.{slice_set, Option, Some, cases_lt, Shape, Kind, Four, Sixteen, FortyEight, Full, row_words, table_words}
-use Rattle.art_schedules.proofs.Common.{kind_at, Rest, ◌>>◌, give, Setting, is_scan, unlock_all, new_leaf, act, stores-same, load-store, Held}
+use Rattle.art_schedules.proofs.Common.{kind_at, Rest, ◌>>◌, give, Setting, is_scan, unlock_all, new_leaf, act, stores-same, load-store, HeldRow}
 use Rattle.art_schedules.proofs.Common.{Keys, Hold, Stage, Write, Unlock, row_at, rows_at, rows_held, held, byte_in, keys_in, count_in}
 use Rattle.art_schedules.proofs.Common.{value_reply, finish, part_of, rest_in, no_value, moves_at, put_at, OnKey, RunsAlone, Comes}
 use Rattle.art_schedules.proofs.Common.{unlocked_rows, same-runs, give-comes, then-comes, unlock_all-comes, row_ends, HasPut, stored-other}
@@ -12,11 +12,11 @@ use Rattle.events.specs.declared.event.Reply.TheVariants as reply
 use Rattle.art_rows.specs.Steps.{store}
 use Rattle.art_rows.specs.Rows.{row_of}
 use Rattle.art_rows.specs.Updates.{put, put_in, make_room}
-use Rattle.art_stages.specs.declared.stage.Work.TheVariants as work
-use Rattle.art_stages.specs.Stages.{ends, work_in, put_moves}
-use Rattle.art_serial.proofs.alone.AloneLemmas.{store-comes}
-use Rattle.art_serial.specs.writes.Writes.{IsBeside}
-use Rattle.art_serial.proofs.writes.PutLemmas.{leaf_put}
+use Rattle.art_control_states.specs.declared.stage.Work.TheVariants as work
+use Rattle.art_control_states.specs.Stages.{ends, work_in, put_moves}
+use Rattle.art_sequential.proofs.alone.AloneLemmas.{store-comes}
+use Rattle.art_sequential.specs.writes.Writes.{IsBeside}
+use Rattle.art_sequential.proofs.writes.PutLemmas.{leaf_put}
 use Rattle.art_schedules.proofs.work.WorkLemmas.{IsPlain, behind-plain, Next, writes, put_leaf, moves-next, holds-next, Acts, Loading, Storing}
 use Rattle.art_schedules.proofs.work.WorkLemmas.{acts}
 use Rattle.art_schedules.proofs.work.GoingLemmas.{IsAlong, going-first, solo-along}
@@ -67,7 +67,7 @@ unfolding part_of
 moves_step c h l i e again keys zero rest = refl
 moves_step c h l i e again keys (suc n) rest = refl
 
-put_step : (c : Setting) (l i e : Bool) (again : Rest) (base : ℕ) (kind : Kind) (info kept : ℕ) (above : Option Held)
+put_step : (c : Setting) (l i e : Bool) (again : Rest) (base : ℕ) (kind : Kind) (info kept : ℕ) (above : Option HeldRow)
     (keys : Keys) (rest : List ℕ)
     → part_of l i e c (put_at kind c (record { row = held base kind info kept; above = above }) keys) again ends rest
     ≡ work_in c kind (row_of base kind info kept) (rows_at above) (work.Put keys) again ends rest

@@ -1,7 +1,7 @@
 -- Work at its first release: what its words are there.
 use Rattle.art_schedules.proofs.Common.{◌≡◌, ℕ, ◌≤◌, List, length, refl, ap, sym, subst, ◌∙◌, Bool, true, false, inl, inr, slice_index}
 use Rattle.art_schedules.proofs.Common.{slice_set, Option, Some, None, none-some, true≢false, Reply, Shape, obsolete_word, Rest, ◌>>◌, give}
-use Rattle.art_schedules.proofs.Common.{Setting, is_scan, locks, unlock_all, act, Held, Hold, Outcome, Value, Refused, Stage, Obsolete, Unlock}
+use Rattle.art_schedules.proofs.Common.{Setting, is_scan, locks, unlock_all, act, HeldRow, Hold, Outcome, Value, Refused, Stage, Obsolete, Unlock}
 use Rattle.art_schedules.proofs.Common.{Over, row_at, rows_at, rows_held, value_reply, reply_for, finish, part_of, rest_in, no_value, OnKey}
 use Rattle.art_schedules.proofs.Common.{RunsAlone, Comes, unlocked_rows, runs-once, give-comes, then-comes, unlock_all-comes, stored-other}
 use Rattle.art_schedules.proofs.Common.{all_of, rows_of_hold, Each, IsKept, KnowsKey, IsFull, RowsOf, IsRelease}
@@ -10,9 +10,9 @@ use Rattle.std.proofs.lemmas.List.{ext_get_or}
 use Rattle.events.specs.declared.event.Reply.TheVariants as reply
 use Rattle.art_rows.specs.Steps.{Part}
 use Rattle.art_rows.specs.Rows.{Row, unlock_obsolete}
-use Rattle.art_stages.specs.Stages.{ends}
-use Rattle.art_serial.specs.alone.Alone as alone
-use Rattle.art_serial.proofs.alone.RowRunLemmas.{unlock_obsolete-comes}
+use Rattle.art_control_states.specs.Stages.{ends}
+use Rattle.art_sequential.specs.alone.Alone as alone
+use Rattle.art_sequential.proofs.alone.RowRunLemmas.{unlock_obsolete-comes}
 use Rattle.art_schedules.proofs.work.WorkLemmas.{IsPlain, plain-or, not-plain, IsEnd, Next, is_release, at-work}
 use Rattle.art_schedules.proofs.work.GoingLemmas.{AreRows, unlocked-plain, IsBehind, Going, IsAlong}
 use Rattle.art_schedules.proofs.work.CallLemmas.{key-same}
@@ -43,7 +43,7 @@ obsolete-runs c h words =
     (finish-comes (rows_at h.above) (slice_set words h.row.base (obsolete_word h.row.kept))))
 
 -- the rows that are held are rows of the table
-above-rows : (s : Shape) (l : Bool) (above : Option Held) → Each (IsKept l (RowsOf s)) (all_of above) → AreRows s (rows_at above)
+above-rows : (s : Shape) (l : Bool) (above : Option HeldRow) → Each (IsKept l (RowsOf s)) (all_of above) → AreRows s (rows_at above)
 above-rows s l None k = tt
 above-rows s l (Some a) k = (k.0.1, tt)
 

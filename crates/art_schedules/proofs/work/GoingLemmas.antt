@@ -3,7 +3,7 @@
 use Rattle.art_schedules.proofs.Common.{◌≡◌, ℕ, ◌≤◌, List, [], ◌∷◌, length, refl, ap, sym, subst, ◌∙◌, Bool, true, false, inl, inr, arith}
 use Rattle.art_schedules.proofs.Common.{slice_index, slice_set, Option, Some, None, get_or_past, cases_eq, cases_lt, Reply, Shape, kind_at}
 use Rattle.art_schedules.proofs.Common.{released_word, Load, Store, Point, Asks, Answers, Setting, is_scan, locks, asks-answers, load-word}
-use Rattle.art_schedules.proofs.Common.{stores-same, load-store, load-add, store-add, Held, Hold, Outcome, Stage, Obsolete, Unlock, Over}
+use Rattle.art_schedules.proofs.Common.{stores-same, load-store, load-add, store-add, HeldRow, Hold, Outcome, Stage, Obsolete, Unlock, Over}
 use Rattle.art_schedules.proofs.Common.{reply_for, rest_in, turn_at, stage_after, hold_alone, release_at, no_value, CallAt, OnKey, call_turn}
 use Rattle.art_schedules.proofs.Common.{call_after, RunsAlone, unlocked_rows, load-same, stored-at, stored-other, stored-long, KnowsKey, IsFull}
 use Rattle.art_schedules.proofs.Common.{Step, loads, stores, claims, Solo, RowsOf}
@@ -67,7 +67,7 @@ unlocked-plain s (n ∷ rows) words word are plain =
 
 -- after the first release
 abbrev pub IsBehind : Hold → Stage → Type 0
-IsBehind h stage = ((a : Held) × (o : Outcome) × (h.above ≡ Some a) × (stage ≡ Unlock (hold_alone a) (Some o)))
+IsBehind h stage = ((a : HeldRow) × (o : Outcome) × (h.above ≡ Some a) × (stage ≡ Unlock (hold_alone a) (Some o)))
     ⊎ ((o : Outcome) × (stage ≡ Over o))
 
 module _ (c : Setting) (full : IsFull c.variant) (some : 1 ≤ c.shape.rows256) (key : is_scan c.call ≡ false) (h : Hold) where
@@ -89,7 +89,7 @@ module _ (c : Setting) (full : IsFull c.variant) (some : 1 ≤ c.shape.rows256) 
       (stage : Stage) × (at ≡ OnKey stage) × (Going b a1 w0 other stage words ⊎ IsBehind h stage)
 
   module _ (b : Bool) (a1 : Stage) (w0 other : List ℕ) where
-    released : (above : Option Held) (o : Outcome) → h.above ≡ above → IsBehind h (release_at (locks c.variant) above (Some o))
+    released : (above : Option HeldRow) (o : Outcome) → h.above ≡ above → IsBehind h (release_at (locks c.variant) above (Some o))
     released None o e = inr (o, refl)
     released (Some a) o e = inl (a, o, e, refl)
 

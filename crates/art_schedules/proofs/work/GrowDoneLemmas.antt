@@ -10,10 +10,10 @@ use Rattle.art_schedules.proofs.Common.{IsRelease, IsDoneBy, IsWorkDone}
 use Rattle.std.specs.Prelude.{◌≢◌}
 use Rattle.events.specs.declared.event.Reply.TheVariants as reply
 use Rattle.art_rows.specs.Updates.{grow}
-use Rattle.art_stages.specs.declared.stage.Work.TheVariants as work
-use Rattle.art_serial.specs.writes.Writes.{HasFresh}
-use Rattle.art_serial.proofs.writes.SameLemmas.{keys-same, count-same, slot-same, child-same, form-same}
-use Rattle.art_serial.proofs.writes.GrowWholeLemmas.{row_grown}
+use Rattle.art_control_states.specs.declared.stage.Work.TheVariants as work
+use Rattle.art_sequential.specs.writes.Writes.{HasFresh}
+use Rattle.art_sequential.proofs.writes.SameLemmas.{keys-same, count-same, slot-same, child-same, form-same}
+use Rattle.art_sequential.proofs.writes.GrowWholeLemmas.{row_grown}
 use Rattle.art_schedules.proofs.work.WorkLemmas.{IsPlain, behind-plain, plain-or, not-plain, Next, grow_info}
 use Rattle.art_schedules.proofs.work.GoingLemmas.{Going}
 use Rattle.art_schedules.proofs.work.EndLemmas.{comes-run, obsolete-end}

@@ -3,23 +3,23 @@
 use Rattle.art_schedules.proofs.Common.{◌≡◌, ℕ, ◌*◌, ◌≤◌, List, [], ◌∷◌, ◌++◌, refl, ap, sym, subst, ◌∙◌, Bool, true, false, inl, inr, arith}
 use Rattle.art_schedules.proofs.Common.{Option, None, false≢true, same_Some, Call, Shape, Kind, Four, Sixteen, FortyEight, Full, kind_at}
 use Rattle.art_schedules.proofs.Common.{info_at, keys_at, more_keys_at, index_at, count_at, child_at, seven-words, key_byte-small, Coupled}
-use Rattle.art_schedules.proofs.Common.{Setting, is_insert, key_of, Held, Position, Down, ScanStep, Stage, Lock, Exchange, Wait, Leave, Between}
+use Rattle.art_schedules.proofs.Common.{Setting, is_insert, key_of, HeldRow, Position, Down, ScanStep, Stage, Lock, Exchange, Wait, Leave, Between}
 use Rattle.art_schedules.proofs.Common.{Info, Find, FindKeys, FindMore, FindCount, Slot, Check, CheckLast, LetGo, Take, setting, held, row_at}
 use Rattle.art_schedules.proofs.Common.{byte_in, Walk, at, CallAt, OnKey, OnScan, lock_of, locks_of, held_at_place, scan_locked, Each, IsKept}
-use Rattle.art_schedules.proofs.Common.{IsAmong, IsBehindVersion, IsHeldWord, Knows, KnowsKey, LoadsHeld, TouchesOwn}
+use Rattle.art_schedules.proofs.Common.{IsAmong, IsAfterVersion, IsHeldWord, Knows, KnowsKey, LoadsHeld, TouchesOwn}
 use Rattle.art_schedules.proofs.versions.KeyLemmas.{slot-behind}
 use Rattle.art_schedules.proofs.versions.KnownLemmas.{among-each}
 use Rattle.art_schedules.proofs.Common.{ReleasesHeld, Replies, is_lock, IsWalked, ReadsHeld, RowsOf}
-use Rattle.art_stages.specs.declared.stage.ScanStep.TheVariants as scan
+use Rattle.art_control_states.specs.declared.stage.ScanStep.TheVariants as scan
 use Rattle.art_schedules.specs.versions.Locking.{held_below}
 use Rattle.art_schedules.specs.versions.Holding.{KnowsScanRows}
 use Rattle.art_schedules.proofs.work.TouchLemmas.{work-own}
 
-pub lock-last : (rows : List Held) (n : Held) → IsAmong (lock_of n) (locks_of (rows ++ n ∷ []))
+pub lock-last : (rows : List HeldRow) (n : HeldRow) → IsAmong (lock_of n) (locks_of (rows ++ n ∷ []))
 lock-last [] n = inl refl
 lock-last (x ∷ rows) n = inr (lock-last rows n)
 
-pub among-lock : (row : Held) (rows : List Held) → IsAmong row rows → IsAmong (lock_of row) (locks_of rows)
+pub among-lock : (row : HeldRow) (rows : List HeldRow) → IsAmong row rows → IsAmong (lock_of row) (locks_of rows)
 among-lock row [] a = a
 among-lock row (x ∷ rows) (inl e) = inl (ap lock_of e)
 among-lock row (x ∷ rows) (inr a) = inr (among-lock row rows a)
@@ -36,7 +36,7 @@ module _ (shape : Shape) (call : Call) (some : 1 ≤ shape.rows256) where
   below-among true d kept = inl refl
   below-among false d kept = inl refl
 
-  find-own : (base : ℕ) (kind : Kind) (info was : ℕ) (above : Option Held) (slot : ℕ)
+  find-own : (base : ℕ) (kind : Kind) (info was : ℕ) (above : Option HeldRow) (slot : ℕ)
       → TouchesOwn c (OnKey (Find (record { row = held base kind info was; above = above; slot = slot })))
   find-own base Four info was above slot =
       let p : Position = record { row = held base Four info was; above = above; slot = slot } in
@@ -92,7 +92,7 @@ module _ (shape : Shape) (call : Call) (some : 1 ≤ shape.rows256) where
   key-own (FindCount p index) k r e = LoadsHeld (count_at FortyEight p.row.base) None refl (record {
     row = lock_of p.row;
     among = place-among (is_insert call) p;
-    behind = subst (λ kind. IsBehindVersion p.row.base kind (count_at FortyEight p.row.base)) (sym r) (omega arith, omega arith);
+    behind = subst (λ kind. IsAfterVersion p.row.base kind (count_at FortyEight p.row.base)) (sym r) (omega arith, omega arith);
   })
   key-own (Slot p slot) k r e = LoadsHeld slot _ refl
       (record { row = lock_of p.row; among = place-among (is_insert call) p; behind = slot-behind p.row.base p.row.kind slot k.fits.1 })
@@ -104,17 +104,17 @@ module _ (shape : Shape) (call : Call) (some : 1 ≤ shape.rows256) where
 
   -- a word of a row that the scan has walked is one of a row that it holds
   module _ (low high : ℕ) (w : Walk) where
-    walked-word : (step : ScanStep) (n : Held) (word : ℕ) → scan_locked step w ≡ w.rows → IsWalked n w.rows
+    walked-word : (step : ScanStep) (n : HeldRow) (word : ℕ) → scan_locked step w ≡ w.rows → IsWalked n w.rows
         → Each (IsKept true (RowsOf shape)) w.rows
-        → RowsOf shape n.base n.kind → IsBehindVersion n.base n.kind word → IsHeldWord c (OnScan low high (at step w)) word
+        → RowsOf shape n.base n.kind → IsAfterVersion n.base n.kind word → IsHeldWord c (OnScan low high (at step w)) word
     walked-word step n word is walked kept known behind =
         let row = among-each (IsKept true (RowsOf shape)) walked.0 w.rows walked.1 kept in
         let kind : walked.0.kind ≡ n.kind = same_Some walked.0.kind n.kind (sym row.1 ∙ (ap (kind_at shape) walked.2 ∙ known)) in
         record {
           row = lock_of walked.0;
           among = subst (λ rows. IsAmong (lock_of walked.0) (locks_of rows)) (sym is) (among-lock walked.0 w.rows walked.1);
-          behind = subst (λ k. IsBehindVersion walked.0.base k word) (sym kind)
-              (subst (λ b. IsBehindVersion b n.kind word) (sym walked.2) behind);
+          behind = subst (λ k. IsAfterVersion walked.0.base k word) (sym kind)
+              (subst (λ b. IsAfterVersion b n.kind word) (sym walked.2) behind);
         }
 
     keys-own : (base : ℕ) (kind : Kind) (info was : ℕ) → KnowsScanRows (RowsOf shape) true (at (scan.Keys (held base kind info was)) w)
@@ -150,7 +150,7 @@ module _ (shape : Shape) (call : Call) (some : 1 ≤ shape.rows256) where
         (omega arith, omega (arith, seven-words n.kind)))
     scan-own (scan.Index n index words) k r e = LoadsHeld (index_at n.base (8 * index)) None refl
         (walked-word (scan.Index n index words) n (index_at n.base (8 * index)) refl r.0 k.kept k.known.0
-        (subst (λ kind. IsBehindVersion n.base kind (index_at n.base (8 * index))) (sym k.fits.0)
+        (subst (λ kind. IsAfterVersion n.base kind (index_at n.base (8 * index))) (sym k.fits.0)
         (omega (arith, k.fits.1), omega (arith, k.fits.1))))
     scan-own (scan.Child f slot) k r e = LoadsHeld slot None refl
         (walked-word (scan.Child f slot) f.row slot refl r.0 k.kept k.fits.0.0 (slot-behind f.row.base f.row.kind slot k.fits.1))

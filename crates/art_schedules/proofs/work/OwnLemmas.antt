@@ -11,10 +11,10 @@ use Rattle.art_schedules.proofs.Common.{grow_leaf_turn, grow_count_turn, store_o
 use Rattle.art_schedules.proofs.Common.{IsSettled, IsSound, Knows, KnowsKey, OfRows, RowsOf, lock_of, stage_of}
 use Rattle.art_schedules.proofs.versions.KnownLemmas.{knows-more}
 use Rattle.art_schedules.proofs.versions.MoveLemmas.{settled-row}
-use Rattle.art_schedules.proofs.Common.{AccessDoes, IsBehindVersion, IsFull, IsHeldWord, is_claim, is_work}
+use Rattle.art_schedules.proofs.Common.{AccessDoes, IsAfterVersion, IsFull, IsHeldWord, is_claim, is_work}
 use Rattle.art_schedules.proofs.versions.KeyLemmas.{slot-behind}
 use Rattle.art_schedules.proofs.versions.StepLemmas.{does}
-use Rattle.art_stages.specs.declared.stage.PairWord.TheVariants as pair_word
+use Rattle.art_control_states.specs.declared.stage.PairWord.TheVariants as pair_word
 use Rattle.art_schedules.proofs.versions.WordFacts.{entry-fits}
 
 -- the stage that is over
@@ -115,7 +115,7 @@ module _ (P : OfRows) (c : Setting) where
   allowed (SpreadIndex g j left) w k = record {
     row = lock_of g.hold.row;
     among = inl refl;
-    behind = subst (λ kind. IsBehindVersion g.hold.row.base kind (index_at g.hold.row.base (8 * j))) (sym k.fits.1)
+    behind = subst (λ kind. IsAfterVersion g.hold.row.base kind (index_at g.hold.row.base (8 * j))) (sym k.fits.1)
         (omega (arith, k.fits.2), omega (arith, k.fits.2));
   }
   allowed (SpreadLoad s i left) w k =
@@ -123,7 +123,7 @@ module _ (P : OfRows) (c : Setting) where
       record {
         row = lock_of s.growing.hold.row;
         among = inl refl;
-        behind = subst (λ kind. IsBehindVersion s.growing.hold.row.base kind word) (sym k.fits.1)
+        behind = subst (λ kind. IsAfterVersion s.growing.hold.row.base kind word) (sym k.fits.1)
             (slot-behind s.growing.hold.row.base FortyEight word (slice_index (entries_of s.word) i - 1, entry-fits s.word i, refl));
       }
   allowed (SpreadStore s i left word) w k = (refl, refl)

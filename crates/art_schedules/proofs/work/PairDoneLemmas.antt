@@ -8,11 +8,11 @@ use Rattle.art_schedules.proofs.Common.{byte_at-small, KnowsKey, IsFull, Solo, R
 use Rattle.std.specs.Prelude.{take}
 use Rattle.events.specs.declared.event.Reply.TheVariants as reply
 use Rattle.art_rows.specs.Updates.{pair_in}
-use Rattle.art_stages.specs.declared.stage.PairWord.TheVariants as pair_word
-use Rattle.art_stages.specs.declared.stage.Work.TheVariants as work
-use Rattle.art_serial.specs.writes.Writes.{HasPair}
-use Rattle.art_serial.proofs.writes.PairLemmas.{pair_is_hung}
-use Rattle.art_serial.proofs.writes.SameLemmas.{child-same, form-same}
+use Rattle.art_control_states.specs.declared.stage.PairWord.TheVariants as pair_word
+use Rattle.art_control_states.specs.declared.stage.Work.TheVariants as work
+use Rattle.art_sequential.specs.writes.Writes.{HasPair}
+use Rattle.art_sequential.proofs.writes.PairLemmas.{pair_is_hung}
+use Rattle.art_sequential.proofs.writes.SameLemmas.{child-same, form-same}
 use Rattle.art_schedules.proofs.work.WorkLemmas.{IsPlain, behind-plain, plain-or, not-plain, Next, pairs}
 use Rattle.art_schedules.proofs.work.GoingLemmas.{Going}
 use Rattle.art_schedules.proofs.work.EndLemmas.{comes-run, finish-comes, none-outcome, unlock-end}

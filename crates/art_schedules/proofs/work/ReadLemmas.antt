@@ -2,7 +2,7 @@
 use Rattle.art_schedules.proofs.Common.{◌≡◌, ℕ, zero, suc, ◌+◌, ◌-◌, refl, Bool, true, false, ◌==◌, nat_lt, if◌then◌else◌, slice_index, Option}
 use Rattle.art_schedules.proofs.Common.{Some, None, Call, Shape, Kind, Four, Sixteen, FortyEight, Full, Empty, ChildRow, Leaf, rows_of, base_of}
 use Rattle.art_schedules.proofs.Common.{child_at, is_locked, is_obsolete, entries_of, child_of, child_word, Coupled, Setting, is_insert, is_full}
-use Rattle.art_schedules.proofs.Common.{key_of, overwriting, new_leaf, next_kind, Held, Keys, Finding, Position, Hold, Work, Target, Root, Below}
+use Rattle.art_schedules.proofs.Common.{key_of, overwriting, new_leaf, next_kind, HeldRow, Keys, Finding, Position, Hold, Work, Target, Root, Below}
 use Rattle.art_schedules.proofs.Common.{Taken, PairWord, Pair, Growing, Spread, Outcome, Down, Stage, Lock, Exchange, Wait, Leave, Between, Info}
 use Rattle.art_schedules.proofs.Common.{Find, FindKeys, FindMore, FindCount, Slot, Check, CheckLast, LetGo, Take, Write, ClaimPair, StorePair}
 use Rattle.art_schedules.proofs.Common.{PutLoad, PutStore, PutLeaf, PutKeys, PutMore, PutCount, ClaimGrow, GrowInfo, GrowLoad, GrowStore}
@@ -12,9 +12,9 @@ use Rattle.art_schedules.proofs.Common.{put_at, work_at, taken_at, pair_work, ov
 use Rattle.art_schedules.proofs.Common.{place_coupled, found_at, checked_at, among_at, keys_one, indexed_at, find_at, arrived_at, entered_at}
 use Rattle.art_schedules.proofs.Common.{below_at, pair_after, put_keys_after, copies_at, spreads_at, entries_at, fill_at, leaf_after}
 use Rattle.art_schedules.proofs.Common.{keys_at_after, after_with, OnKey, ReadsHeld}
-use Rattle.art_stages.specs.declared.stage.Finding.TheVariants as seen
-use Rattle.art_stages.specs.declared.stage.Work.TheVariants as work
-use Rattle.art_stages.specs.declared.stage.PairWord.TheVariants as pair_word
+use Rattle.art_control_states.specs.declared.stage.Finding.TheVariants as seen
+use Rattle.art_control_states.specs.declared.stage.Work.TheVariants as work
+use Rattle.art_control_states.specs.declared.stage.PairWord.TheVariants as pair_word
 
 -- ---- calls on a key
 
@@ -45,15 +45,15 @@ module _ (shape : Shape) (call : Call) where
   work-good h (work.Put keys) = put-good h.row.kind h keys
   work-good h (work.Grow slot keys) = tt
 
-  taken-good : (above below : Option Held) (k : Work) (n : Held) → Good (taken_at c above below k n)
+  taken-good : (above below : Option HeldRow) (k : Work) (n : HeldRow) → Good (taken_at c above below k n)
   taken-good above None k n = work-good (record { row = n; above = above }) k
   taken-good above (Some below) k n = tt
 
-  overwrite-good : (n : Held) (slot value : ℕ) (o : Option ℕ) → Good (overwrite_at n slot value o)
+  overwrite-good : (n : HeldRow) (slot value : ℕ) (o : Option ℕ) → Good (overwrite_at n slot value o)
   overwrite-good n slot value None = tt
   overwrite-good n slot value (Some word) = tt
 
-  seek-good : (n : Held) (f : Finding) → Good (seek_coupled false c n f)
+  seek-good : (n : HeldRow) (f : Finding) → Good (seek_coupled false c n f)
   seek-good n (seen.Lacks keys) = tt
   seek-good n (seen.Has slot Empty) = tt
   seek-good n (seen.Has slot (Leaf key value)) =
@@ -61,7 +61,7 @@ module _ (shape : Shape) (call : Call) where
       (overwrite-good n slot value (overwriting call value)) tt
   seek-good n (seen.Has slot (ChildRow base kind)) = tt
 
-  insert-good : (n : Held) (f : Finding) → Good (insert_coupled c n f)
+  insert-good : (n : HeldRow) (f : Finding) → Good (insert_coupled c n f)
   insert-good n (seen.Lacks keys) = put-good n.kind (hold_alone n) keys
   insert-good n (seen.Has slot Empty) = tt
   insert-good n (seen.Has slot (Leaf key value)) =
@@ -69,7 +69,7 @@ module _ (shape : Shape) (call : Call) where
       (pair_work c slot key value)) tt tt
   insert-good n (seen.Has slot (ChildRow base kind)) = tt
 
-  let_go-good : (n : Held) (above : Option Held) (slot : ℕ) (f : Finding) → Good (let_go_at c n above slot f)
+  let_go-good : (n : HeldRow) (above : Option HeldRow) (slot : ℕ) (f : Finding) → Good (let_go_at c n above slot f)
   let_go-good n None slot f = insert-good n f
   let_go-good n (Some above) slot f = tt
 
@@ -109,7 +109,7 @@ module _ (shape : Shape) (call : Call) where
   entered-good i (Below d) v = arrived-good i d v
   entered-good i (Taken t) v = taken-good t.held t.below t.work (held t.row.base t.row.kind t.row.info v)
 
-  below-good : (i : Bool) (d : Down) (m : Held) (o : Option ℕ) → Good (below_at true i c d m o)
+  below-good : (i : Bool) (d : Down) (m : HeldRow) (o : Option ℕ) → Good (below_at true i c d m o)
   below-good i d m None = tt
   below-good true d m (Some x) = tt
   below-good false d m (Some x) = tt
@@ -124,7 +124,7 @@ module _ (shape : Shape) (call : Call) where
   end-good None = tt
   end-good (Some o) = tt
 
-  release-good : (above : Option Held) (o : Option Outcome) → Good (release_at true above o)
+  release-good : (above : Option HeldRow) (o : Option Outcome) → Good (release_at true above o)
   release-good None o = end-good o
   release-good (Some n) o = tt
 

@@ -2,8 +2,8 @@
 use Rattle.art_schedules.proofs.Common.{◌≡◌, ℕ, List, [], ◌∷◌, ap, sym, subst, ◌∙◌, Option, Reply, Access, Point, Rest, Asks, Setting, asks-same}
 use Rattle.art_schedules.proofs.Common.{asks-answers, CallAt, OnKey, OnScan, rest_at, call_turn, call_after, call_next, got_by, words_after}
 use Rattle.art_schedules.proofs.Common.{RunsAlone, ends, goes, same-runs, Step, Solo, here, further, Suits}
-use Rattle.art_stages.proofs.StepLemmas.{goes_on}
-use Rattle.art_stages.proofs.ScanLemmas.{scan_goes_on}
+use Rattle.art_control_states.proofs.StepLemmas.{goes_on}
+use Rattle.art_control_states.proofs.ScanLemmas.{scan_goes_on}
 
 -- ---- one step
 

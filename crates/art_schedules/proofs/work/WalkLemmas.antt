@@ -2,17 +2,17 @@
 use Rattle.art_schedules.proofs.Common.{◌≡◌, ℕ, zero, suc, ◌+◌, List, [], ◌∷◌, ◌++◌, refl, Bool, true, false, inl, inr, ◌==◌, filter, Option}
 use Rattle.art_schedules.proofs.Common.{Some, None, if◌then◌else◌, Call, Get, Insert, Remove, Scan, Replace, Shape, Kind, Four, Sixteen}
 use Rattle.art_schedules.proofs.Common.{FortyEight, Full, Child, Empty, ChildRow, Leaf, root_base, child_at, is_locked, is_obsolete, place_of}
-use Rattle.art_schedules.proofs.Common.{child_of, Coupled, Setting, is_insert, bytes_of, with_leaf, has_row, Held, Entry, Frame, ScanStep}
+use Rattle.art_schedules.proofs.Common.{child_of, Coupled, Setting, is_insert, bytes_of, with_leaf, has_row, HeldRow, Entry, Frame, ScanStep}
 use Rattle.art_schedules.proofs.Common.{FirstKeys, SecondKeys, Index, LoadChild, Release, setting, row_at, held, keys_among, keys_one, Walk}
 use Rattle.art_schedules.proofs.Common.{ScanAt, at, walked, on_way, lies, in_word, frame_of, keys16, release_rows, slot_at, bytes_at}
 use Rattle.art_schedules.proofs.Common.{index_at_list, words_at, place_slot, child_from, word_test, frame_at, way_at, resume_at, with_frame}
 use Rattle.art_schedules.proofs.Common.{visit_list, visit_at, entry_at, child_after, keys_after_word, scan_start, step_after, CallAt, OnKey}
-use Rattle.art_schedules.proofs.Common.{OnScan, call_after, begun_as, call_begun, after_all, call_behind, Each, IsAmong, IsWalked, ReadsWalked}
+use Rattle.art_schedules.proofs.Common.{OnScan, call_after, begun_as, call_begun, after_all, call_after_words, Each, IsAmong, IsWalked, ReadsWalked}
 use Rattle.art_schedules.proofs.Common.{ReadsHeld}
 use Rattle.std.proofs.Common.{map}
-use Rattle.art_stages.specs.declared.stage.Entry.TheVariants.{Root, Below}
-use Rattle.art_stages.specs.declared.stage.ScanStep.TheVariants.{Lock, Exchange, Wait, Info, Keys, Over}
-use Rattle.art_stages.specs.Scans.{entry_slot, row_begins}
+use Rattle.art_control_states.specs.declared.stage.Entry.TheVariants.{Root, Below}
+use Rattle.art_control_states.specs.declared.stage.ScanStep.TheVariants.{Lock, Exchange, Wait, Info, Keys, Over}
+use Rattle.art_control_states.specs.Scans.{entry_slot, row_begins}
 use Rattle.art_schedules.proofs.versions.KeyLemmas.{each-weaker}
 use Rattle.art_schedules.proofs.versions.KnownLemmas.{among-last, found-row}
 use Rattle.art_schedules.proofs.work.ReadLemmas.{key-reads}
@@ -27,7 +27,7 @@ pick : (b : Bool) (x y : ScanAt) → Good x → Good y → Good (if b then x els
 pick true x y g h = g
 pick false x y g h = h
 
-among-more : (row n : Held) (rows : List Held) → IsAmong row rows → IsAmong row (rows ++ n ∷ [])
+among-more : (row n : HeldRow) (rows : List HeldRow) → IsAmong row rows → IsAmong row (rows ++ n ∷ [])
 among-more row n [] a = absurd a
 among-more row n (x ∷ rows) (inl e) = inl e
 among-more row n (x ∷ rows) (inr a) = inr (among-more row n rows a)
@@ -51,12 +51,12 @@ module _ (shape : Shape) (call : Call) (lo hi : ℕ) where
       (bytes_at test slot_of (child_from w f) (x + 1) n other)
       (slot-good w f (x + 1) n (slot_of x) (bytes_at test slot_of (child_from w f) (x + 1) n other) here ways later) later
 
-  list-good : (n : Held) (w : Walk) (j m : ℕ) (xs : List ℕ) (other : ScanAt) → IsWalked n w.rows → Ways w → Good other
+  list-good : (n : HeldRow) (w : Walk) (j m : ℕ) (xs : List ℕ) (other : ScanAt) → IsWalked n w.rows → Ways w → Good other
       → Good (index_at_list n w j m xs other)
   list-good n w j m [] other here ways rest = rest
   list-good n w j m (x ∷ xs) other here ways rest = (here, ways)
 
-  words-good : (n : Held) (w : Walk) (j m : ℕ) (other : ScanAt) → IsWalked n w.rows → Ways w → Good other
+  words-good : (n : HeldRow) (w : Walk) (j m : ℕ) (other : ScanAt) → IsWalked n w.rows → Ways w → Good other
       → Good (words_at lo hi n w j m other)
   words-good n w j zero other here ways rest = rest
   words-good n w j (suc m) other here ways rest =
@@ -77,7 +77,7 @@ module _ (shape : Shape) (call : Call) (lo hi : ℕ) where
   frame-good Full w f other here ways rest =
       bytes-good (lies lo hi f) (λ x. Some (child_at Full f.row.base x)) w f f.byte f.left other here ways rest
 
-  released : (rows : List Held) (pairs : List (ℕ × ℕ)) → Good (release_rows rows pairs)
+  released : (rows : List HeldRow) (pairs : List (ℕ × ℕ)) → Good (release_rows rows pairs)
   released [] pairs = (tt, tt)
   released (n ∷ rows) pairs = (tt, tt)
 
@@ -88,17 +88,17 @@ module _ (shape : Shape) (call : Call) (lo hi : ℕ) where
   resume-good : (w : Walk) → Ways w → Good (resume_at c lo hi w)
   resume-good w ways = way-good w w.way ways
 
-  begins-good : (kind : Kind) (n : Held) (w : Walk) → IsWalked n w.rows → Ways w → Good (row_begins kind c lo hi n w)
+  begins-good : (kind : Kind) (n : HeldRow) (w : Walk) → IsWalked n w.rows → Ways w → Good (row_begins kind c lo hi n w)
   begins-good Four n w here ways = (here, ways)
   begins-good Sixteen n w here ways = (here, ways)
   begins-good FortyEight n w here ways = words-good n w 0 32 (resume_at c lo hi w) here ways (resume-good w ways)
   begins-good Full n w here ways = frame-good Full w (frame_of n (keys_one 0) 0 0) (resume_at c lo hi w) here ways (resume-good w ways)
 
-  listed-good : (n : Held) (w : Walk) (xs : List ℕ) → IsWalked n w.rows → Ways w → Good (visit_list c lo hi n w xs)
+  listed-good : (n : HeldRow) (w : Walk) (xs : List ℕ) → IsWalked n w.rows → Ways w → Good (visit_list c lo hi n w xs)
   listed-good n w [] here ways = resume-good w ways
   listed-good n w (x ∷ xs) here ways = begins-good n.kind n w here ways
 
-  visit-good : (n : Held) (w : Walk) → Ways w → Good (visit_at c lo hi n w)
+  visit-good : (n : HeldRow) (w : Walk) → Ways w → Good (visit_at c lo hi n w)
   visit-good n w ways = go (has_row n.base (map row_at w.rows)) refl
     where
       more : Walk
@@ -121,7 +121,7 @@ module _ (shape : Shape) (call : Call) (lo hi : ℕ) where
       resume-good (record { rows = w.rows; pairs = (with_leaf lo hi key value (walked w)).pairs; way = w.way }) ways
   child-good w (ChildRow base kind) ways = (tt, ways)
 
-  keys-good : (kind : Kind) (n : Held) (w : Walk) (word : ℕ) → IsWalked n w.rows → Ways w → Good (keys_after_word kind c lo hi n w word)
+  keys-good : (kind : Kind) (n : HeldRow) (w : Walk) (word : ℕ) → IsWalked n w.rows → Ways w → Good (keys_after_word kind c lo hi n w word)
   keys-good Four n w word here ways = resume-good (with_frame w (frame_of n (keys_one word) 0 0)) (here, ways)
   keys-good Sixteen n w word here ways = (here, ways)
   keys-good FortyEight n w word here ways = resume-good (with_frame w (frame_of n (keys_one word) 0 0)) (here, ways)
@@ -162,5 +162,5 @@ module _ (shape : Shape) (call : Call) where
   begun-reads (Scan low high) = (tt, tt)
   begun-reads (Replace k old new) = tt
 
-  pub reads-held : (got : List ℕ) → ReadsHeld (call_behind own got)
+  pub reads-held : (got : List ℕ) → ReadsHeld (call_after_words own got)
   reads-held got = reads-all (call_begun own) got (begun-reads call)

@@ -2,18 +2,18 @@
 use Rattle.art_schedules.proofs.Common.{◌≡◌, ℕ, zero, suc, ◌+◌, ◌<◌, ◌≤◌, List, [], ◌∷◌, length, refl, ap, sym, subst, ◌∙◌, Bool, true, false}
 use Rattle.art_schedules.proofs.Common.{inl, inr, arith, ◌==◌, slice_index, Option, Some, None, if◌then◌else◌, none-some, cases_lt, true≢false}
 use Rattle.art_schedules.proofs.Common.{Shape, Kind, Four, Sixteen, FortyEight, Full, Child, Empty, ChildRow, Leaf, kind_at, entries_of}
-use Rattle.art_schedules.proofs.Common.{child_of, two-words, Load, Store, Point, Asks, Setting, locks, Held, Keys, Hold, Pair, PairWord, Growing}
+use Rattle.art_schedules.proofs.Common.{child_of, two-words, Load, Store, Point, Asks, Setting, locks, HeldRow, Keys, Hold, Pair, PairWord, Growing}
 use Rattle.art_schedules.proofs.Common.{Spread, Outcome, Value, Stage, Write, StorePair, PutLoad, PutStore, PutLeaf, PutKeys, PutMore, PutCount}
 use Rattle.art_schedules.proofs.Common.{GrowInfo, GrowLoad, GrowStore, SpreadIndex, SpreadLoad, SpreadStore, GrowLeaf, GrowKeys, GrowCount, Hang}
 use Rattle.art_schedules.proofs.Common.{Obsolete, Unlock, no_value, turn_at, stage_after, moves_at, pair_after, put_keys_after, copies_at}
 use Rattle.art_schedules.proofs.Common.{spreads_at, entries_at, fill_at, leaf_after, keys_at_after, OnKey, IsStored, row_begins, rows_apart}
 use Rattle.art_schedules.proofs.Common.{child_of-stored, locks_of, rows_of_hold, Each, IsNamed, KnowsKey, child_rows, holds, IsGoodAt, IsWith}
-use Rattle.art_schedules.proofs.Common.{AccessDoes, Answered, Claims, Ends, IsBehindVersion, IsFull, Reads, Releases, Takes, Writes}
+use Rattle.art_schedules.proofs.Common.{AccessDoes, Answered, Claims, Ends, IsAfterVersion, IsFull, Reads, Releases, Takes, Writes}
 use Rattle.art_schedules.proofs.versions.KnownLemmas.{knows-more}
 use Rattle.art_schedules.proofs.Common.{IsHeldWord, RowsOf, is_claim, is_work}
 use Rattle.art_schedules.proofs.versions.KnownLemmas.{held-is-kept}
 use Rattle.std.specs.Prelude.{◌≢◌, ◌⊎◌}
-use Rattle.art_stages.specs.declared.stage.PairWord.TheVariants as pair_word
+use Rattle.art_control_states.specs.declared.stage.PairWord.TheVariants as pair_word
 use Rattle.art_schedules.specs.versions.Holding.{HasPlace}
 use Rattle.art_schedules.specs.versions.Effects.{With, Fills}
 use Rattle.art_schedules.proofs.work.OwnLemmas.{IsAllowed, allowed, is_over, rows-do}
@@ -25,7 +25,7 @@ pub record IsPlain (s : Shape) (word : ℕ) : Type 0 where
   pub behind : 5 ≤ word
   pub bare : (base : ℕ) (kind : Kind) → kind_at s base ≡ Some kind → word ≢ base
 
-pub behind-plain : (s : Shape) (b : ℕ) (k : Kind) (word : ℕ) → kind_at s b ≡ Some k → IsBehindVersion b k word → IsPlain s word
+pub behind-plain : (s : Shape) (b : ℕ) (k : Kind) (word : ℕ) → kind_at s b ≡ Some k → IsAfterVersion b k word → IsPlain s word
 behind-plain s b k word row at = record {
   behind = omega (arith, row_begins s b k row, at.0);
   bare = λ base kind e is.
@@ -216,7 +216,7 @@ stored-rows s (Leaf key value) h = tt
 pub all-good : (s : Shape) (word value : ℕ) → IsGoodAt (RowsOf s) s word value
 all-good s word value base kind e slot = stored-rows s (child_of s value) (child_of-stored s value)
 
-pub with-length : (x : Held) (rest all : List Held) → IsWith x rest all → length all ≡ length rest + 1
+pub with-length : (x : HeldRow) (rest all : List HeldRow) → IsWith x rest all → length all ≡ length rest + 1
 with-length x rest [] w = absurd w
 with-length x rest (y ∷ all) (inl e) = omega (arith, ap length e.1)
 with-length x rest (y ∷ all) (inr w) = omega (arith, ap length w.1, with-length x w.0 all w.2)

@@ -14,7 +14,7 @@ use Rattle.art_rows.specs.Steps.{numbers}
 use Rattle.art_core.specs.declared.process.Process.{Process}
 use Rattle.art_core.specs.Core.{Plan, State, opened_on, step}
 use Rattle.art_core.specs.Meaning.{Reached, AllUnlocked}
-use Rattle.art_serial.specs.trees.Trees.{AreZeroPastClaims}
+use Rattle.art_sequential.specs.trees.Trees.{AreZeroPastClaims}
 use Rattle.art_schedules.specs.versions.Effects.{IsGoodAt}
 use Rattle.art_schedules.specs.versions.Versions.{IsOpen, filled_by, IsSettled, EachHeld}
 use Rattle.art_schedules.specs.versions.Steady.{SameWords}
@@ -43,15 +43,15 @@ calm_after shape calm later =
     map (λ word. if is_of_busy_row shape later word then slice_index calm word else slice_index later word) (numbers 0 (length later))
 
 -- calm after a step that gives this state
-abbrev pub calm_behind : Shape → List ℕ → Option State → List ℕ
-calm_behind shape calm None = calm
-calm_behind shape calm (Some s) = calm_after shape calm s.words
+abbrev pub calm_after_step : Shape → List ℕ → Option State → List ℕ
+calm_after_step shape calm None = calm
+calm_after_step shape calm (Some s) = calm_after shape calm s.words
 
 -- calm after each step of a schedule
 abbrev pub calm_on : Plan → Option State → List ℕ → List ℕ → List ℕ
 calm_on plan None calm schedule = calm
 calm_on plan (Some s) calm [] = calm
-calm_on plan (Some s) calm (p ∷ schedule) = calm_on plan (step plan s p) (calm_behind plan.shape calm (step plan s p)) schedule
+calm_on plan (Some s) calm (p ∷ schedule) = calm_on plan (step plan s p) (calm_after_step plan.shape calm (step plan s p)) schedule
 
 -- Calm after a schedule: before the first step it is the words themselves.
 unfoldable pub calm_of : Plan → List ℕ → List ℕ → List ℕ

@@ -12,15 +12,15 @@ use Rattle.art_rows.specs.declared.access.Access.TheVariants.{Store, Exchange}
 use Rattle.art_rows.specs.declared.access.Point.{Point}
 use Rattle.art_rows.specs.Steps.{Asks}
 use Rattle.art_rows.specs.Rows.{locks}
-use Rattle.art_stages.specs.declared.stage.Held.{Held}
-use Rattle.art_stages.specs.Calls.{call_turn}
-use Rattle.art_stages.specs.Stages.{setting}
+use Rattle.art_control_states.specs.declared.stage.HeldRow.{HeldRow}
+use Rattle.art_control_states.specs.Calls.{call_turn}
+use Rattle.art_control_states.specs.Stages.{setting}
 use Rattle.art_core.specs.declared.process.Process.{Process}
 use Rattle.art_core.specs.Core.{State, Plan, step}
 use Rattle.art_core.specs.Plans.{IsRun}
-use Rattle.art_serial.specs.writes.Writes.{IsOutside}
+use Rattle.art_sequential.specs.writes.Writes.{IsOutside}
 use Rattle.art_schedules.specs.versions.Holding.{IsKept}
-use Rattle.art_schedules.specs.versions.Effects.{IsAmong, IsWith, IsBehindVersion}
+use Rattle.art_schedules.specs.versions.Effects.{IsAmong, IsWith, IsAfterVersion}
 use Rattle.art_schedules.specs.versions.Versions.{IsOpen, IsHeld, stage_of, held_by, filled_by, IsSettled}
 use Rattle.art_schedules.specs.versions.Steady.{SameWords}
 use Rattle.art_schedules.specs.versions.Laws.{IsFull}
@@ -46,7 +46,7 @@ pub record AsksFor (variant : Variant) (shape : Shape) (s : State) (p : ℕ) (a 
   pub turn : call_turn (setting shape variant call) (stage_of variant shape call process) ≡ Asks a mark
 
 -- The process is in this call after the step too, and then holds these rows.
-pub record HoldsThen (variant : Variant) (shape : Shape) (later : State) (p : ℕ) (call : Call) (rows : List Held) : Type 0 where
+pub record HoldsThen (variant : Variant) (shape : Shape) (later : State) (p : ℕ) (call : Call) (rows : List HeldRow) : Type 0 where
   pub process : Process
   pub is_open : IsOpen later p call process
   pub holds : held_by variant shape call process ≡ rows
@@ -56,19 +56,19 @@ pub record HoldsThen (variant : Variant) (shape : Shape) (later : State) (p : �
 -- row; or that by which it releases one.
 pub data RowChange (variant : Variant) (shape : Shape) (s : State) (p : ℕ) (later : State) : Type 0 where
   RowsStay : ((word : ℕ) → 5 ≤ word → slice_index later.words word ≡ slice_index s.words word) → RowChange variant shape s p later
-  RowWritten : (word value : ℕ) → (asks : AsksFor variant shape s p (Store word value)) → (h : Held)
+  RowWritten : (word value : ℕ) → (asks : AsksFor variant shape s p (Store word value)) → (h : HeldRow)
       → IsAmong h (held_by variant shape asks.call asks.process) → IsKept (locks variant) (IsSettled variant shape s) h
-      → IsBehindVersion h.base h.kind word
+      → IsAfterVersion h.base h.kind word
       → slice_index later.words word ≡ value → ChangesOnly s later word → RowChange variant shape s p later
   RowFilled : (word value : ℕ) → (asks : AsksFor variant shape s p (Store word value)) → (base : ℕ) → (kind : Kind)
-      → filled_by variant shape asks.call asks.process ≡ (base, kind) ∷ [] → kind_at shape base ≡ Some kind → IsBehindVersion base kind word
+      → filled_by variant shape asks.call asks.process ≡ (base, kind) ∷ [] → kind_at shape base ≡ Some kind → IsAfterVersion base kind word
       → slice_index later.words word ≡ value → ChangesOnly s later word → RowChange variant shape s p later
-  RowTaken : (h : Held) → (asks : AsksFor variant shape s p (Exchange h.base h.kept (locked_word h.kept))) → (rows : List Held)
+  RowTaken : (h : HeldRow) → (asks : AsksFor variant shape s p (Exchange h.base h.kept (locked_word h.kept))) → (rows : List HeldRow)
       → IsWith h (held_by variant shape asks.call asks.process) rows → HoldsThen variant shape later p asks.call rows
       → IsKept (locks variant) (IsSettled variant shape s) h → slice_index s.words h.base ≡ h.kept
       → slice_index later.words h.base ≡ h.kept + 2
       → ChangesOnly s later h.base → RowChange variant shape s p later
-  RowReleased : (h : Held) → (value : ℕ) → (asks : AsksFor variant shape s p (Store h.base value)) → (rest : List Held)
+  RowReleased : (h : HeldRow) → (value : ℕ) → (asks : AsksFor variant shape s p (Store h.base value)) → (rest : List HeldRow)
       → IsWith h rest (held_by variant shape asks.call asks.process) → HoldsThen variant shape later p asks.call rest
       → IsKept (locks variant) (IsSettled variant shape s) h → (value ≡ released_word h.kept) ⊎ (value ≡ obsolete_word h.kept)
       → slice_index later.words h.base ≡ value → ChangesOnly s later h.base → RowChange variant shape s p later
@@ -79,10 +79,10 @@ pub data RowChange (variant : Variant) (shape : Shape) (s : State) (p : ℕ) (la
 pub data CalmChange (variant : Variant) (shape : Shape) (s : State) (p : ℕ) (later : State) (calm after : List ℕ) : Type 0 where
   CalmStays : ((word : ℕ) → 5 ≤ word → slice_index after word ≡ slice_index calm word) → CalmChange variant shape s p later calm after
   CalmFilled : (word value : ℕ) → (asks : AsksFor variant shape s p (Store word value)) → (base : ℕ) → (kind : Kind)
-      → filled_by variant shape asks.call asks.process ≡ (base, kind) ∷ [] → IsBehindVersion base kind word → slice_index after word ≡ value
+      → filled_by variant shape asks.call asks.process ≡ (base, kind) ∷ [] → IsAfterVersion base kind word → slice_index after word ≡ value
       → ((other : ℕ) → 5 ≤ other → other ≢ word → slice_index after other ≡ slice_index calm other)
       → CalmChange variant shape s p later calm after
-  CalmReleased : (h : Held) → (asks : AsksFor variant shape s p (Store h.base (released_word h.kept))) → (rest : List Held)
+  CalmReleased : (h : HeldRow) → (asks : AsksFor variant shape s p (Store h.base (released_word h.kept))) → (rest : List HeldRow)
       → IsWith h rest (held_by variant shape asks.call asks.process) → HoldsThen variant shape later p asks.call rest
       → IsKept (locks variant) (IsSettled variant shape s) h → is_obsolete h.kept ≡ false → SameWords later.words after h.base h.kind
       → ((other : ℕ) → 5 ≤ other → IsOutside h.base h.kind other → slice_index after other ≡ slice_index calm other)

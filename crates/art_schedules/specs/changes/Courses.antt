@@ -4,8 +4,8 @@ use Rattle.map_object.specs.MapObject.{Contents}
 use Rattle.art_rows.specs.declared.table.Shape.{Shape}
 use Rattle.art_rows.specs.declared.table.Kind.{Kind}
 use Rattle.art_rows.specs.Words.{is_obsolete}
-use Rattle.art_stages.specs.declared.stage.Held.{Held}
-use Rattle.art_serial.specs.trees.Trees.{SameRow}
+use Rattle.art_control_states.specs.declared.stage.HeldRow.{HeldRow}
+use Rattle.art_sequential.specs.trees.Trees.{SameRow}
 use Rattle.art_schedules.specs.changes.Effects.{Effect, IsGone, ComesIn, pairs_after}
 use Rattle.art_schedules.specs.changes.Follows.{Follows}
 
@@ -32,7 +32,7 @@ pub record TreeGoesOn (s : Shape) (words calm later : List ℕ) (m : Contents) (
 
 -- After its version the calm words of the row stay, and its words, and the row does not leave the
 -- calm tree.
-pub record IsStill (calm words after later : List ℕ) (effect : Option Effect) (n : Held) : Type 0 where
+pub record IsStill (calm words after later : List ℕ) (effect : Option Effect) (n : HeldRow) : Type 0 where
   pub row : SameRow calm after n.base n.kind
   pub same : SameRow words later n.base n.kind
   pub stays : IsGoneBy effect n.base → ⊥

@@ -8,12 +8,12 @@ use Rattle.art_rows.specs.declared.access.Access.TheVariants.{Load, Exchange as 
 use Rattle.art_rows.specs.declared.access.Point.{Point}
 use Rattle.art_rows.specs.Steps.{Asks}
 use Rattle.art_rows.specs.Rows.{Setting}
-use Rattle.art_stages.specs.declared.stage.Hold.{Hold}
-use Rattle.art_stages.specs.declared.stage.Work.{Work}
-use Rattle.art_stages.specs.declared.stage.Stage.{Stage}
-use Rattle.art_stages.specs.Automaton.{turn_at, work_at}
+use Rattle.art_control_states.specs.declared.stage.Hold.{Hold}
+use Rattle.art_control_states.specs.declared.stage.Work.{Work}
+use Rattle.art_control_states.specs.declared.stage.Stage.{Stage}
+use Rattle.art_control_states.specs.Automaton.{turn_at, work_at}
 use Rattle.art_core.specs.Meaning.{Reached}
-use Rattle.art_serial.specs.trees.Trees.{SameRow}
+use Rattle.art_sequential.specs.trees.Trees.{SameRow}
 use Rattle.art_schedules.specs.versions.Holding.{Each}
 use Rattle.art_schedules.specs.versions.Locking.{rows_of_hold}
 use Rattle.art_schedules.specs.coupled.Knows.{KnowsWay, IsHeldLive}

@@ -9,11 +9,11 @@ use Rattle.art_rows.specs.Words.{locked_word}
 use Rattle.art_rows.specs.declared.variant.Variant.TheVariants.{Coupled}
 use Rattle.art_rows.specs.declared.access.Access.TheVariants.{Exchange as Swap}
 use Rattle.art_rows.specs.Steps.{Answers}
-use Rattle.art_stages.specs.declared.stage.Held.{Held}
-use Rattle.art_stages.specs.declared.stage.Stage.{Stage}
-use Rattle.art_stages.specs.Stages.{setting}
-use Rattle.art_stages.specs.Automaton.{turn_at}
-use Rattle.art_stages.specs.Calls.{OnKey}
+use Rattle.art_control_states.specs.declared.stage.HeldRow.{HeldRow}
+use Rattle.art_control_states.specs.declared.stage.Stage.{Stage}
+use Rattle.art_control_states.specs.Stages.{setting}
+use Rattle.art_control_states.specs.Automaton.{turn_at}
+use Rattle.art_control_states.specs.Calls.{OnKey}
 use Rattle.art_core.specs.declared.process.Process.{Process}
 use Rattle.art_core.specs.Core.{Plan, State}
 use Rattle.art_core.specs.Meaning.{Reached}
@@ -36,7 +36,7 @@ GoodOf shape s p calm = EachHeld Coupled shape s p (IsInTree shape calm)
 
 -- a row that the process takes in its step is one of the calm tree
 abbrev pub TakesReached : Shape → State → ℕ → List ℕ → Type 0
-TakesReached shape s p calm = (h : Held) → AsksFor Coupled shape s p (Swap h.base h.kept (locked_word h.kept))
+TakesReached shape s p calm = (h : HeldRow) → AsksFor Coupled shape s p (Swap h.base h.kept (locked_word h.kept))
     → slice_index s.words h.base ≡ h.kept
     → (kind : Kind) × Reached shape calm h.base kind
 

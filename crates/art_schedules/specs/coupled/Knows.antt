@@ -7,26 +7,26 @@ use Rattle.art_rows.specs.declared.table.Child.TheVariants.{Row as ChildRow}
 use Rattle.art_rows.specs.Table.{keys_at, index_at, count_at}
 use Rattle.art_rows.specs.Words.{is_obsolete, key_bytes, first_difference}
 use Rattle.art_rows.specs.Rows.{Setting, key_of, is_insert}
-use Rattle.art_stages.specs.declared.stage.Held.{Held}
-use Rattle.art_stages.specs.declared.stage.Position.{Position}
-use Rattle.art_stages.specs.declared.stage.Down.{Down}
-use Rattle.art_stages.specs.declared.stage.Target.{Target}
-use Rattle.art_stages.specs.declared.stage.Target.TheVariants.{Root, Below, Taken}
-use Rattle.art_stages.specs.declared.stage.Outcome.{Outcome}
-use Rattle.art_stages.specs.declared.stage.Stage.{Stage}
-use Rattle.art_stages.specs.declared.stage.Stage.TheVariants.{Lock, Exchange, Between, Info, Find, FindKeys, FindMore, FindCount, Slot}
-use Rattle.art_stages.specs.declared.stage.Stage.TheVariants.{LetGo, Unlock, Over}
-use Rattle.art_stages.specs.Stages.{byte_in, reply_for}
+use Rattle.art_control_states.specs.declared.stage.HeldRow.{HeldRow}
+use Rattle.art_control_states.specs.declared.stage.Position.{Position}
+use Rattle.art_control_states.specs.declared.stage.Down.{Down}
+use Rattle.art_control_states.specs.declared.stage.Target.{Target}
+use Rattle.art_control_states.specs.declared.stage.Target.TheVariants.{Root, Below, Taken}
+use Rattle.art_control_states.specs.declared.stage.Outcome.{Outcome}
+use Rattle.art_control_states.specs.declared.stage.Stage.{Stage}
+use Rattle.art_control_states.specs.declared.stage.Stage.TheVariants.{Lock, Exchange, Between, Info, Find, FindKeys, FindMore, FindCount, Slot}
+use Rattle.art_control_states.specs.declared.stage.Stage.TheVariants.{LetGo, Unlock, Over}
+use Rattle.art_control_states.specs.Stages.{byte_in, reply_for}
 use Rattle.art_core.specs.Meaning.{Reached}
 use Rattle.art_core.specs.Forms.{level_in, path_in}
-use Rattle.art_serial.specs.trees.Trees.{LeadsTo}
+use Rattle.art_sequential.specs.trees.Trees.{LeadsTo}
 use Rattle.art_schedules.specs.versions.Holding.{Each}
 use Rattle.art_schedules.specs.versions.Locking.{held_at_stage}
 use Rattle.art_schedules.specs.work.Ways.{slot_in, KnowsFinding, IsOnWay, IsSame, HangsOnWay}
 
 -- A row that the call holds and has not written to: after its version the words are the calm ones,
 -- and it was not obsolete when it was locked.
-pub record IsHeldLive (calm words : List ℕ) (n : Held) : Type 0 where
+pub record IsHeldLive (calm words : List ℕ) (n : HeldRow) : Type 0 where
   pub same : IsSame calm words n
   pub live : is_obsolete n.kept ≡ false
 
@@ -40,7 +40,7 @@ KnowsTarget c calm (Below d) = IsBelow c calm d
 KnowsTarget c calm (Taken t) = ⊥
 
 -- the row hangs on the key's byte of the row above, if there is one
-abbrev pub HangsBelow : Setting → List ℕ → Held → ℕ → Option Held → Type 0
+abbrev pub HangsBelow : Setting → List ℕ → HeldRow → ℕ → Option HeldRow → Type 0
 HangsBelow c calm n slot None = Unit {0}
 HangsBelow c calm n slot (Some above) = HangsOnWay c calm above slot (ChildRow n.base n.kind)
 

@@ -7,19 +7,19 @@ use Rattle.art_rows.specs.declared.table.Shape.{Shape}
 use Rattle.art_rows.specs.declared.variant.Variant.TheVariants.{Coupled}
 use Rattle.art_rows.specs.TreeCalls.{is_tree_call}
 use Rattle.art_rows.specs.Rows.{is_insert, is_scan}
-use Rattle.art_stages.specs.declared.stage.Stage.{Stage}
-use Rattle.art_stages.specs.Stages.{setting}
-use Rattle.art_stages.specs.Automaton.{turn_at, stage_after}
+use Rattle.art_control_states.specs.declared.stage.Stage.{Stage}
+use Rattle.art_control_states.specs.Stages.{setting}
+use Rattle.art_control_states.specs.Automaton.{turn_at, stage_after}
 use Rattle.art_core.specs.Meaning.{Means}
-use Rattle.art_serial.specs.trees.Trees.{IsAtRest}
+use Rattle.art_sequential.specs.trees.Trees.{IsAtRest}
 use Rattle.art_schedules.specs.versions.Holding.{FitsStage}
 use Rattle.art_schedules.specs.versions.Versions.{IsAtStage}
 use Rattle.art_rows.specs.declared.access.Access.{Access}
 use Rattle.art_rows.specs.declared.access.Point.{Point}
 use Rattle.art_rows.specs.Steps.{Asks, Answers}
-use Rattle.art_stages.specs.declared.stage.Stage.TheVariants.{Lock}
-use Rattle.art_stages.specs.declared.stage.Target.TheVariants.{Root}
-use Rattle.art_stages.specs.Calls.{OnKey, call_behind}
+use Rattle.art_control_states.specs.declared.stage.Stage.TheVariants.{Lock}
+use Rattle.art_control_states.specs.declared.stage.Target.TheVariants.{Root}
+use Rattle.art_control_states.specs.Calls.{OnKey, call_after_words}
 use Rattle.art_core.specs.Core.{Plan, State}
 use Rattle.art_schedules.specs.calm.Calm.{calm_of}
 use Rattle.art_schedules.specs.work.Own.{is_work}
@@ -45,7 +45,7 @@ FindingsStay = (shape : Shape) (call : Call) (n : ℕ) (calm words : List ℕ) (
 -- A call on a key begins at the lock of the root, where it knows nothing yet.
 abbrev pub CallsBegin : Type 0
 CallsBegin = (shape : Shape) (call : Call) (calm words : List ℕ) → is_scan call ≡ false
-    → (call_behind (setting shape Coupled call) [] ≡ OnKey (Lock Root true))
+    → (call_after_words (setting shape Coupled call) [] ≡ OnKey (Lock Root true))
     × KnowsWay (setting shape Coupled call) calm words None (Lock Root true)
 
 -- In a run: a step of a call that knows its way.

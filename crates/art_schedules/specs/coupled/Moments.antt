@@ -9,16 +9,16 @@ use Rattle.art_rows.specs.declared.table.Child.TheVariants.{Row}
 use Rattle.art_rows.specs.Words.{is_obsolete, locked_word}
 use Rattle.art_rows.specs.declared.variant.Variant.TheVariants.{Coupled}
 use Rattle.art_rows.specs.declared.access.Access.TheVariants.{Exchange as Swap}
-use Rattle.art_stages.specs.declared.stage.Held.{Held}
-use Rattle.art_stages.specs.declared.stage.Hold.{Hold}
-use Rattle.art_stages.specs.declared.stage.Outcome.{Outcome}
-use Rattle.art_stages.specs.declared.stage.Stage.{Stage}
-use Rattle.art_stages.specs.declared.stage.Stage.TheVariants.{Unlock, Obsolete}
-use Rattle.art_stages.specs.Stages.{setting}
-use Rattle.art_stages.specs.Calls.{OnKey}
+use Rattle.art_control_states.specs.declared.stage.HeldRow.{HeldRow}
+use Rattle.art_control_states.specs.declared.stage.Hold.{Hold}
+use Rattle.art_control_states.specs.declared.stage.Outcome.{Outcome}
+use Rattle.art_control_states.specs.declared.stage.Stage.{Stage}
+use Rattle.art_control_states.specs.declared.stage.Stage.TheVariants.{Unlock, Obsolete}
+use Rattle.art_control_states.specs.Stages.{setting}
+use Rattle.art_control_states.specs.Calls.{OnKey}
 use Rattle.art_core.specs.Core.{Plan, State}
 use Rattle.art_core.specs.Meaning.{Reached, child_on, Means}
-use Rattle.art_serial.specs.trees.Trees.{IsAtRest}
+use Rattle.art_sequential.specs.trees.Trees.{IsAtRest}
 use Rattle.art_schedules.specs.versions.Versions.{IsAtStage, EachHeld}
 use Rattle.art_schedules.specs.calm.Calm.{calm_of}
 use Rattle.art_schedules.specs.calm.Changes.{AsksFor, IsRunStep}
@@ -80,7 +80,7 @@ HeldAreLive shape s = (p : ℕ) → EachHeld Coupled shape s p (λ h. is_obsolet
 
 -- the process takes no obsolete row in its step
 abbrev pub TakesLive : Shape → State → ℕ → Type 0
-TakesLive shape s p = (h : Held) → AsksFor Coupled shape s p (Swap h.base h.kept (locked_word h.kept)) → slice_index s.words h.base ≡ h.kept
+TakesLive shape s p = (h : HeldRow) → AsksFor Coupled shape s p (Swap h.base h.kept (locked_word h.kept)) → slice_index s.words h.base ≡ h.kept
     → is_obsolete h.kept ≡ false
 
 -- The row that the process makes obsolete hangs in the calm tree on the row above that it holds too; from now on it is named as leaving.

@@ -10,18 +10,18 @@ use Rattle.art_rows.specs.declared.access.Point.{Point}
 use Rattle.art_rows.specs.declared.variant.Variant.TheVariants.{Coupled}
 use Rattle.art_rows.specs.Steps.{Asks}
 use Rattle.events.specs.declared.event.Call.TheVariants.{Scan}
-use Rattle.art_stages.specs.declared.stage.Held.{Held}
-use Rattle.art_stages.specs.declared.stage.Keys.{Keys as KeyWords}
-use Rattle.art_stages.specs.declared.stage.Frame.{Frame}
-use Rattle.art_stages.specs.declared.stage.Entry.{Entry}
-use Rattle.art_stages.specs.declared.stage.Entry.TheVariants.{Root, Below}
-use Rattle.art_stages.specs.declared.stage.ScanStep.{ScanStep}
-use Rattle.art_stages.specs.declared.stage.ScanStep.TheVariants as scan
-use Rattle.art_stages.specs.Stages.{setting}
-use Rattle.art_stages.specs.Scans.{ScanAt, scan_turn, scan_after}
-use Rattle.art_stages.specs.Calls.{OnScan}
+use Rattle.art_control_states.specs.declared.stage.HeldRow.{HeldRow}
+use Rattle.art_control_states.specs.declared.stage.Keys.{Keys as KeyWords}
+use Rattle.art_control_states.specs.declared.stage.Frame.{Frame}
+use Rattle.art_control_states.specs.declared.stage.Entry.{Entry}
+use Rattle.art_control_states.specs.declared.stage.Entry.TheVariants.{Root, Below}
+use Rattle.art_control_states.specs.declared.stage.ScanStep.{ScanStep}
+use Rattle.art_control_states.specs.declared.stage.ScanStep.TheVariants as scan
+use Rattle.art_control_states.specs.Stages.{setting}
+use Rattle.art_control_states.specs.Scans.{ScanAt, scan_turn, scan_after}
+use Rattle.art_control_states.specs.Calls.{OnScan}
 use Rattle.art_core.specs.Meaning.{Reached, slot_of, child_on}
-use Rattle.art_serial.specs.trees.Trees.{IsAtRest, SameRow}
+use Rattle.art_sequential.specs.trees.Trees.{IsAtRest, SameRow}
 use Rattle.map_object.specs.MapObject.{Contents}
 use Rattle.art_schedules.specs.changes.Effects.{Effect}
 use Rattle.art_schedules.specs.changes.Courses.{IsGoneBy, ComesInBy}
@@ -47,19 +47,19 @@ pub record KnowsFrame (shape : Shape) (calm : List ℕ) (f : Frame) : Type 0 whe
   pub few : f.index < 32
 
 -- the row hangs on a row of the calm tree that the scan holds
-pub record HangsOnHeld (shape : Shape) (calm : List ℕ) (rows : List Held) (base : ℕ) (kind : Kind) : Type 0 where
-  pub row : Held
+pub record HangsOnHeld (shape : Shape) (calm : List ℕ) (rows : List HeldRow) (base : ℕ) (kind : Kind) : Type 0 where
+  pub row : HeldRow
   pub walked : IsWalked row rows
   pub reached : Reached shape calm row.base row.kind
   pub byte : ℕ
   pub is_byte : byte < 256
   pub hangs : child_on shape calm row.base row.kind byte ≡ Row base kind
 
-abbrev pub KnowsEntry : Shape → List ℕ → List Held → Entry → Type 0
+abbrev pub KnowsEntry : Shape → List ℕ → List HeldRow → Entry → Type 0
 KnowsEntry shape calm rows Root = Unit {0}
 KnowsEntry shape calm rows (Below base kind) = HangsOnHeld shape calm rows base kind
 
-abbrev pub KnowsStep : Shape → List ℕ → List Held → ScanStep → Type 0
+abbrev pub KnowsStep : Shape → List ℕ → List HeldRow → ScanStep → Type 0
 KnowsStep shape calm rows (scan.Lock entry first) = KnowsEntry shape calm rows entry
 KnowsStep shape calm rows (scan.Exchange entry v) = KnowsEntry shape calm rows entry
 KnowsStep shape calm rows (scan.Wait entry) = ⊥
@@ -103,6 +103,6 @@ abbrev pub ScansKeepTrees : Type 0
 ScansKeepTrees = (shape : Shape) (low high claims n : ℕ) (calm after : List ℕ) (pairs : Contents) (effect : Option Effect) (at : ScanAt)
     → IsAtRest shape claims calm
     → Follows shape n calm after pairs (IsGoneBy effect) (ComesInBy effect) → ReadsHeld (OnScan low high at)
-    → ((h : Held) → IsAmong h at.walk.rows → StaysAt shape calm after effect h.base)
+    → ((h : HeldRow) → IsAmong h at.walk.rows → StaysAt shape calm after effect h.base)
     → ((base : ℕ) (kind : Kind) (kept : ℕ) → at.step ≡ scan.Info base kind kept → StaysAt shape calm after effect base)
     → KnowsTree shape calm at → KnowsTree shape after at

@@ -6,8 +6,8 @@ use Rattle.events.specs.declared.event.Reply.{Reply}
 use Rattle.art_rows.specs.declared.table.Shape.{Shape}
 use Rattle.art_rows.specs.declared.variant.Variant.TheVariants.{Coupled}
 use Rattle.art_rows.specs.Rows.{is_insert}
-use Rattle.art_stages.specs.declared.stage.Stage.{Stage}
-use Rattle.art_stages.specs.Stages.{setting}
+use Rattle.art_control_states.specs.declared.stage.Stage.{Stage}
+use Rattle.art_control_states.specs.Stages.{setting}
 use Rattle.art_schedules.specs.versions.Holding.{Each}
 use Rattle.art_schedules.specs.versions.Locking.{held_at_stage}
 use Rattle.art_schedules.specs.changes.Effects.{Effect}

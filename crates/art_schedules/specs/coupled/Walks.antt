@@ -13,23 +13,23 @@ use Rattle.art_rows.specs.declared.access.Point.{Point}
 use Rattle.art_rows.specs.Steps.{Asks}
 use Rattle.art_rows.specs.Fits.{word_of}
 use Rattle.art_rows.specs.Rows.{Setting}
-use Rattle.art_stages.specs.declared.stage.Held.{Held}
-use Rattle.art_stages.specs.declared.stage.ScanStep.{ScanStep}
-use Rattle.art_stages.specs.declared.stage.ScanStep.TheVariants.{Release, Over}
-use Rattle.art_stages.specs.Stages.{setting}
-use Rattle.art_stages.specs.Scans.{ScanAt}
-use Rattle.art_stages.specs.Calls.{CallAt, OnScan, call_turn, call_after, call_begun}
+use Rattle.art_control_states.specs.declared.stage.HeldRow.{HeldRow}
+use Rattle.art_control_states.specs.declared.stage.ScanStep.{ScanStep}
+use Rattle.art_control_states.specs.declared.stage.ScanStep.TheVariants.{Release, Over}
+use Rattle.art_control_states.specs.Stages.{setting}
+use Rattle.art_control_states.specs.Scans.{ScanAt}
+use Rattle.art_control_states.specs.Calls.{CallAt, OnScan, call_turn, call_after, call_begun}
 use Rattle.art_core.specs.Accesses.{got_by, words_after}
 use Rattle.art_core.specs.Meaning.{Means}
-use Rattle.art_serial.specs.trees.Trees.{IsAtRest}
+use Rattle.art_sequential.specs.trees.Trees.{IsAtRest}
 use Rattle.art_schedules.specs.versions.Effects.{IsAmong}
 
 -- the word is one of these rows
-abbrev pub IsOfRows : List Held → ℕ → Type 0
-IsOfRows rows word = (h : Held) × IsAmong h rows × (h.base ≤ word) × (word < h.base + row_words h.kind)
+abbrev pub IsOfRows : List HeldRow → ℕ → Type 0
+IsOfRows rows word = (h : HeldRow) × IsAmong h rows × (h.base ≤ word) × (word < h.base + row_words h.kind)
 
 -- From the first stage on the first words the call comes to this stage with these words, alone, by accesses to words of these rows.
-pub data Alone (c : Setting) (rows : List Held) (at0 : CallAt) (w0 : List ℕ) : CallAt → List ℕ → Type 0 where
+pub data Alone (c : Setting) (rows : List HeldRow) (at0 : CallAt) (w0 : List ℕ) : CallAt → List ℕ → Type 0 where
   here : Alone c rows at0 w0 at0 w0
   further : {at : CallAt} {now : List ℕ} → Alone c rows at0 w0 at now → (a : Access) → (mark : Option Point) → call_turn c at ≡ Asks a mark
       → IsOfRows rows (word_of a) → Alone c rows at0 w0 (call_after c at (got_by a now)) (words_after a now)
@@ -41,12 +41,12 @@ IsOver Over = Unit {0}
 IsOver step = ⊥
 
 -- words that are as these are on the rows
-abbrev pub SameOn : List Held → List ℕ → List ℕ → Type 0
+abbrev pub SameOn : List HeldRow → List ℕ → List ℕ → Type 0
 SameOn rows words later = (word : ℕ) → IsOfRows rows word → slice_index later word ≡ slice_index words word
 
 -- A scan that comes to the end of its walk alone on a tree at rest has the pairs that the map has.
 abbrev pub WalksAreTheMaps : Type 0
-WalksAreTheMaps = (shape : Shape) (low high n : ℕ) (calm now : List ℕ) (m : Contents) (rows : List Held) (at : ScanAt)
+WalksAreTheMaps = (shape : Shape) (low high n : ℕ) (calm now : List ℕ) (m : Contents) (rows : List HeldRow) (at : ScanAt)
     → IsAtRest shape n calm
     → Means shape calm m
     → length m ≤ pair_limit → Alone (setting shape Coupled (Scan low high)) rows (call_begun (setting shape Coupled (Scan low high))) calm
@@ -56,7 +56,7 @@ WalksAreTheMaps = (shape : Shape) (low high n : ℕ) (calm now : List ℕ) (m : 
 
 -- It comes to the same stage on other words that are the same on these rows.
 abbrev pub WalksStay : Type 0
-WalksStay = (c : Setting) (rows : List Held) (at0 at : CallAt) (calm after now : List ℕ) → length after ≡ length calm
+WalksStay = (c : Setting) (rows : List HeldRow) (at0 at : CallAt) (calm after now : List ℕ) → length after ≡ length calm
     → SameOn rows calm after
     → Alone c rows at0 calm at now → (later : List ℕ) × Alone c rows at0 after at later × SameOn rows now later
     × (length later ≡ length now)

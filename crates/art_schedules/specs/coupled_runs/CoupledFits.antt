@@ -7,13 +7,13 @@ use Rattle.art_rows.specs.declared.table.Shape.{Shape}
 use Rattle.art_rows.specs.declared.variant.Variant.TheVariants.{Coupled}
 use Rattle.art_rows.specs.TreeCalls.{is_tree_call}
 use Rattle.art_rows.specs.Rows.{is_scan}
-use Rattle.art_stages.specs.declared.stage.Stage.{Stage}
-use Rattle.art_stages.specs.Stages.{setting}
-use Rattle.art_stages.specs.Scans.{ScanAt}
-use Rattle.art_stages.specs.Calls.{OnKey, OnScan}
+use Rattle.art_control_states.specs.declared.stage.Stage.{Stage}
+use Rattle.art_control_states.specs.Stages.{setting}
+use Rattle.art_control_states.specs.Scans.{ScanAt}
+use Rattle.art_control_states.specs.Calls.{OnKey, OnScan}
 use Rattle.art_core.specs.declared.process.Process.{Process}
 use Rattle.art_core.specs.Core.{State}
-use Rattle.art_serial.specs.trees.Trees.{IsClaimed}
+use Rattle.art_sequential.specs.trees.Trees.{IsClaimed}
 use Rattle.art_schedules.specs.versions.Holding.{Named}
 use Rattle.art_schedules.specs.versions.Versions.{stage_of}
 use Rattle.art_schedules.specs.stories.Stories.{Status, Before, Found, Changed}

@@ -4,8 +4,8 @@ use Rattle.events.specs.declared.event.Call.{Call}
 use Rattle.events.specs.declared.event.Call.TheVariants.{Scan}
 use Rattle.art_rows.specs.declared.table.Shape.{Shape}
 use Rattle.art_rows.specs.declared.variant.Variant.TheVariants.{Coupled}
-use Rattle.art_stages.specs.Scans.{ScanAt}
-use Rattle.art_stages.specs.Calls.{OnScan}
+use Rattle.art_control_states.specs.Scans.{ScanAt}
+use Rattle.art_control_states.specs.Calls.{OnScan}
 use Rattle.art_core.specs.declared.process.Process.{Process}
 use Rattle.art_core.specs.Core.{State}
 use Rattle.art_schedules.specs.versions.Versions.{stage_of}

@@ -12,23 +12,23 @@ use Rattle.art_rows.specs.Table.{table_words}
 use Rattle.art_rows.specs.Words.{key_bytes, is_obsolete, info_word, row_word, leaf_word}
 use Rattle.art_rows.specs.Rows.{Setting}
 use Rattle.art_rows.specs.Updates.{next_kind}
-use Rattle.art_stages.specs.declared.stage.Held.{Held}
-use Rattle.art_stages.specs.declared.stage.Hold.{Hold}
-use Rattle.art_stages.specs.declared.stage.Growing.{Growing}
-use Rattle.art_stages.specs.declared.stage.Work.{Work}
-use Rattle.art_stages.specs.declared.stage.Work.TheVariants as work
-use Rattle.art_stages.specs.declared.stage.Outcome.{Outcome}
-use Rattle.art_stages.specs.declared.stage.Outcome.TheVariants.{Value}
-use Rattle.art_stages.specs.declared.stage.Stage.{Stage}
-use Rattle.art_stages.specs.declared.stage.Stage.TheVariants.{Write, StorePair, PutLoad, PutStore, PutLeaf, PutKeys, PutMore}
-use Rattle.art_stages.specs.declared.stage.Stage.TheVariants.{PutCount, GrowInfo, GrowLoad, GrowStore, SpreadIndex, SpreadLoad, SpreadStore}
-use Rattle.art_stages.specs.declared.stage.Stage.TheVariants.{GrowLeaf, GrowKeys, GrowCount, Hang, Obsolete, Unlock, Over}
-use Rattle.art_stages.specs.Stages.{reply_for}
-use Rattle.art_stages.specs.Automaton.{work_at, hold_alone}
-use Rattle.art_stages.specs.Calls.{OnKey}
+use Rattle.art_control_states.specs.declared.stage.HeldRow.{HeldRow}
+use Rattle.art_control_states.specs.declared.stage.Hold.{Hold}
+use Rattle.art_control_states.specs.declared.stage.Growing.{Growing}
+use Rattle.art_control_states.specs.declared.stage.Work.{Work}
+use Rattle.art_control_states.specs.declared.stage.Work.TheVariants as work
+use Rattle.art_control_states.specs.declared.stage.Outcome.{Outcome}
+use Rattle.art_control_states.specs.declared.stage.Outcome.TheVariants.{Value}
+use Rattle.art_control_states.specs.declared.stage.Stage.{Stage}
+use Rattle.art_control_states.specs.declared.stage.Stage.TheVariants.{Write, StorePair, PutLoad, PutStore, PutLeaf, PutKeys, PutMore}
+use Rattle.art_control_states.specs.declared.stage.Stage.TheVariants.{PutCount, GrowInfo, GrowLoad, GrowStore, SpreadIndex, SpreadLoad, SpreadStore}
+use Rattle.art_control_states.specs.declared.stage.Stage.TheVariants.{GrowLeaf, GrowKeys, GrowCount, Hang, Obsolete, Unlock, Over}
+use Rattle.art_control_states.specs.Stages.{reply_for}
+use Rattle.art_control_states.specs.Automaton.{work_at, hold_alone}
+use Rattle.art_control_states.specs.Calls.{OnKey}
 use Rattle.art_core.specs.Meaning.{child_on}
 use Rattle.art_core.specs.Forms.{level_in, path_in}
-use Rattle.art_serial.specs.trees.Trees.{SameRow, LeadsTo, Parts, IsClaimed}
+use Rattle.art_sequential.specs.trees.Trees.{SameRow, LeadsTo, Parts, IsClaimed}
 use Rattle.art_schedules.specs.versions.Locking.{rows_of_hold}
 use Rattle.art_schedules.specs.versions.Holding.{Named, Each, Knows}
 use Rattle.art_schedules.specs.changes.Rows.{HasNewChild}
@@ -221,17 +221,17 @@ IsEffectOf (Scan low high) old e = ⊥
 -- All rows that the call holds are unchanged except for the upper one. It releases that next, or
 -- another row before: unchanged, or as obsolete, where that row leaves by the effect. A row that
 -- goes and is released is obsolete.
-pub data IsReleasing (c : Setting) (real calm : List ℕ) (row : Held) (e : Effect) (o : Outcome) (stage : Stage) : Type 0 where
+pub data IsReleasing (c : Setting) (real calm : List ℕ) (row : HeldRow) (e : Effect) (o : Outcome) (stage : Stage) : Type 0 where
   Last : stage ≡ Unlock (hold_alone row) (Some o) → ((b : ℕ) → IsGone e b → is_obsolete (slice_index real b) ≡ true)
       → IsReleasing c real calm row e o stage
-  Lower : (lower : Held) → stage ≡ Unlock (record { row = lower; above = Some row }) (Some o) → IsInTree c.shape calm lower
+  Lower : (lower : HeldRow) → stage ≡ Unlock (record { row = lower; above = Some row }) (Some o) → IsInTree c.shape calm lower
       → IsSame calm real lower
       → ((b : ℕ) → IsGone e b → ⊥) → IsReleasing c real calm row e o stage
-  Gone : (lower : Held) → stage ≡ Obsolete (record { row = lower; above = Some row }) → o ≡ Value None → IsInTree c.shape calm lower
+  Gone : (lower : HeldRow) → stage ≡ Obsolete (record { row = lower; above = Some row }) → o ≡ Value None → IsInTree c.shape calm lower
       → IsGone e lower.base → ((b : ℕ) → IsGone e b → b ≡ lower.base) → IsReleasing c real calm row e o stage
 
 pub record IsHanging (c : Setting) (real calm : List ℕ) (fresh : Option Named) (stage : Stage) : Type 0 where
-  pub row : Held
+  pub row : HeldRow
   pub effect : Effect
   pub old : Option ℕ
   pub base : base_of_effect effect ≡ row.base

@@ -7,21 +7,21 @@ use Rattle.art_rows.specs.Words.{child_word}
 use Rattle.art_rows.specs.TreeCalls.{is_tree_call}
 use Rattle.art_rows.specs.Rows.{Setting, key_of, is_insert}
 use Rattle.art_rows.specs.Updates.{new_leaf, overwriting}
-use Rattle.art_stages.specs.declared.stage.Held.{Held}
-use Rattle.art_stages.specs.declared.stage.Hold.{Hold}
-use Rattle.art_stages.specs.declared.stage.Work.{Work}
-use Rattle.art_stages.specs.declared.stage.Work.TheVariants as work
-use Rattle.art_stages.specs.Stages.{byte_in}
+use Rattle.art_control_states.specs.declared.stage.HeldRow.{HeldRow}
+use Rattle.art_control_states.specs.declared.stage.Hold.{Hold}
+use Rattle.art_control_states.specs.declared.stage.Work.{Work}
+use Rattle.art_control_states.specs.declared.stage.Work.TheVariants as work
+use Rattle.art_control_states.specs.Stages.{byte_in}
 use Rattle.art_core.specs.Meaning.{slot_of, child_on}
-use Rattle.art_serial.specs.trees.Trees.{LeadsTo, Parts}
+use Rattle.art_sequential.specs.trees.Trees.{LeadsTo, Parts}
 use Rattle.art_schedules.specs.work.Works.{FitsWords}
 
 -- the row that changes: the upper one of those that are held, which is released last
-abbrev pub upper_of : Held → Option Held → Held
+abbrev pub upper_of : HeldRow → Option HeldRow → HeldRow
 upper_of row None = row
 upper_of row (Some above) = above
 
-abbrev pub upper_row : Hold → Held
+abbrev pub upper_row : Hold → HeldRow
 upper_row h = upper_of h.row h.above
 
 -- Where a slot is overwritten: the word and the reply that go with the child that is there, which is the key's leaf or none.

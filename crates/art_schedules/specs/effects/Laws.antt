@@ -9,17 +9,17 @@ use Rattle.art_rows.specs.declared.access.Access.{Access}
 use Rattle.art_rows.specs.declared.access.Point.{Point}
 use Rattle.art_rows.specs.Steps.{Asks, Answers}
 use Rattle.art_rows.specs.Rows.{Setting}
-use Rattle.art_stages.specs.declared.stage.Held.{Held}
-use Rattle.art_stages.specs.declared.stage.Hold.{Hold}
-use Rattle.art_stages.specs.declared.stage.Stage.{Stage}
-use Rattle.art_stages.specs.declared.stage.Stage.TheVariants.{Obsolete}
-use Rattle.art_stages.specs.declared.stage.Work.{Work}
-use Rattle.art_stages.specs.Stages.{setting}
-use Rattle.art_stages.specs.Automaton.{turn_at, work_at}
-use Rattle.art_stages.specs.Calls.{OnKey}
+use Rattle.art_control_states.specs.declared.stage.HeldRow.{HeldRow}
+use Rattle.art_control_states.specs.declared.stage.Hold.{Hold}
+use Rattle.art_control_states.specs.declared.stage.Stage.{Stage}
+use Rattle.art_control_states.specs.declared.stage.Stage.TheVariants.{Obsolete}
+use Rattle.art_control_states.specs.declared.stage.Work.{Work}
+use Rattle.art_control_states.specs.Stages.{setting}
+use Rattle.art_control_states.specs.Automaton.{turn_at, work_at}
+use Rattle.art_control_states.specs.Calls.{OnKey}
 use Rattle.art_core.specs.Core.{Plan, State}
 use Rattle.art_core.specs.Meaning.{Reached, Means}
-use Rattle.art_serial.specs.trees.Trees.{IsAtRest, IsClaimed}
+use Rattle.art_sequential.specs.trees.Trees.{IsAtRest, IsClaimed}
 use Rattle.art_schedules.specs.versions.Locking.{rows_of_hold}
 use Rattle.art_schedules.specs.versions.Holding.{Named, Each, Knows, holds}
 use Rattle.art_schedules.specs.versions.Effects.{IsAmong}
@@ -43,12 +43,12 @@ WorkBegins = (c : Setting) (real calm : List ℕ) (h : Hold) (work : Work) → l
 -- The rows that a call at work holds are in calm's tree,
 abbrev pub WorkersHoldReached : Type 0
 WorkersHoldReached = (c : Setting) (real calm : List ℕ) (stage : Stage) (fresh : Option Named)
-    → AtWork c real calm fresh stage → (row : Held)
+    → AtWork c real calm fresh stage → (row : HeldRow)
     → IsAmong row (holds c (OnKey stage)) → Reached c.shape calm row.base row.kind
 
 -- A call that only releases rows holds only rows of calm's tree.
 abbrev pub LeaversHoldReached : Type 0
-LeaversHoldReached = (c : Setting) (real calm : List ℕ) (stage : Stage) (reply : Reply) → AtEnd c real calm reply stage → (row : Held)
+LeaversHoldReached = (c : Setting) (real calm : List ℕ) (stage : Stage) (reply : Reply) → AtEnd c real calm reply stage → (row : HeldRow)
     → IsAmong row (holds c (OnKey stage)) → Reached c.shape calm row.base row.kind
 
 -- A step of another process, which holds rows of calm's tree alone and brings no row into it that is this call's fresh one, keeps a call at

@@ -11,13 +11,13 @@ use Rattle.art_rows.specs.declared.table.Shape.{Shape}
 use Rattle.art_rows.specs.declared.table.Child.TheVariants.{Row}
 use Rattle.art_rows.specs.declared.variant.Variant.{Variant}
 use Rattle.art_rows.specs.Rows.{Setting}
-use Rattle.art_stages.specs.declared.stage.Held.{Held}
-use Rattle.art_stages.specs.declared.stage.Hold.{Hold}
-use Rattle.art_stages.specs.declared.stage.Outcome.{Outcome}
-use Rattle.art_stages.specs.declared.stage.Stage.{Stage}
-use Rattle.art_stages.specs.declared.stage.Stage.TheVariants.{Obsolete}
-use Rattle.art_stages.specs.Stages.{setting}
-use Rattle.art_stages.specs.Calls.{OnKey}
+use Rattle.art_control_states.specs.declared.stage.HeldRow.{HeldRow}
+use Rattle.art_control_states.specs.declared.stage.Hold.{Hold}
+use Rattle.art_control_states.specs.declared.stage.Outcome.{Outcome}
+use Rattle.art_control_states.specs.declared.stage.Stage.{Stage}
+use Rattle.art_control_states.specs.declared.stage.Stage.TheVariants.{Obsolete}
+use Rattle.art_control_states.specs.Stages.{setting}
+use Rattle.art_control_states.specs.Calls.{OnKey}
 use Rattle.art_core.specs.Core.{Plan, State}
 use Rattle.art_core.specs.Meaning.{Reached, child_on}
 use Rattle.art_schedules.specs.versions.Holding.{Named}
@@ -33,7 +33,7 @@ obsolete_by stage = None
 
 -- the row that was made obsolete leaves by the effect to come; there is none before the release of
 -- the upper row is next
-abbrev pub IsMarkedBy : {c : Setting} {real calm : List ℕ} {row : Held} {e : Effect} {o : Outcome} {stage : Stage} → Option ℕ
+abbrev pub IsMarkedBy : {c : Setting} {real calm : List ℕ} {row : HeldRow} {e : Effect} {o : Outcome} {stage : Stage} → Option ℕ
     → IsReleasing c real calm row e o stage → Type 0
 IsMarkedBy {e = e} left (Last is gone) = (b : ℕ) → left ≡ Some b → IsGone e b
 IsMarkedBy left (Lower lower is inside same none) = left ≡ None
@@ -65,7 +65,7 @@ WorkerStep plan s p t calm after m call stage fresh left =
 
 -- The lower row of those that are held hangs in calm's tree on the row above it.
 pub record HangsOnAbove (shape : Shape) (calm : List ℕ) (h : Hold) : Type 0 where
-  pub above : Held
+  pub above : HeldRow
   pub is : h.above ≡ Some above
   pub byte : ℕ
   pub is_byte : byte < 256

@@ -8,14 +8,14 @@ use Rattle.art_rows.specs.declared.table.Shape.{Shape}
 use Rattle.art_rows.specs.declared.table.Kind.{Kind}
 use Rattle.art_rows.specs.Words.{is_obsolete}
 use Rattle.art_rows.specs.declared.variant.Variant.{Variant}
-use Rattle.art_stages.specs.declared.stage.Outcome.{Outcome}
-use Rattle.art_stages.specs.declared.stage.Stage.{Stage}
-use Rattle.art_stages.specs.declared.stage.Stage.TheVariants.{Over}
-use Rattle.art_stages.specs.Stages.{setting, reply_for}
-use Rattle.art_stages.specs.Calls.{OnKey}
+use Rattle.art_control_states.specs.declared.stage.Outcome.{Outcome}
+use Rattle.art_control_states.specs.declared.stage.Stage.{Stage}
+use Rattle.art_control_states.specs.declared.stage.Stage.TheVariants.{Over}
+use Rattle.art_control_states.specs.Stages.{setting, reply_for}
+use Rattle.art_control_states.specs.Calls.{OnKey}
 use Rattle.art_core.specs.Core.{State}
 use Rattle.art_core.specs.Meaning.{Reached}
-use Rattle.art_serial.specs.trees.Trees.{IsClaimed}
+use Rattle.art_sequential.specs.trees.Trees.{IsClaimed}
 use Rattle.art_schedules.specs.versions.Holding.{Named}
 use Rattle.art_schedules.specs.versions.Versions.{IsAtStage, EachHeld}
 use Rattle.art_schedules.specs.versions.Writers.{IsHeldBy}

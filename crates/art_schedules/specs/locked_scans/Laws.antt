@@ -9,13 +9,13 @@ use Rattle.art_rows.specs.declared.access.Access.{Access}
 use Rattle.art_rows.specs.declared.access.Point.{Point}
 use Rattle.art_rows.specs.declared.variant.Variant.TheVariants.{Coupled}
 use Rattle.art_rows.specs.Steps.{Asks, Answers}
-use Rattle.art_stages.specs.declared.stage.Held.{Held}
-use Rattle.art_stages.specs.Stages.{setting}
-use Rattle.art_stages.specs.Scans.{ScanAt, scan_start, scan_turn}
-use Rattle.art_stages.specs.Calls.{OnScan, call_behind}
+use Rattle.art_control_states.specs.declared.stage.HeldRow.{HeldRow}
+use Rattle.art_control_states.specs.Stages.{setting}
+use Rattle.art_control_states.specs.Scans.{ScanAt, scan_start, scan_turn}
+use Rattle.art_control_states.specs.Calls.{OnScan, call_after_words}
 use Rattle.art_core.specs.Core.{Plan, State}
 use Rattle.art_core.specs.Meaning.{Means}
-use Rattle.art_serial.specs.trees.Trees.{IsAtRest}
+use Rattle.art_sequential.specs.trees.Trees.{IsAtRest}
 use Rattle.art_schedules.specs.calm.Calm.{calm_of}
 use Rattle.art_schedules.specs.changes.Effects.{Effect}
 use Rattle.art_schedules.specs.changes.Courses.{IsGoneBy, ComesInBy}
@@ -31,7 +31,7 @@ use Rattle.art_schedules.specs.coupled.Walks.{IsOver}
 -- A scan begins where it has walked nothing yet.
 abbrev pub ScansBegin : Type 0
 ScansBegin = (shape : Shape) (low high : ℕ) (calm words : List ℕ) → length words ≡ length calm
-    → (call_behind (setting shape Coupled (Scan low high)) [] ≡ OnScan low high (scan_start (setting shape Coupled (Scan low high))))
+    → (call_after_words (setting shape Coupled (Scan low high)) [] ≡ OnScan low high (scan_start (setting shape Coupled (Scan low high))))
     × HasWalked shape low high calm words (scan_start (setting shape Coupled (Scan low high)))
 
 -- In a run: a step of a scan that has not come to the end of its walk, and that takes no row that is obsolete.
@@ -120,6 +120,6 @@ OthersLeaveTrees = (plan : Plan) (start : Contents) (words schedule : List ℕ) 
     → IsAtStage Coupled plan.shape s r (Scan low high) (OnScan low high x)
     → Follows plan.shape n (calm_of plan words schedule) (calm_of plan words (schedule ++ p ∷ [])) pairs (IsGoneBy effect)
     (ComesInBy effect)
-    → ((h : Held) → IsAmong h (rows_of_scan plan.shape low high x) → IsGoneBy effect h.base → ⊥) → (IsOver x.step → ⊥)
+    → ((h : HeldRow) → IsAmong h (rows_of_scan plan.shape low high x) → IsGoneBy effect h.base → ⊥) → (IsOver x.step → ⊥)
     → HasWalked plan.shape low high (calm_of plan words schedule) s.words x → KnowsTree plan.shape (calm_of plan words schedule) x
     → KnowsTree plan.shape (calm_of plan words (schedule ++ p ∷ [])) x

@@ -6,12 +6,12 @@ use Rattle.events.specs.declared.event.Reply.{Reply}
 use Rattle.events.specs.declared.event.Reply.TheVariants as reply
 use Rattle.art_rows.specs.declared.table.Shape.{Shape}
 use Rattle.art_rows.specs.declared.variant.Variant.TheVariants.{Coupled}
-use Rattle.art_stages.specs.declared.stage.Held.{Held}
-use Rattle.art_stages.specs.declared.stage.ScanStep.{ScanStep}
-use Rattle.art_stages.specs.declared.stage.ScanStep.TheVariants.{Lock, Exchange}
-use Rattle.art_stages.specs.Stages.{setting}
-use Rattle.art_stages.specs.Scans.{ScanAt, at}
-use Rattle.art_stages.specs.Calls.{OnScan, call_begun}
+use Rattle.art_control_states.specs.declared.stage.HeldRow.{HeldRow}
+use Rattle.art_control_states.specs.declared.stage.ScanStep.{ScanStep}
+use Rattle.art_control_states.specs.declared.stage.ScanStep.TheVariants.{Lock, Exchange}
+use Rattle.art_control_states.specs.Stages.{setting}
+use Rattle.art_control_states.specs.Scans.{ScanAt, at}
+use Rattle.art_control_states.specs.Calls.{OnScan, call_begun}
 use Rattle.art_core.specs.Core.{State}
 use Rattle.art_schedules.specs.versions.Holding.{Each, holds}
 use Rattle.art_schedules.specs.versions.Versions.{IsAtStage}
@@ -30,7 +30,7 @@ unwaited x = go x.step
     go step = at step x.walk
 
 -- the rows that the scan holds there
-abbrev pub rows_of_scan : Shape → ℕ → ℕ → ScanAt → List Held
+abbrev pub rows_of_scan : Shape → ℕ → ℕ → ScanAt → List HeldRow
 rows_of_scan shape low high x = holds (setting shape Coupled (Scan low high)) (OnScan low high x)
 
 -- Before its first release: alone on calm, where no lock is waited for, the scan comes to this

@@ -16,12 +16,12 @@ reply_of_child key (Leaf other value) = Some (if other == key then replies.Some 
 reply_of_child key (Row base kind) = None
 
 -- if the row's path differs from the key, the key is absent, whatever hangs there
-abbrev pub reply_behind : Option ℕ → Option Reply → Option Reply
-reply_behind None here = here
-reply_behind (Some place) here = Some replies.None
+abbrev pub reply_after : Option ℕ → Option Reply → Option Reply
+reply_after None here = here
+reply_after (Some place) here = Some replies.None
 
 -- the reply by the row's words, and by the level and the path that this info word says
 abbrev pub row_reply : Shape → List ℕ → ℕ → Kind → ℕ → ℕ → Option Reply
 row_reply s words base kind info key =
-    reply_behind (first_difference (info_of kind info).path (key_bytes key))
+    reply_after (first_difference (info_of kind info).path (key_bytes key))
     (reply_of_child key (child_on s words base kind (slice_index (key_bytes key) (info_of kind info).level)))

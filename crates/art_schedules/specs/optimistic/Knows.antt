@@ -10,17 +10,17 @@ use Rattle.art_rows.specs.declared.table.Child.TheVariants.{Row as ChildRow}
 use Rattle.art_rows.specs.Table.{keys_at, index_at, count_at}
 use Rattle.art_rows.specs.Words.{key_bytes, first_difference}
 use Rattle.art_rows.specs.Rows.{Setting, key_of, is_insert}
-use Rattle.art_stages.specs.declared.stage.Held.{Held}
-use Rattle.art_stages.specs.declared.stage.Position.{Position}
-use Rattle.art_stages.specs.declared.stage.Down.{Down}
-use Rattle.art_stages.specs.declared.stage.Hold.{Hold}
-use Rattle.art_stages.specs.declared.stage.Taking.{Taking}
-use Rattle.art_stages.specs.declared.stage.Target.{Target}
-use Rattle.art_stages.specs.declared.stage.Target.TheVariants.{Root, Below, Taken}
-use Rattle.art_stages.specs.declared.stage.Stage.{Stage}
-use Rattle.art_stages.specs.declared.stage.Stage.TheVariants.{Wait, Between, Info, Find, FindKeys, FindMore}
-use Rattle.art_stages.specs.declared.stage.Stage.TheVariants.{FindCount, Slot, Check, CheckLast, Take, Unlock, Over}
-use Rattle.art_stages.specs.Stages.{byte_in, reply_for}
+use Rattle.art_control_states.specs.declared.stage.HeldRow.{HeldRow}
+use Rattle.art_control_states.specs.declared.stage.Position.{Position}
+use Rattle.art_control_states.specs.declared.stage.Down.{Down}
+use Rattle.art_control_states.specs.declared.stage.Hold.{Hold}
+use Rattle.art_control_states.specs.declared.stage.Taking.{Taking}
+use Rattle.art_control_states.specs.declared.stage.Target.{Target}
+use Rattle.art_control_states.specs.declared.stage.Target.TheVariants.{Root, Below, Taken}
+use Rattle.art_control_states.specs.declared.stage.Stage.{Stage}
+use Rattle.art_control_states.specs.declared.stage.Stage.TheVariants.{Wait, Between, Info, Find, FindKeys, FindMore}
+use Rattle.art_control_states.specs.declared.stage.Stage.TheVariants.{FindCount, Slot, Check, CheckLast, Take, Unlock, Over}
+use Rattle.art_control_states.specs.Stages.{byte_in, reply_for}
 use Rattle.art_core.specs.Meaning.{Reached}
 use Rattle.art_core.specs.Forms.{path_in}
 use Rattle.art_schedules.specs.versions.Holding.{Each, rows_kept}
@@ -30,26 +30,26 @@ use Rattle.art_schedules.specs.work.Ways.{IsOnWay, slot_in, KnowsFinding, IsSame
 
 -- the version that was kept is still the row's: the row is neither locked nor obsolete, and calm
 -- has its words
-abbrev pub Stands : List ℕ → Held → Type 0
-Stands words n = slice_index words n.base ≡ n.kept
+abbrev pub IsCurrent : List ℕ → HeldRow → Type 0
+IsCurrent words n = slice_index words n.base ≡ n.kept
 
 -- the row below hangs on the key's byte of the row above, if the version of the row above is the
 -- kept one
 abbrev pub IsBelow : Setting → List ℕ → List ℕ → Down → Type 0
-IsBelow c calm words d = Stands words d.above → HangsOnWay c calm d.above d.slot (ChildRow d.base d.kind)
+IsBelow c calm words d = IsCurrent words d.above → HangsOnWay c calm d.above d.slot (ChildRow d.base d.kind)
 
 abbrev pub KnowsTarget : Setting → List ℕ → List ℕ → Target → Type 0
 KnowsTarget c calm words Root = Unit {0}
 KnowsTarget c calm words (Below d) = IsBelow c calm words d
 KnowsTarget c calm words (Taken t) = ⊥
 
-abbrev pub HangsBelow : Setting → List ℕ → List ℕ → Held → ℕ → Option Held → Type 0
+abbrev pub HangsBelow : Setting → List ℕ → List ℕ → HeldRow → ℕ → Option HeldRow → Type 0
 HangsBelow c calm words n slot None = Unit {0}
-HangsBelow c calm words n slot (Some above) = Stands words above → HangsOnWay c calm above slot (ChildRow n.base n.kind)
+HangsBelow c calm words n slot (Some above) = IsCurrent words above → HangsOnWay c calm above slot (ChildRow n.base n.kind)
 
 -- at a row: it is *led*, and so is the row above it
-abbrev pub IsLed : Setting → List ℕ → List ℕ → Held → Type 0
-IsLed c calm words n = Stands words n → IsOnWay c calm n
+abbrev pub IsLed : Setting → List ℕ → List ℕ → HeldRow → Type 0
+IsLed c calm words n = IsCurrent words n → IsOnWay c calm n
 
 abbrev pub KnowsPlace : Setting → List ℕ → List ℕ → Position → Type 0
 KnowsPlace c calm words p = IsLed c calm words p.row × HangsBelow c calm words p.row p.slot p.above
@@ -68,18 +68,18 @@ abbrev pub IsReachedBelow : Setting → List ℕ → List ℕ → Down → ℕ �
 IsReachedBelow c calm words d kept = slice_index words d.base ≡ kept → Reached c.shape calm d.base d.kind
 
 -- Rows are taken: the rows that will be held, and those that are not taken yet.
-abbrev pub hold_taken : Held → Option Held → Option Held → Hold
+abbrev pub hold_taken : HeldRow → Option HeldRow → Option HeldRow → Hold
 hold_taken row above None = record { row = row; above = above }
 hold_taken row above (Some below) = record { row = below; above = Some row }
 
-abbrev pub AllStand : List ℕ → Held → Option Held → Type 0
-AllStand words row None = Stands words row
-AllStand words row (Some below) = Stands words row × Stands words below
+abbrev pub AllStand : List ℕ → HeldRow → Option HeldRow → Type 0
+AllStand words row None = IsCurrent words row
+AllStand words row (Some below) = IsCurrent words row × IsCurrent words below
 
 -- each row whose version is the kept one is reached; and if all of them are such, the work can
 -- begin
-abbrev pub IsReachedHere : Setting → List ℕ → List ℕ → Held → Type 0
-IsReachedHere c calm words n = Stands words n → Reached c.shape calm n.base n.kind
+abbrev pub IsReachedHere : Setting → List ℕ → List ℕ → HeldRow → Type 0
+IsReachedHere c calm words n = IsCurrent words n → Reached c.shape calm n.base n.kind
 
 abbrev pub KnowsTaking : Setting → List ℕ → List ℕ → Taking → Type 0
 KnowsTaking c calm words t =
@@ -87,7 +87,7 @@ KnowsTaking c calm words t =
     × (AllStand words t.row t.below → BeginsWork c calm (hold_taken t.row t.held t.below) t.work)
 
 -- if a row that was taken is given back, nothing has been done
-abbrev pub GivesBack : Hold → Option Rattle.art_stages.specs.declared.stage.Outcome.Outcome → Type 0
+abbrev pub GivesBack : Hold → Option Rattle.art_control_states.specs.declared.stage.Outcome.Outcome → Type 0
 GivesBack h None = h.above ≡ None
 GivesBack h (Some outcome) = ⊥
 
@@ -98,15 +98,15 @@ KnowsStage i c calm words (Between d kept) = IsBelow c calm words d
 KnowsStage i c calm words (Info d kept) = IsBelow c calm words d × IsReachedBelow c calm words d kept × PathFollows i c words d
 KnowsStage i c calm words (Find p) = KnowsPlace c calm words p
 KnowsStage i c calm words (FindKeys p count) =
-    KnowsPlace c calm words p × (p.row.kind ≡ Sixteen) × (Stands words p.row → count ≡ slice_index calm (count_at Sixteen p.row.base))
+    KnowsPlace c calm words p × (p.row.kind ≡ Sixteen) × (IsCurrent words p.row → count ≡ slice_index calm (count_at Sixteen p.row.base))
 KnowsStage i c calm words (FindMore p count first) =
     KnowsPlace c calm words p × (p.row.kind ≡ Sixteen)
-    × (Stands words p.row → (count ≡ slice_index calm (count_at Sixteen p.row.base)) × (first ≡ slice_index calm (keys_at p.row.base)))
+    × (IsCurrent words p.row → (count ≡ slice_index calm (count_at Sixteen p.row.base)) × (first ≡ slice_index calm (keys_at p.row.base)))
 KnowsStage i c calm words (FindCount p index) =
     KnowsPlace c calm words p × (p.row.kind ≡ FortyEight)
-    × (Stands words p.row → (index ≡ slice_index calm (index_at p.row.base (byte_in c p.row))) × (slot_in c calm p.row ≡ None))
-KnowsStage i c calm words (Slot p slot) = KnowsPlace c calm words p × (Stands words p.row → slot_in c calm p.row ≡ Some slot)
-KnowsStage i c calm words (Check p f) = KnowsPlace c calm words p × (Stands words p.row → KnowsFinding i c calm p.row f)
+    × (IsCurrent words p.row → (index ≡ slice_index calm (index_at p.row.base (byte_in c p.row))) × (slot_in c calm p.row ≡ None))
+KnowsStage i c calm words (Slot p slot) = KnowsPlace c calm words p × (IsCurrent words p.row → slot_in c calm p.row ≡ Some slot)
+KnowsStage i c calm words (Check p f) = KnowsPlace c calm words p × (IsCurrent words p.row → KnowsFinding i c calm p.row f)
 KnowsStage i c calm words (Take t) = KnowsTaking c calm words t
 KnowsStage i c calm words (Unlock h outcome) = GivesBack h outcome
 KnowsStage i c calm words stage = ⊥
@@ -124,12 +124,12 @@ KnowsAt None i c calm words stage = KnowsStage i c calm words stage
 KnowsAt (Some r) i c calm words stage = KnowsReply r i c words stage
 
 -- a version that was kept is at most the row's
-abbrev pub IsPast : List ℕ → Held → Type 0
+abbrev pub IsPast : List ℕ → HeldRow → Type 0
 IsPast words n = n.kept ≤ slice_index words n.base
 
 -- a row that the call holds and has not written to: it is reached, and after its version the words
 -- are the calm ones
-abbrev pub IsHeldReached : Shape → List ℕ → List ℕ → Held → Type 0
+abbrev pub IsHeldReached : Shape → List ℕ → List ℕ → HeldRow → Type 0
 IsHeldReached s calm words n = IsSame calm words n × Reached s calm n.base n.kind
 
 -- What a call that has not begun its work knows: of calm by its stage, where `found` is the reply

@@ -9,13 +9,13 @@ use Rattle.art_rows.specs.Table.{info_at}
 use Rattle.art_rows.specs.declared.variant.Variant.TheVariants.{Optimistic}
 use Rattle.art_rows.specs.TreeCalls.{is_tree_call}
 use Rattle.art_rows.specs.Rows.{is_insert, is_scan}
-use Rattle.art_stages.specs.declared.stage.Stage.{Stage}
-use Rattle.art_stages.specs.Stages.{setting}
-use Rattle.art_stages.specs.Automaton.{stage_after}
+use Rattle.art_control_states.specs.declared.stage.Stage.{Stage}
+use Rattle.art_control_states.specs.Stages.{setting}
+use Rattle.art_control_states.specs.Automaton.{stage_after}
 use Rattle.art_core.specs.Core.{Plan, State}
 use Rattle.art_core.specs.Plans.{IsRun}
 use Rattle.art_core.specs.Meaning.{Means}
-use Rattle.art_serial.specs.trees.Trees.{IsAtRest}
+use Rattle.art_sequential.specs.trees.Trees.{IsAtRest}
 use Rattle.art_schedules.specs.versions.Holding.{Each, KnowsKey}
 use Rattle.art_schedules.specs.versions.Versions.{IsSettled}
 use Rattle.art_schedules.specs.versions.Steady.{IsSteady}
@@ -31,7 +31,7 @@ use Rattle.art_schedules.specs.calm.Changes.{IsRunStep}
 -- Before its first access a call knows its way.
 abbrev pub WaysBegin : Type 0
 WaysBegin = (shape : Shape) (call : Call) (calm words : List ℕ)
-    → KnowsWay (setting shape Optimistic call) calm words None (Rattle.art_stages.specs.Automaton.start_at false)
+    → KnowsWay (setting shape Optimistic call) calm words None (Rattle.art_control_states.specs.Automaton.start_at false)
 
 -- A call that knows its way goes on or starts again, or its work begins, or it finds what it will answer.
 abbrev pub WaysGoOn : Type 0

@@ -12,15 +12,15 @@ use Rattle.art_rows.specs.declared.access.Point.{Point}
 use Rattle.art_rows.specs.Steps.{Asks}
 use Rattle.art_rows.specs.TreeCalls.{is_tree_call}
 use Rattle.art_rows.specs.Rows.{is_scan}
-use Rattle.art_stages.specs.declared.stage.Stage.{Stage}
-use Rattle.art_stages.specs.Stages.{setting}
-use Rattle.art_stages.specs.Automaton.{turn_at}
-use Rattle.art_stages.specs.Calls.{OnKey, OnScan, call_turn}
-use Rattle.art_stages.specs.Scans.{ScanAt}
+use Rattle.art_control_states.specs.declared.stage.Stage.{Stage}
+use Rattle.art_control_states.specs.Stages.{setting}
+use Rattle.art_control_states.specs.Automaton.{turn_at}
+use Rattle.art_control_states.specs.Calls.{OnKey, OnScan, call_turn}
+use Rattle.art_control_states.specs.Scans.{ScanAt}
 use Rattle.art_core.specs.declared.process.Process.{Process}
 use Rattle.art_core.specs.Core.{Plan, State}
 use Rattle.art_core.specs.Meaning.{Means}
-use Rattle.art_serial.specs.trees.Trees.{IsAtRest}
+use Rattle.art_sequential.specs.trees.Trees.{IsAtRest}
 use Rattle.art_schedules.specs.versions.Versions.{IsOpen, stage_of, IsAtStage}
 use Rattle.art_schedules.specs.calm.Calm.{calm_of}
 use Rattle.art_schedules.specs.changes.Effects.{Effect}

@@ -12,20 +12,20 @@ use Rattle.art_rows.specs.declared.access.Access.{Access}
 use Rattle.art_rows.specs.declared.access.Point.{Point}
 use Rattle.art_rows.specs.Steps.{Turn, Asks, Answers}
 use Rattle.art_rows.specs.declared.variant.Variant.{Variant}
-use Rattle.art_stages.specs.Calls.{call_turn, call_after, call_begun}
-use Rattle.art_stages.specs.Stages.{setting}
+use Rattle.art_control_states.specs.Calls.{call_turn, call_after, call_begun}
+use Rattle.art_control_states.specs.Stages.{setting}
 use Rattle.art_core.specs.declared.process.Process.{Process}
 use Rattle.art_core.specs.Accesses.{got_by, words_after}
 use Rattle.art_core.specs.Core.{Plan, State, begun, next_call, opened_on}
 use Rattle.art_core.specs.Plans.{IsRun}
 use Rattle.art_core.specs.Meaning.{Means}
-use Rattle.art_serial.specs.trees.Trees.{IsAtRest}
+use Rattle.art_sequential.specs.trees.Trees.{IsAtRest}
 use Rattle.art_schedules.specs.versions.Versions.{IsOpen, stage_of}
 use Rattle.art_schedules.specs.calm.Calm.{calm_of, IsCalm}
 use Rattle.art_schedules.specs.calm.Changes.{CalmStep, IsRunStep}
 use Rattle.art_schedules.specs.changes.Effects.{Effect, pairs_after}
 use Rattle.art_schedules.specs.changes.Courses.{TreeGoesOn}
-use Rattle.art_schedules.specs.stories.Stories.{Status, Before, Found, Changed, HasNotChanged, HasReply, Tale, IsInCall}
+use Rattle.art_schedules.specs.stories.Stories.{Status, Before, Found, Changed, HasNotChanged, HasReply, Trace, IsInCall}
 
 -- the plan of these scripts, on a tree of this variant
 abbrev pub the_plan : Variant → Shape → List (List Call) → Plan
@@ -39,13 +39,13 @@ pub record MeansAt (plan : Plan) (words schedule : List ℕ) (u : ℕ) (m : Cont
   pub few : length m ≤ pair_limit
 
 -- A step of a run with a tale, with calm before and after it.
-pub record IsToldStep (plan : Plan) (start : Contents) (words schedule : List ℕ) (tale : Tale) (p : ℕ) (s t : State)
+pub record IsTraceStep (plan : Plan) (start : Contents) (words schedule : List ℕ) (tale : Trace) (p : ℕ) (s t : State)
     (calm after : List ℕ) : Type 0 where
   pub step : IsRunStep plan start words schedule p s t
   pub calm_is : calm ≡ calm_of plan words schedule
   pub after_is : after ≡ calm_of plan words (schedule ++ p ∷ [])
   pub calm_before : IsCalm plan.variant plan.shape words s calm
-  pub calm_behind : IsCalm plan.variant plan.shape words t after
+  pub calm_after_step : IsCalm plan.variant plan.shape words t after
   pub change : CalmStep plan.variant plan.shape s p t calm after
   pub claims : ℕ
   pub rests : IsAtRest plan.shape claims calm
@@ -56,7 +56,7 @@ pub record IsToldStep (plan : Plan) (start : Contents) (words schedule : List �
 -- What becomes of the status in a step that keeps the pairs. It stays, or what was found is
 -- forgotten, or a reply is found: in the pairs as they are now, or as they were at an earlier
 -- moment within the call.
-pub data Next (plan : Plan) (first : State) (schedule : List ℕ) (tale : Tale) (p calls : ℕ) (call : Call)
+pub data Next (plan : Plan) (first : State) (schedule : List ℕ) (tale : Trace) (p calls : ℕ) (call : Call)
     (status next : Status) : Type 0 where
   Stays : next ≡ status → Next plan first schedule tale p calls call status next
   Forgets : HasNotChanged status → next ≡ Before → Next plan first schedule tale p calls call status next
@@ -68,13 +68,13 @@ pub data Next (plan : Plan) (first : State) (schedule : List ℕ) (tale : Tale) 
       → Does (tale.pairs u) call reply (tale.pairs u) → Next plan first schedule tale p calls call status next
 
 -- If it is answered, its status is, or becomes, one that has the reply.
-abbrev pub HasItsReply : Plan → List ℕ → List ℕ → Tale → ℕ → Call → Process → Status → Reply → Type 0
+abbrev pub HasItsReply : Plan → List ℕ → List ℕ → Trace → ℕ → Call → Process → Status → Reply → Type 0
 HasItsReply plan words schedule tale p call q status reply =
     (next : Status) × Next plan (opened_on plan words) schedule tale p (length (begun q)) call status next × HasReply next reply
 
 -- What an open call does in a step of its own: it keeps the pairs, or changes them as it does with
 -- this reply. `Behind` is what has to hold after the step, by its effect and the status then.
-pub data OwnStep (plan : Plan) (words schedule : List ℕ) (tale : Tale) (p : ℕ) (t : State) (calm after : List ℕ) (call : Call)
+pub data OwnStep (plan : Plan) (words schedule : List ℕ) (tale : Trace) (p : ℕ) (t : State) (calm after : List ℕ) (call : Call)
     (q : Process) (status : Status)
     (Behind : Option Effect → Status → Type 0) : Type 0 where
   Keeps : (next : Status) → TreeGoesOn plan.shape t.words calm after (tale.pairs (length schedule)) None
@@ -153,20 +153,20 @@ pub record AreLed (plan : Plan) (start : Contents) (words : List ℕ) (Ghost : T
     (Fits : OfCall Ghost) : Type 0 where
   pub first : IsRun plan start words [] (opened_on plan words) → IsAtRest plan.shape (length start + 1) words → Means plan.shape words start
       → (ghost : Ghost) × World ghost [] (opened_on plan words) words
-  pub begins : (schedule : List ℕ) (tale : Tale) (p : ℕ) (s t : State) (calm after : List ℕ) (ghost : Ghost)
-      → IsToldStep plan start words schedule tale p s t calm after → World ghost schedule s calm → AllFit (Fits ghost) schedule s calm
+  pub begins : (schedule : List ℕ) (tale : Trace) (p : ℕ) (s t : State) (calm after : List ℕ) (ghost : Ghost)
+      → IsTraceStep plan start words schedule tale p s t calm after → World ghost schedule s calm → AllFit (Fits ghost) schedule s calm
       → (call : Call) (q later : Process) → BeginsCall plan s p t call q later
       → TreeGoesOn plan.shape t.words calm after (tale.pairs (length schedule)) None
       → IsLedOn Ghost World Fits ghost schedule p s t calm after (λ next. Fits next (schedule ++ p ∷ []) t after p call later Before)
-  pub own : (schedule : List ℕ) (tale : Tale) (p : ℕ) (s t : State) (calm after : List ℕ) (ghost : Ghost)
-      → IsToldStep plan start words schedule tale p s t calm after → World ghost schedule s calm → AllFit (Fits ghost) schedule s calm
+  pub own : (schedule : List ℕ) (tale : Trace) (p : ℕ) (s t : State) (calm after : List ℕ) (ghost : Ghost)
+      → IsTraceStep plan start words schedule tale p s t calm after → World ghost schedule s calm → AllFit (Fits ghost) schedule s calm
       → (call : Call) (q later : Process) (a : Access) (status : Status) → MakesAccess plan s p t call q later a
       → Fits ghost schedule s calm p call q status
       → OwnStep plan words schedule tale p t calm after call q status
       (λ effect now. IsLedOn Ghost World Fits ghost schedule p s t calm after
       (λ next. Fits next (schedule ++ p ∷ []) t after p call later now))
-  pub answers : (schedule : List ℕ) (tale : Tale) (p : ℕ) (s t : State) (calm after : List ℕ) (ghost : Ghost)
-      → IsToldStep plan start words schedule tale p s t calm after → World ghost schedule s calm → AllFit (Fits ghost) schedule s calm
+  pub answers : (schedule : List ℕ) (tale : Trace) (p : ℕ) (s t : State) (calm after : List ℕ) (ghost : Ghost)
+      → IsTraceStep plan start words schedule tale p s t calm after → World ghost schedule s calm → AllFit (Fits ghost) schedule s calm
       → (call : Call) (q : Process) (status : Status) (reply : Reply) → AnswersCall plan s p t call q reply
       → Fits ghost schedule s calm p call q status → TreeGoesOn plan.shape t.words calm after (tale.pairs (length schedule)) None
       → IsLedOn Ghost World Fits ghost schedule p s t calm after (λ next. HasItsReply plan words schedule tale p call q status reply)

@@ -6,9 +6,9 @@ use Rattle.orders.specs.Orders.{IsLinearizable}
 use Rattle.art_core.specs.Core.{Plan, State, history_of, opened_on}
 use Rattle.art_core.specs.Plans.{IsRun}
 use Rattle.art_core.specs.Meaning.{Means}
-use Rattle.art_serial.specs.trees.Trees.{IsAtRest}
+use Rattle.art_sequential.specs.trees.Trees.{IsAtRest}
 use Rattle.art_schedules.specs.calls.Effects.{HaveEffects}
-use Rattle.art_schedules.specs.stories.Stories.{Tale, IsStory}
+use Rattle.art_schedules.specs.stories.Stories.{Trace, IsStory}
 
 -- The words before the first step are a tree at rest, with no more claims than one and one a pair, and mean the starting pairs.
 abbrev pub StartsAreAtRest : Type 0
@@ -17,11 +17,11 @@ StartsAreAtRest = (plan : Plan) (start : Contents) (words schedule : List ℕ) (
 
 -- In a run with a story each call has its effect within itself;
 abbrev pub StoriesGiveEffects : Type 0
-StoriesGiveEffects = (plan : Plan) (start : Contents) (words schedule : List ℕ) (s : State) (tale : Tale)
+StoriesGiveEffects = (plan : Plan) (start : Contents) (words schedule : List ℕ) (s : State) (tale : Trace)
     → IsRun plan start words schedule s
     → IsStory plan start (opened_on plan words) schedule tale → HaveEffects plan start (opened_on plan words) schedule
 
 -- a run that has a story is linearizable
 abbrev pub StoriesGiveOrders : Type 0
-StoriesGiveOrders = (plan : Plan) (start : Contents) (words schedule : List ℕ) (s : State) (tale : Tale) → IsRun plan start words schedule s
+StoriesGiveOrders = (plan : Plan) (start : Contents) (words schedule : List ℕ) (s : State) (tale : Trace) → IsRun plan start words schedule s
     → IsStory plan start (opened_on plan words) schedule tale → IsLinearizable start (operations (history_of s))

@@ -27,7 +27,7 @@ HasReply (Found r) reply = r ≡ reply
 HasReply (Changed r) reply = r ≡ reply
 
 -- The tale of a run: the pairs before each step, and whether the step changes them.
-pub record Tale : Type 0 where
+pub record Trace : Type 0 where
   pub pairs : ℕ → Contents
   pub changes : ℕ → Bool
 
@@ -42,11 +42,11 @@ abbrev pub IsOwnStep : Plan → State → List ℕ → ℕ → ℕ → Call → 
 IsOwnStep plan first schedule p calls call u = (slice_get schedule u ≡ Some p) × IsInCall plan first schedule u p calls call
 
 -- up to moment t none of its steps has changed the pairs
-abbrev pub HasKept : Plan → State → List ℕ → Tale → ℕ → ℕ → ℕ → Call → Type 0
+abbrev pub HasKept : Plan → State → List ℕ → Trace → ℕ → ℕ → ℕ → Call → Type 0
 HasKept plan first schedule tale t p calls call = (u : ℕ) → u < t → IsOwnStep plan first schedule p calls call u → tale.changes u ≡ false
 
 -- None has, and at some moment within the call, up to t, the reply is legal and the call leaves the pairs as they are.
-pub record HasFound (plan : Plan) (first : State) (schedule : List ℕ) (tale : Tale) (t p calls : ℕ) (call : Call)
+pub record HasFound (plan : Plan) (first : State) (schedule : List ℕ) (tale : Trace) (t p calls : ℕ) (call : Call)
     (reply : Reply) : Type 0 where
   pub kept : HasKept plan first schedule tale t p calls call
   pub moment : ℕ
@@ -55,7 +55,7 @@ pub record HasFound (plan : Plan) (first : State) (schedule : List ℕ) (tale : 
   pub finds : Does (tale.pairs moment) call reply (tale.pairs moment)
 
 -- One of its steps before moment t has changed the pairs, as the call does with this reply.
-pub record HasChanged (plan : Plan) (first : State) (schedule : List ℕ) (tale : Tale) (t p calls : ℕ) (call : Call)
+pub record HasChanged (plan : Plan) (first : State) (schedule : List ℕ) (tale : Trace) (t p calls : ℕ) (call : Call)
     (reply : Reply) : Type 0 where
   pub step : ℕ
   pub until : step < t
@@ -66,14 +66,14 @@ pub record HasChanged (plan : Plan) (first : State) (schedule : List ℕ) (tale 
   pub only : (u : ℕ) → u < t → IsOwnStep plan first schedule p calls call u → tale.changes u ≡ true → u ≡ step
 
 -- how far the call has come at moment t
-abbrev pub HasStatus : Plan → State → List ℕ → Tale → ℕ → ℕ → ℕ → Call → Status → Type 0
+abbrev pub HasStatus : Plan → State → List ℕ → Trace → ℕ → ℕ → ℕ → Call → Status → Type 0
 HasStatus plan first schedule tale t p calls call Before = HasKept plan first schedule tale t p calls call
 HasStatus plan first schedule tale t p calls call (Found reply) = HasFound plan first schedule tale t p calls call reply
 HasStatus plan first schedule tale t p calls call (Changed reply) = HasChanged plan first schedule tale t p calls call reply
 
 -- The tale is a story of the run. Other steps leave the pairs. At each moment each open call has a
 -- status, and at the step that answers it this status has the reply.
-pub record IsStory (plan : Plan) (start : Contents) (first : State) (schedule : List ℕ) (tale : Tale) : Type 0 where
+pub record IsStory (plan : Plan) (start : Contents) (first : State) (schedule : List ℕ) (tale : Trace) : Type 0 where
   pub begins : tale.pairs 0 ≡ start
   pub stay : (t : ℕ) → t < length schedule → tale.changes t ≡ false → tale.pairs (t + 1) ≡ tale.pairs t
   pub in_call : (t p : ℕ) → slice_get schedule t ≡ Some p → tale.changes t ≡ true → IsInCallAt plan first schedule t p
@@ -84,4 +84,4 @@ pub record IsStory (plan : Plan) (start : Contents) (first : State) (schedule : 
 
 -- a run of these starting pairs, on these words, has a story
 abbrev pub HasStory : Plan → Contents → List ℕ → List ℕ → Type 0
-HasStory plan start words schedule = (tale : Tale) × IsStory plan start (opened_on plan words) schedule tale
+HasStory plan start words schedule = (tale : Trace) × IsStory plan start (opened_on plan words) schedule tale

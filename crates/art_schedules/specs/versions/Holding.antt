@@ -11,35 +11,35 @@ use Rattle.art_rows.specs.Words.{is_locked, child_of}
 use Rattle.art_rows.specs.declared.variant.Variant.TheVariants.{Optimistic}
 use Rattle.art_rows.specs.Rows.{Setting, is_insert, locks}
 use Rattle.art_rows.specs.Updates.{next_kind}
-use Rattle.art_stages.specs.declared.stage.Held.{Held}
-use Rattle.art_stages.specs.declared.stage.Keys.{Keys}
-use Rattle.art_stages.specs.declared.stage.Finding.{Finding}
-use Rattle.art_stages.specs.declared.stage.Finding.TheVariants.{Has, Lacks}
-use Rattle.art_stages.specs.declared.stage.Position.{Position}
-use Rattle.art_stages.specs.declared.stage.Down.{Down}
-use Rattle.art_stages.specs.declared.stage.Hold.{Hold}
-use Rattle.art_stages.specs.declared.stage.Work.{Work}
-use Rattle.art_stages.specs.declared.stage.Work.TheVariants as work
-use Rattle.art_stages.specs.declared.stage.Target.{Target}
-use Rattle.art_stages.specs.declared.stage.Target.TheVariants.{Root, Below, Taken}
-use Rattle.art_stages.specs.declared.stage.Growing.{Growing}
-use Rattle.art_stages.specs.declared.stage.Spread.{Spread}
-use Rattle.art_stages.specs.declared.stage.Stage.{Stage}
-use Rattle.art_stages.specs.declared.stage.Stage.TheVariants.{Lock, Exchange, Wait, Leave, Between, Info, Find, FindKeys, FindMore}
-use Rattle.art_stages.specs.declared.stage.Stage.TheVariants.{FindCount, Slot, Check}
-use Rattle.art_stages.specs.declared.stage.Stage.TheVariants.{CheckLast, LetGo, Take, Write, ClaimPair, StorePair, PutLoad, PutStore}
-use Rattle.art_stages.specs.declared.stage.Stage.TheVariants.{PutLeaf, PutKeys, PutMore}
-use Rattle.art_stages.specs.declared.stage.Stage.TheVariants.{PutCount, ClaimGrow, GrowInfo, GrowLoad, GrowStore, SpreadIndex, SpreadLoad}
-use Rattle.art_stages.specs.declared.stage.Stage.TheVariants.{SpreadStore}
-use Rattle.art_stages.specs.declared.stage.Stage.TheVariants.{GrowLeaf, GrowKeys, GrowCount, Hang, Obsolete, Unlock, Over}
-use Rattle.art_stages.specs.declared.stage.Entry.{Entry}
-use Rattle.art_stages.specs.declared.stage.Entry.TheVariants.{Root as AtRoot, Below as BelowRow}
-use Rattle.art_stages.specs.declared.stage.Frame.{Frame}
-use Rattle.art_stages.specs.declared.stage.ScanStep.{ScanStep}
-use Rattle.art_stages.specs.declared.stage.ScanStep.TheVariants as scan
-use Rattle.art_stages.specs.Stages.{held, count_in, place_in, leaf_place}
-use Rattle.art_stages.specs.Scans.{Walk, ScanAt}
-use Rattle.art_stages.specs.Calls.{CallAt, OnKey, OnScan}
+use Rattle.art_control_states.specs.declared.stage.HeldRow.{HeldRow}
+use Rattle.art_control_states.specs.declared.stage.Keys.{Keys}
+use Rattle.art_control_states.specs.declared.stage.Finding.{Finding}
+use Rattle.art_control_states.specs.declared.stage.Finding.TheVariants.{Has, Lacks}
+use Rattle.art_control_states.specs.declared.stage.Position.{Position}
+use Rattle.art_control_states.specs.declared.stage.Down.{Down}
+use Rattle.art_control_states.specs.declared.stage.Hold.{Hold}
+use Rattle.art_control_states.specs.declared.stage.Work.{Work}
+use Rattle.art_control_states.specs.declared.stage.Work.TheVariants as work
+use Rattle.art_control_states.specs.declared.stage.Target.{Target}
+use Rattle.art_control_states.specs.declared.stage.Target.TheVariants.{Root, Below, Taken}
+use Rattle.art_control_states.specs.declared.stage.Growing.{Growing}
+use Rattle.art_control_states.specs.declared.stage.Spread.{Spread}
+use Rattle.art_control_states.specs.declared.stage.Stage.{Stage}
+use Rattle.art_control_states.specs.declared.stage.Stage.TheVariants.{Lock, Exchange, Wait, Leave, Between, Info, Find, FindKeys, FindMore}
+use Rattle.art_control_states.specs.declared.stage.Stage.TheVariants.{FindCount, Slot, Check}
+use Rattle.art_control_states.specs.declared.stage.Stage.TheVariants.{CheckLast, LetGo, Take, Write, ClaimPair, StorePair, PutLoad, PutStore}
+use Rattle.art_control_states.specs.declared.stage.Stage.TheVariants.{PutLeaf, PutKeys, PutMore}
+use Rattle.art_control_states.specs.declared.stage.Stage.TheVariants.{PutCount, ClaimGrow, GrowInfo, GrowLoad, GrowStore, SpreadIndex, SpreadLoad}
+use Rattle.art_control_states.specs.declared.stage.Stage.TheVariants.{SpreadStore}
+use Rattle.art_control_states.specs.declared.stage.Stage.TheVariants.{GrowLeaf, GrowKeys, GrowCount, Hang, Obsolete, Unlock, Over}
+use Rattle.art_control_states.specs.declared.stage.Entry.{Entry}
+use Rattle.art_control_states.specs.declared.stage.Entry.TheVariants.{Root as AtRoot, Below as BelowRow}
+use Rattle.art_control_states.specs.declared.stage.Frame.{Frame}
+use Rattle.art_control_states.specs.declared.stage.ScanStep.{ScanStep}
+use Rattle.art_control_states.specs.declared.stage.ScanStep.TheVariants as scan
+use Rattle.art_control_states.specs.Stages.{held, count_in, place_in, leaf_place}
+use Rattle.art_control_states.specs.Scans.{Walk, ScanAt}
+use Rattle.art_control_states.specs.Calls.{CallAt, OnKey, OnScan}
 use Rattle.art_schedules.specs.versions.Locking.{all_of, locks_of, rows_of_hold, rows_of_target, scan_held, held_at_place, held_below}
 use Rattle.art_schedules.specs.versions.Locking.{held_at_stage}
 
@@ -72,15 +72,15 @@ child_rows (Leaf key value) = []
 
 -- The rows of which a call has kept a version: where reads are locked, those that it holds.
 
-abbrev pub kept_at_place : Bool → Bool → Position → List Held
+abbrev pub kept_at_place : Bool → Bool → Position → List HeldRow
 kept_at_place true i p = held_at_place true i p
 kept_at_place false i p = p.row ∷ all_of p.above
 
-abbrev pub kept_below : Bool → Bool → Down → ℕ → List Held
+abbrev pub kept_below : Bool → Bool → Down → ℕ → List HeldRow
 kept_below true i d kept = held_below true i d kept
 kept_below false i d kept = held d.base d.kind 0 kept ∷ d.above ∷ []
 
-abbrev pub rows_kept : Bool → Bool → Stage → List Held
+abbrev pub rows_kept : Bool → Bool → Stage → List HeldRow
 rows_kept l i (Lock t first) = rows_of_target t
 rows_kept l i (Exchange t v) = rows_of_target t
 rows_kept l i (Wait t) = rows_of_target t
@@ -173,16 +173,16 @@ row_filled stage = []
 
 -- What it knows of slots and places.
 
-abbrev pub IsUnder : Option Held → Held → ℕ → Type 0
+abbrev pub IsUnder : Option HeldRow → HeldRow → ℕ → Type 0
 IsUnder None n slot = n.kind ≡ Full
 IsUnder (Some a) n slot = IsSlot a.base a.kind slot
 
 -- the row above, which is held too, has the slot
-abbrev pub HangsIn : Option Held → ℕ → Type 0
+abbrev pub HangsIn : Option HeldRow → ℕ → Type 0
 HangsIn None slot = ⊥
 HangsIn (Some a) slot = IsSlot a.base a.kind slot
 
-abbrev pub IsFound : Held → Finding → Type 0
+abbrev pub IsFound : HeldRow → Finding → Type 0
 IsFound n (Has slot child) = IsSlot n.base n.kind slot
 IsFound n (Lacks keys) = Unit {0}
 
@@ -196,13 +196,13 @@ abbrev pub HasPlace : Kind → Keys → Type 0
 HasPlace Full keys = ⊥
 HasPlace kind keys = count_in kind keys < capacity kind
 
-abbrev pub FitsWork : Held → Option Held → Work → Type 0
+abbrev pub FitsWork : HeldRow → Option HeldRow → Work → Type 0
 FitsWork n above (work.Write slot word reply) = IsSlot n.base n.kind slot
 FitsWork n above (work.Pair p) = IsSlot n.base n.kind p.slot
 FitsWork n above (work.Put keys) = count_in n.kind keys < capacity n.kind
 FitsWork n above (work.Grow slot keys) = HangsIn above slot
 
-abbrev pub FitsTaking : Held → Option Held → Option Held → Work → Type 0
+abbrev pub FitsTaking : HeldRow → Option HeldRow → Option HeldRow → Work → Type 0
 FitsTaking n above None work = FitsWork n above work
 FitsTaking n None (Some m) work = FitsWork m (Some n) work
 FitsTaking n (Some a) (Some m) work = ⊥
@@ -244,7 +244,7 @@ FitsCheck true p f = ⊥
 FitsCheck false p f = FitsPlace p × IsFound p.row f
 
 -- what was found there leaves the row above as it is
-abbrev pub HasRoom : Held → Finding → Type 0
+abbrev pub HasRoom : HeldRow → Finding → Type 0
 HasRoom n (Has slot child) = Unit {0}
 HasRoom n (Lacks keys) = count_in n.kind keys < capacity n.kind
 
@@ -328,7 +328,7 @@ abbrev pub FitsFrame : OfRows → Frame → Type 0
 FitsFrame P f = P f.row.base f.row.kind × (f.byte + f.left ≤ 256)
 
 -- none of these rows is the one that was locked last
-abbrev pub IsFresh : Bool → ℕ → List Held → Type 0
+abbrev pub IsFresh : Bool → ℕ → List HeldRow → Type 0
 IsFresh true base rows = Each (λ n. n.base ≢ base) rows
 IsFresh false base rows = Unit {0}
 
@@ -342,7 +342,7 @@ FitsScan l P (scan.Child f slot) w = FitsFrame P f × IsSlot f.row.base f.row.ki
 FitsScan l P step w = Unit {0}
 
 -- a row of which such a version is kept
-abbrev pub IsKept : Bool → OfRows → Held → Type 0
+abbrev pub IsKept : Bool → OfRows → HeldRow → Type 0
 IsKept l P h = IsVersion l h.kept × P h.base h.kind
 
 abbrev pub IsNamed : OfRows → Named → Type 0
@@ -369,7 +369,7 @@ Knows P c (OnKey stage) = KnowsKey P c stage
 Knows P c (OnScan low high at) = KnowsScanRows P (locks c.variant) at
 
 -- the rows that it holds, each with the version from which it was locked,
-abbrev pub holds : Setting → CallAt → List Held
+abbrev pub holds : Setting → CallAt → List HeldRow
 holds c (OnKey stage) = locks_of (held_at_stage (locks c.variant) (is_insert c.call) stage)
 holds c (OnScan low high at) = locks_of (scan_held (locks c.variant) at.step at.walk)
 

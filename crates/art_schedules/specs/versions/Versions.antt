@@ -7,12 +7,12 @@ use Rattle.art_rows.specs.declared.table.Kind.TheVariants.{Full}
 use Rattle.art_rows.specs.Table.{table_words, claims_of, root_base, kind_at}
 use Rattle.art_rows.specs.Words.{is_locked}
 use Rattle.art_rows.specs.declared.variant.Variant.{Variant}
-use Rattle.art_stages.specs.declared.stage.Held.{Held}
-use Rattle.art_stages.specs.Stages.{setting}
-use Rattle.art_stages.specs.Calls.{CallAt, call_behind}
+use Rattle.art_control_states.specs.declared.stage.HeldRow.{HeldRow}
+use Rattle.art_control_states.specs.Stages.{setting}
+use Rattle.art_control_states.specs.Calls.{CallAt, call_after_words}
 use Rattle.art_core.specs.declared.process.Process.{Process}
 use Rattle.art_core.specs.Core.{State}
-use Rattle.art_serial.specs.trees.Trees.{IsClaimed}
+use Rattle.art_sequential.specs.trees.Trees.{IsClaimed}
 use Rattle.art_schedules.specs.versions.Holding.{Named, Knows, holds, fills}
 use Rattle.art_schedules.specs.versions.Effects.{IsGoodAt, IsAmong}
 
@@ -23,7 +23,7 @@ pub record IsOpen (s : State) (p : ℕ) (call : Call) (q : Process) : Type 0 whe
 
 -- the stage at which it is
 abbrev pub stage_of : Variant → Shape → Call → Process → CallAt
-stage_of variant shape call q = call_behind (setting shape variant call) q.got
+stage_of variant shape call q = call_after_words (setting shape variant call) q.got
 
 -- the process is in this call, at this stage
 pub record IsAtStage (variant : Variant) (shape : Shape) (s : State) (p : ℕ) (call : Call) (stage : CallAt) : Type 0 where
@@ -32,15 +32,15 @@ pub record IsAtStage (variant : Variant) (shape : Shape) (s : State) (p : ℕ) (
   pub at : stage_of variant shape call process ≡ stage
 
 -- the rows that it holds there, and the row that it fills
-abbrev pub held_by : Variant → Shape → Call → Process → List Held
+abbrev pub held_by : Variant → Shape → Call → Process → List HeldRow
 held_by variant shape call q = holds (setting shape variant call) (stage_of variant shape call q)
 
 -- this is so of each row that the call holds there,
-abbrev pub AllHeld : Variant → Shape → Call → Process → (Held → Type 0) → Type 0
-AllHeld variant shape call q P = (h : Held) → IsAmong h (held_by variant shape call q) → P h
+abbrev pub AllHeld : Variant → Shape → Call → Process → (HeldRow → Type 0) → Type 0
+AllHeld variant shape call q P = (h : HeldRow) → IsAmong h (held_by variant shape call q) → P h
 
 -- each row that the process holds has this
-abbrev pub EachHeld : Variant → Shape → State → ℕ → (Held → Type 0) → Type 0
+abbrev pub EachHeld : Variant → Shape → State → ℕ → (HeldRow → Type 0) → Type 0
 EachHeld variant shape s p P = (call : Call) (q : Process) → IsOpen s p call q → AllHeld variant shape call q P
 
 abbrev pub filled_by : Variant → Shape → Call → Process → List Named
@@ -58,14 +58,14 @@ pub record IsHeld (variant : Variant) (shape : Shape) (s : State) (base : ℕ) :
   pub call : Call
   pub process : Process
   pub is_open : IsOpen s holder call process
-  pub row : Held
+  pub row : HeldRow
   pub among : IsAmong row (held_by variant shape call process)
   pub is : row.base ≡ base
 
 -- no row is among them twice
-abbrev pub AreDistinct : List Held → Type 0
+abbrev pub AreDistinct : List HeldRow → Type 0
 AreDistinct [] = Unit {0}
-AreDistinct (h ∷ hs) = ((x : Held) → IsAmong x hs → h.base ≢ x.base) × AreDistinct hs
+AreDistinct (h ∷ hs) = ((x : HeldRow) → IsAmong x hs → h.base ≢ x.base) × AreDistinct hs
 
 -- Where n steps were made at most.
 pub record IsSound (variant : Variant) (shape : Shape) (n : ℕ) (s : State) : Type 0 where
@@ -86,7 +86,7 @@ pub record IsSound (variant : Variant) (shape : Shape) (n : ℕ) (s : State) : T
   pub held : (base : ℕ) (kind : Kind) → kind_at shape base ≡ Some kind → is_locked (slice_index s.words base) ≡ true
       → IsHeld variant shape s base
   pub distinct : (p : ℕ) (call : Call) (q : Process) → IsOpen s p call q → AreDistinct (held_by variant shape call q)
-  pub apart : (p r : ℕ) (call other : Call) (q w : Process) → IsOpen s p call q → IsOpen s r other w → (h x : Held)
+  pub apart : (p r : ℕ) (call other : Call) (q w : Process) → IsOpen s p call q → IsOpen s r other w → (h x : HeldRow)
       → IsAmong h (held_by variant shape call q) → IsAmong x (held_by variant shape other w) → h.base ≡ x.base → p ≡ r
   -- a row that a process fills was claimed, and no two processes fill one row
   pub filled : (p : ℕ) (call : Call) (q : Process) → IsOpen s p call q → (b : ℕ) (k : Kind) → filled_by variant shape call q ≡ (b, k) ∷ []

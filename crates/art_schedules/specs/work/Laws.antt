@@ -2,11 +2,11 @@
 use Rattle.std.specs.Prelude.{◌≡◌, ℕ, ◌≤◌, List, length, false}
 use Rattle.art_rows.specs.Table.{table_words}
 use Rattle.art_rows.specs.Rows.{Setting, is_scan}
-use Rattle.art_stages.specs.declared.stage.Hold.{Hold}
-use Rattle.art_stages.specs.declared.stage.Work.{Work}
-use Rattle.art_stages.specs.declared.stage.Stage.{Stage}
-use Rattle.art_stages.specs.Automaton.{work_at}
-use Rattle.art_stages.specs.Calls.{OnKey}
+use Rattle.art_control_states.specs.declared.stage.Hold.{Hold}
+use Rattle.art_control_states.specs.declared.stage.Work.{Work}
+use Rattle.art_control_states.specs.declared.stage.Stage.{Stage}
+use Rattle.art_control_states.specs.Automaton.{work_at}
+use Rattle.art_control_states.specs.Calls.{OnKey}
 use Rattle.art_schedules.specs.versions.Holding.{Knows}
 use Rattle.art_schedules.specs.versions.Laws.{IsFull}
 use Rattle.art_schedules.specs.work.Solo.{Solo}

@@ -8,29 +8,29 @@ use Rattle.art_rows.specs.declared.access.Access.TheVariants.{Load, Store, Add}
 use Rattle.art_rows.specs.declared.access.Point.{Point}
 use Rattle.art_rows.specs.Steps.{Asks, Answers}
 use Rattle.art_rows.specs.Rows.{Setting}
-use Rattle.art_stages.specs.declared.stage.Held.{Held}
-use Rattle.art_stages.specs.declared.stage.Stage.{Stage}
-use Rattle.art_stages.specs.declared.stage.Stage.TheVariants.{Lock, Exchange, Wait, Leave, Between, Info, Find, FindKeys, FindMore}
-use Rattle.art_stages.specs.declared.stage.Stage.TheVariants.{FindCount, Slot, Check}
-use Rattle.art_stages.specs.declared.stage.Stage.TheVariants.{CheckLast, LetGo, Take, Obsolete, Unlock, ClaimPair, ClaimGrow}
-use Rattle.art_stages.specs.declared.stage.ScanStep.TheVariants as scan
-use Rattle.art_stages.specs.declared.stage.ScanStep.{ScanStep}
-use Rattle.art_stages.specs.Calls.{CallAt, OnKey, OnScan, call_turn}
+use Rattle.art_control_states.specs.declared.stage.HeldRow.{HeldRow}
+use Rattle.art_control_states.specs.declared.stage.Stage.{Stage}
+use Rattle.art_control_states.specs.declared.stage.Stage.TheVariants.{Lock, Exchange, Wait, Leave, Between, Info, Find, FindKeys, FindMore}
+use Rattle.art_control_states.specs.declared.stage.Stage.TheVariants.{FindCount, Slot, Check}
+use Rattle.art_control_states.specs.declared.stage.Stage.TheVariants.{CheckLast, LetGo, Take, Obsolete, Unlock, ClaimPair, ClaimGrow}
+use Rattle.art_control_states.specs.declared.stage.ScanStep.TheVariants as scan
+use Rattle.art_control_states.specs.declared.stage.ScanStep.{ScanStep}
+use Rattle.art_control_states.specs.Calls.{CallAt, OnKey, OnScan, call_turn}
 use Rattle.art_schedules.specs.versions.Holding.{Each, holds, fills}
-use Rattle.art_schedules.specs.versions.Effects.{IsAmong, IsBehindVersion}
+use Rattle.art_schedules.specs.versions.Effects.{IsAmong, IsAfterVersion}
 
 -- the word is one of a row that the call holds, after the row's version
 pub record IsHeldWord (c : Setting) (at : CallAt) (word : ℕ) : Type 0 where
-  pub row : Held
+  pub row : HeldRow
   pub among : IsAmong row (holds c at)
-  pub behind : IsBehindVersion row.base row.kind word
+  pub behind : IsAfterVersion row.base row.kind word
 
 -- it is one of the row that the call fills
 pub record IsFilledWord (at : CallAt) (word : ℕ) : Type 0 where
   pub base : ℕ
   pub kind : Kind
   pub filled : fills at ≡ (base, kind) ∷ []
-  pub behind : IsBehindVersion base kind word
+  pub behind : IsAfterVersion base kind word
 
 -- the stages that claim a row
 abbrev pub is_claim : Stage → Bool
@@ -63,7 +63,7 @@ pub data TouchesOwn (c : Setting) (at : CallAt) : Type 0 where
       → TouchesOwn c at
   ClaimsRow : (kind : Kind) → (mark : Option Point) → call_turn c at ≡ Asks (Add (claims_of kind)) mark
       → may_claim at ≡ true → TouchesOwn c at
-  ReleasesHeld : (row : Held) → (value : ℕ) → (mark : Option Point) → call_turn c at ≡ Asks (Store row.base value) mark
+  ReleasesHeld : (row : HeldRow) → (value : ℕ) → (mark : Option Point) → call_turn c at ≡ Asks (Store row.base value) mark
       → IsAmong row (holds c at)
       → may_release at ≡ true → TouchesOwn c at
   Replies : (reply : Reply) → call_turn c at ≡ Answers reply → TouchesOwn c at
@@ -101,10 +101,10 @@ is_lock (OnScan low high at) = is_lock_step at.step
 
 -- What else holds of a call that locks what it reads. It counts only the children of a row of kind
 -- 48. A scan holds each row that it reads, or that is on its way.
-abbrev pub IsWalked : Held → List Held → Type 0
-IsWalked n rows = (row : Held) × IsAmong row rows × (row.base ≡ n.base)
+abbrev pub IsWalked : HeldRow → List HeldRow → Type 0
+IsWalked n rows = (row : HeldRow) × IsAmong row rows × (row.base ≡ n.base)
 
-abbrev pub ReadsWalked : ScanStep → List Held → Type 0
+abbrev pub ReadsWalked : ScanStep → List HeldRow → Type 0
 ReadsWalked (scan.Keys n) rows = IsWalked n rows
 ReadsWalked (scan.FirstKeys n count) rows = IsWalked n rows
 ReadsWalked (scan.SecondKeys n count first) rows = IsWalked n rows

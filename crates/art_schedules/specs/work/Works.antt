@@ -11,21 +11,21 @@ use Rattle.art_rows.specs.Table.{capacity, rows_of, base_of, info_at, kind_at}
 use Rattle.art_rows.specs.Words.{key_bytes, info_word, row_word, child_of}
 use Rattle.art_rows.specs.Rows.{Setting, key_of, byte_at}
 use Rattle.art_rows.specs.Updates.{Under, new_leaf, next_kind}
-use Rattle.art_stages.specs.declared.stage.Held.{Held}
-use Rattle.art_stages.specs.declared.stage.Keys.{Keys}
-use Rattle.art_stages.specs.declared.stage.Hold.{Hold}
-use Rattle.art_stages.specs.declared.stage.Work.{Work}
-use Rattle.art_stages.specs.declared.stage.Work.TheVariants as work
-use Rattle.art_stages.specs.declared.stage.Outcome.TheVariants.{Value, Refused}
-use Rattle.art_stages.specs.declared.stage.Stage.{Stage}
-use Rattle.art_stages.specs.declared.stage.Stage.TheVariants.{Unlock, Obsolete}
-use Rattle.art_stages.specs.Stages.{row_at, byte_in, old_child, new_child, count_in, keys_in}
-use Rattle.art_stages.specs.Automaton.{no_value}
+use Rattle.art_control_states.specs.declared.stage.HeldRow.{HeldRow}
+use Rattle.art_control_states.specs.declared.stage.Keys.{Keys}
+use Rattle.art_control_states.specs.declared.stage.Hold.{Hold}
+use Rattle.art_control_states.specs.declared.stage.Work.{Work}
+use Rattle.art_control_states.specs.declared.stage.Work.TheVariants as work
+use Rattle.art_control_states.specs.declared.stage.Outcome.TheVariants.{Value, Refused}
+use Rattle.art_control_states.specs.declared.stage.Stage.{Stage}
+use Rattle.art_control_states.specs.declared.stage.Stage.TheVariants.{Unlock, Obsolete}
+use Rattle.art_control_states.specs.Stages.{row_at, byte_in, old_child, new_child, count_in, keys_in}
+use Rattle.art_control_states.specs.Automaton.{no_value}
 use Rattle.art_core.specs.Meaning.{slot_of, child_on}
 use Rattle.art_core.specs.Forms.{HasForm}
-use Rattle.art_serial.specs.writes.Writes.{HasPut, IsOutside}
-use Rattle.art_serial.specs.trees.Trees.{IsUnused}
-use Rattle.art_serial.specs.alone.Finding.{count_in_row, keys_in_row}
+use Rattle.art_sequential.specs.writes.Writes.{HasPut, IsOutside}
+use Rattle.art_sequential.specs.trees.Trees.{IsUnused}
+use Rattle.art_sequential.specs.alone.Finding.{count_in_row, keys_in_row}
 use Rattle.art_schedules.specs.versions.Holding.{OfRows}
 
 -- the rows of the table
@@ -40,7 +40,7 @@ pub record IsInsert (call : Call) : Type 0 where
   pub small : value < 2 ^ 30
 
 -- The row has form and lacks the key's byte, and the keys are those that the words have.
-pub record LacksByte (c : Setting) (n : Held) (seen : Keys) (words : List ℕ) : Type 0 where
+pub record LacksByte (c : Setting) (n : HeldRow) (seen : Keys) (words : List ℕ) : Type 0 where
   pub form : HasForm words n.base n.kind
   pub absent : slot_of words n.base n.kind (byte_in c n) ≡ None
   pub keys : keys_in n.kind seen ≡ keys_in_row words n.base n.kind (byte_in c n)

@@ -2,7 +2,7 @@
 ghost use Rattle.art_schedules.specs.stories.Laws.{StartsAreAtRest, StoriesGiveEffects, StoriesGiveOrders};
 
 use crate::laws::calls::effects_give_orders;
-use art_serial::{
+use art_sequential::{
     inserts_are_the_maps, same_trees_are_one, scans_are_the_maps, seeks_are_the_maps,
     tables_open_at_rest,
 };

@@ -1,5 +1,5 @@
 use Rattle.std.proofs.Common.{sym, ◌∙◌}
-use Rattle.art_stages.specs.Settings.{setting_of}
+use Rattle.art_control_states.specs.Settings.{setting_of}
 use Rattle.art.proofs.GoingLemmas.{begun_key, begun_scan, keys_of_key, keys_of_scan}
 use Rattle.art.proofs.task.beginning_of.Goals as goal
 

@@ -2,10 +2,10 @@ use Rattle.std.proofs.Common.{sym, ◌∙◌}
 use Rattle.art_scan.proofs.NextLemmas.{words_some, words_skip, words_past}
 use Rattle.art_scan.proofs.children.+go_to_word.Goals as goal
 
-pub returns-then-is_behind-clause-next : goal.returns-then-is_behind-clause-next
-returns-then-is_behind-clause-next t c = λ w other.
+pub returns-then-all_are_after-clause-next : goal.returns-then-all_are_after-clause-next
+returns-then-all_are_after-clause-next t c = λ w other.
     words_past c.args.low c.args.high c.args.row w c.args.index c.args.words other
-    (c.is_behind.ensures.behind c.if-is_behind.true c.args.low)
+    (c.all_are_after.ensures.behind c.if-all_are_after.true c.args.low)
 
 pub returns-then-is_met_in-clause-next : goal.returns-then-is_met_in-clause-next
 returns-then-is_met_in-clause-next t c = λ w other.

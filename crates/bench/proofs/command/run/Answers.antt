@@ -1,10 +1,10 @@
 use Rattle.std.specs.Prelude.{refl}
 use Rattle.clap.specs.Walk.{texts}
-use Rattle.plan_engines.specs.Answers.{IsReplayAnswer, IsReplayRefusal}
-use Rattle.outcomes.specs.Ends.{change}
-use Rattle.line_outcomes.proofs.OutcomeLemmas.{read-words, fault-words}
-use Rattle.judge_lines.specs.Outcomes.{AsksForTrees}
-use Rattle.judge_lines.proofs.OutcomeLemmas.{judged-words}
+use Rattle.cli_plans.specs.Answers.{IsReplayAnswer, IsReplayRefusal}
+use Rattle.cli_outcome.specs.Ends.{change}
+use Rattle.cli_words.proofs.OutcomeLemmas.{read-words, fault-words}
+use Rattle.cli_dispatch.specs.Outcomes.{AsksForTrees}
+use Rattle.cli_dispatch.proofs.OutcomeLemmas.{judged-words}
 use Rattle.bench.specs.Outcomes.{IsLineOutcome, shape_of, variant_of}
 use Rattle.bench.proofs.OutcomeLemmas.{drawn-words, driven-words, judged-line, not-trees, scheduled-words}
 use Rattle.bench.proofs.command.run.Goals as goal

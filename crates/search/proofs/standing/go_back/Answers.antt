@@ -1,6 +1,6 @@
 use Rattle.search.proofs.Common.{◌≡◌, ◌-◌, ◌<◌, List, [], ◌∷◌, ◌++◌, length, take, refl, sym, ap, ◌∙◌, subst, inl, arith, slice_index, vec_len}
-use Rattle.search.proofs.Common.{append-nil, length-set, IsOrder, Level, StandsAtCursor, put_back, places, untried, StandsWith}
-use Rattle.search.proofs.WalkLemmas.{IsExhausted-from_past, below-popped, StandsWith-back, untried-back, StandsWith-same}
+use Rattle.search.proofs.Common.{append-nil, length-set, IsOrder, Level, StandsAtCursor, put_back, places, untried, IsStateBut}
+use Rattle.search.proofs.WalkLemmas.{IsExhausted-from_past, below-popped, IsStateBut-back, untried-back, IsStateBut-same}
 use Rattle.search.proofs.standing.go_back.Goals as goal
 
 pub returns-in_default : goal.returns-in_default
@@ -19,7 +19,7 @@ put_back-requires g c =
     let calls = c.args.calls.now in
     let w = c.args.standing.now in
     let is = c.in-Some.ensures.items in
-    let s = subst (λ (ls : List Level). StandsWith g.start calls ls w.next w.at w.map w.memo w.calls w.answers) is c.requires.1.0 in
+    let s = subst (λ (ls : List Level). IsStateBut g.start calls ls w.next w.at w.map w.memo w.calls w.answers) is c.requires.1.0 in
     let past = subst (λ (ls : List Level). StandsAtCursor g.start calls (places ls) (length calls) w.memo) is c.requires.1.1.0 in
     let not_order = subst (λ (ls : List Level). IsOrder g.start calls (places ls) → ⊥) is c.requires.1.1.1 in
     let below = below-popped g.start calls c.requires.0 c.pop.new.self.items c.in-Some.level w.next w.at w.map w.memo w.calls w.answers
@@ -31,7 +31,7 @@ put_back-requires-2 g c =
     let calls = c.args.calls.now in
     let w = c.args.standing.now in
     let is = c.in-Some.ensures.items in
-    let s = subst (λ (ls : List Level). StandsWith g.start calls ls w.next w.at w.map w.memo w.calls w.answers) is c.requires.1.0 in
+    let s = subst (λ (ls : List Level). IsStateBut g.start calls ls w.next w.at w.map w.memo w.calls w.answers) is c.requires.1.0 in
     let past = subst (λ (ls : List Level). StandsAtCursor g.start calls (places ls) (length calls) w.memo) is c.requires.1.1.0 in
     let not_order = subst (λ (ls : List Level). IsOrder g.start calls (places ls) → ⊥) is c.requires.1.1.1 in
     let below = below-popped g.start calls c.requires.0 c.pop.new.self.items c.in-Some.level w.next w.at w.map w.memo w.calls w.answers
@@ -44,7 +44,7 @@ after-standing-requires g c =
     let w = c.args.standing.now in
     let is = c.in-Some.ensures.items in
     let place = c.in-Some.level.place in
-    let s = subst (λ (ls : List Level). StandsWith g.start calls ls w.next w.at w.map w.memo w.calls w.answers) is c.requires.1.0 in
+    let s = subst (λ (ls : List Level). IsStateBut g.start calls ls w.next w.at w.map w.memo w.calls w.answers) is c.requires.1.0 in
     let past = subst (λ (ls : List Level). StandsAtCursor g.start calls (places ls) (length calls) w.memo) is c.requires.1.1.0 in
     let not_order = subst (λ (ls : List Level). IsOrder g.start calls (places ls) → ⊥) is c.requires.1.1.1 in
     let below = below-popped g.start calls c.requires.0 c.pop.new.self.items c.in-Some.level w.next w.at w.map w.memo w.calls w.answers
@@ -59,11 +59,11 @@ returns g c =
     let level = c.in-Some.level in
     let levels = c.pop.new.self.items in
     let is = c.in-Some.ensures.items in
-    let s = subst (λ (ls : List Level). StandsWith g.start calls ls w.next w.at w.map w.memo w.calls w.answers) is c.requires.1.0 in
+    let s = subst (λ (ls : List Level). IsStateBut g.start calls ls w.next w.at w.map w.memo w.calls w.answers) is c.requires.1.0 in
     let past = subst (λ (ls : List Level). StandsAtCursor g.start calls (places ls) (length calls) w.memo) is c.requires.1.1.0 in
     let not_order = subst (λ (ls : List Level). IsOrder g.start calls (places ls) → ⊥) is c.requires.1.1.1 in
     let stands =
-    StandsWith-back g.start calls c.requires.0 levels level w.next w.at w.map w.memo w.calls w.answers s past not_order c.undo_call.new.map
+    IsStateBut-back g.start calls c.requires.0 levels level w.next w.at w.map w.memo w.calls w.answers s past not_order c.undo_call.new.map
     c.in_ok-undo_call.ensures in
     let less = untried-back g.start calls c.requires.0 levels level w.next w.at w.map w.memo w.calls w.answers s past not_order in
     let next = slice_index (put_back w.calls level.place).after level.place in
@@ -71,7 +71,7 @@ returns g c =
     ∙ ap (λ l. slice_index l.after level.place) c.put_back.ensures in
     record {
       stands =
-          StandsWith-same g.start calls levels levels next c.after-standing.result level.at level.at c.undo_call.new.map
+          IsStateBut-same g.start calls levels levels next c.after-standing.result level.at level.at c.undo_call.new.map
           c.undo_call.new.map w.memo w.memo
           (put_back w.calls level.place) c.put_back.new.self
           (put_back w.answers level.place) c.put_back-2.new.self refl next_is refl refl refl c.put_back.ensures c.put_back-2.ensures stands;

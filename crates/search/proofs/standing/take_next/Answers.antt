@@ -4,8 +4,8 @@ use Rattle.search.proofs.Common.{HasMoved, IsPushed}
 use Rattle.memo.specs.Taking.{after_one}
 use Rattle.memo.proofs.TakingLemmas.{Contains-with_place, with_place-rises}
 use Rattle.search.proofs.MemoLemmas.{not_new}
-use Rattle.search.proofs.WalkLemmas.{StandsWith-passed, untried-passed, LeadsTo-taken, cursor-seen, StandsWith-push, untried-pushed, places-push}
-use Rattle.search.proofs.WalkLemmas.{StandsWith-same}
+use Rattle.search.proofs.WalkLemmas.{IsStateBut-passed, untried-passed, LeadsTo-taken, cursor-seen, IsStateBut-push, untried-pushed, places-push}
+use Rattle.search.proofs.WalkLemmas.{IsStateBut-same}
 use Rattle.search.proofs.standing.take_next.Goals as goal
 
 -- a result that is weaker said
@@ -63,13 +63,13 @@ returns g c =
     may.preceded legal
     config
     leads within in
-    let stands = StandsWith-passed g.start calls c.requires.1.0 w.levels.items w.next w.at w.map w.memo w.calls w.answers s may.known
+    let stands = IsStateBut-passed g.start calls c.requires.1.0 w.levels.items w.next w.at w.map w.memo w.calls w.answers s may.known
     may.not_order cursor in
     let less = untried-passed g.start calls c.requires.1.0 w.levels.items w.next w.at w.map w.memo w.calls w.answers s
     may.known may.not_order in
     record {
       stands =
-          StandsWith-same g.start calls w.levels.items w.levels.items
+          IsStateBut-same g.start calls w.levels.items w.levels.items
           (slice_index w.calls.after w.next) c.after-standing.result w.at w.at w.map c.undo_call.new.map w.memo
           c.visit_next.new.self w.calls w.calls
           w.answers w.answers refl c.after-standing.ensures.after refl
@@ -109,7 +109,7 @@ returns-then-new g c =
     } in
     on_ok (IsPushed (length calls) w.next c.in_ok-undo.undo middle n) (HasMoved g.start calls w n) c.push.result (λ p.
     let stands =
-    StandsWith-push g.start calls c.requires.1.0 w.levels.items w.next w.at w.map w.memo w.calls w.answers s may.known may.not_order
+    IsStateBut-push g.start calls c.requires.1.0 w.levels.items w.next w.at w.map w.memo w.calls w.answers s may.known may.not_order
     a here may.preceded
     legal config
     leads new c.in_ok-undo.undo level refl refl c.take_call.new.map c.in_ok-undo.ensures.after c.in_ok-undo.ensures.undo p.calls_within
@@ -123,7 +123,7 @@ returns-then-new g c =
     let one_more : length (w.memo ++ config ∷ []) ≡ length w.memo + 1 = length-append w.memo (config ∷ []) in
     record {
       stands =
-          StandsWith-same g.start calls (w.levels.items ++ level ∷ []) n.levels.items
+          IsStateBut-same g.start calls (w.levels.items ++ level ∷ []) n.levels.items
           (slice_index (unlinked w.calls w.next).after (length calls)) n.next
           (length w.memo) n.at c.take_call.new.map n.map (w.memo ++ config ∷ []) n.memo (unlinked w.calls w.next) n.calls
           (unlinked w.answers w.next) n.answers

@@ -1,5 +1,5 @@
 use Rattle.search.proofs.Common.{◌≡◌, Some, length, refl, inl, arith, slice_get, iff_false, slice_get_read}
-use Rattle.search.proofs.WalkLemmas.{cursor-illegal, StandsWith-passed, untried-passed}
+use Rattle.search.proofs.WalkLemmas.{cursor-illegal, IsStateBut-passed, untried-passed}
 use Rattle.search.proofs.standing.try_call.Goals as goal
 
 pub take_next-requires : goal.take_next-requires
@@ -27,7 +27,7 @@ returns g c =
     let cursor =
     cursor-illegal g.start calls c.requires.1.0 w.levels.items w.next w.at w.map w.memo w.calls w.answers s may.known may.not_order a here
     (iff_false c.may_come_next.ensures c.if-may_come_next.false) in
-    let stands = StandsWith-passed g.start calls c.requires.1.0 w.levels.items w.next w.at w.map w.memo w.calls w.answers s may.known
+    let stands = IsStateBut-passed g.start calls c.requires.1.0 w.levels.items w.next w.at w.map w.memo w.calls w.answers s may.known
     may.not_order cursor in
     let less = untried-passed g.start calls c.requires.1.0 w.levels.items w.next w.at w.map w.memo w.calls w.answers s
     may.known may.not_order in

@@ -21,7 +21,7 @@ returns-in-Some-clause-line g c =
     let fed = IsFedAt-found l.buffer.bytes l.seen arm.more l.invariant.whole (rw c.bytes.ensures at arm.ensures.within)
     (rw c.bytes.ensures at arm.ensures.here)
     (rw c.bytes.ensures at arm.ensures.before) in
-    rw c.hand_out.ensures (takes_fed _ _ l.buffer.bytes l.seen arm.more l.invariant.kept fed c.if-length-gt-MAX_LINE.false)
+    rw c.split_line.ensures (takes_fed _ _ l.buffer.bytes l.seen arm.more l.invariant.kept fed c.if-length-gt-MAX_LINE.false)
 
 pub returns-then-seen-gt-MAX_LINE-clause-too_long : goal.returns-then-seen-gt-MAX_LINE-clause-too_long
 returns-then-seen-gt-MAX_LINE-clause-too_long g c = λ _.
@@ -41,7 +41,7 @@ returns-then-branch-eq0-clause-line g c =
     let end = c.fill.ensures.end (c.in_ok-fill.was ∙ ap Ok c.if-branch-eq0.true) in
     let kept = Keeps-trans start _ (prepend_known after now) l.invariant.kept (Keeps-grown _ now bytes after _ grown) in
     let whole = whole_all bytes l.seen l.invariant.whole (rw c.bytes.ensures at c.in_default.ensures.none) in
-    rw (c.hand_out-then-branch-eq0.ensures, c.bytes-seen.ensures)
+    rw (c.split_line-then-branch-eq0.ensures, c.bytes-seen.ensures)
     (last_line start now bytes _ _ (ap (take (length bytes)) same ∙ take_all (length bytes) bytes (omega arith))
     (ap (drop (length bytes + 1)) same ∙ drop_all (length bytes + 1) bytes (omega arith)) whole
     (rw c.bytes-seen.ensures at c.if-seen-gt-MAX_LINE.false)

@@ -1,5 +1,5 @@
 use Rattle.std.proofs.Common.{[]}
-use Rattle.art_stages.specs.Stages.{setting}
+use Rattle.art_control_states.specs.Stages.{setting}
 use Rattle.art.specs.Going.{at_of}
 use Rattle.art.proofs.GoingLemmas.{begins, begun_asks}
 use Rattle.art.proofs.task.Task.begin.Goals as goal

@@ -1,4 +1,4 @@
-use Rattle.art_stages.specs.Settings.{setting_of}
+use Rattle.art_control_states.specs.Settings.{setting_of}
 use Rattle.art_scan.specs.Scans.{walk_in}
 use Rattle.art_scan.proofs.WayLemmas.{asks_on}
 use Rattle.art_scan.proofs.scanning.Scanning.next.Goals as goal

@@ -24,7 +24,7 @@ use Rattle.potzendai.specs.contracts.handle.PotzendaiFollower.with_follower.Key.
 use Rattle.potzendai.proofs.handle.PotzendaiFollower.with_follower.Statement.{statement}
 use Rattle.std.specs.contracts.alloc.Global as heap
 use Rattle.std.proofs.alloc.Global.TheLaws as heap_laws
-use Rattle.stream_engines.specs.contracts.line_follower.LineFollower as follower
+use Rattle.cli_follow.specs.contracts.line_follower.LineFollower as follower
 use Rattle.potzendai.specs.contracts.handle.PotzendaiFollower as handle
 use Rattle.potzendai.proofs.handle.PotzendaiFollower.with_follower.Code as code
 

@@ -24,8 +24,8 @@ returns-in_err-count-clause-same g c =
     let i = c.self.inside.buffer in
     let m = c.make_room-from in
     rw p.1
-    (kept_before i.items m.new.buffer c.deref_mut-2.result.now c.read_behind.new.buffer c.args.self.now.bytes i.len m.result.0 m.result.1
-    (size g here) (as_long g here) (moved g here) c.deref_mut-2.ensures.value c.read_behind.auto.buffer c.in_err-count.ensures.before)
+    (kept_before i.items m.new.buffer c.deref_mut-2.result.now c.read_after.new.buffer c.args.self.now.bytes i.len m.result.0 m.result.1
+    (size g here) (as_long g here) (moved g here) c.deref_mut-2.ensures.value c.read_after.auto.buffer c.in_err-count.ensures.before)
 
 pub returns-clause-grown : goal.returns-clause-grown
 returns-clause-grown g c =
@@ -34,12 +34,12 @@ returns-clause-grown g c =
     let m = c.make_room-from in
     let b = m.result.1 in
     let n = c.in_ok-count.count in
-    let read = c.read_behind.new.buffer in
+    let read = c.read_after.new.buffer in
     record {
       bytes = between b (b + n) read;
       grown =
           grown_behind i.items m.new.buffer c.deref_mut-2.result.now read c.args.self.now.bytes i.len m.result.0 b (size g here)
-          (as_long g here) (moved g here) c.deref_mut-2.ensures.value c.read_behind.auto.buffer c.in_ok-count.ensures.before
+          (as_long g here) (moved g here) c.deref_mut-2.ensures.value c.read_after.auto.buffer c.in_ok-count.ensures.before
           n m.ensures.order c.in_ok-count.ensures.within;
       counted = length_between read b (b + n) (omega arith) c.in_ok-count.ensures.within ∙ omega arith;
       consumed = c.in_ok-count.ensures.consumed;

@@ -1,5 +1,0 @@
-use Rattle.art_serial.proofs.trees.Descents.{keys-part}
-use Rattle.art_serial.proofs.laws.trees.keys_part.Goals as goal
-
-pub returns : goal.returns
-returns c = keys-part

@@ -1,4 +1,0 @@
-use Rattle.art_stages.proofs.setting.Setting.+index_from.Given as goal
-
-abbrev pub decreases-index_from : goal.decreases-index_from
-decreases-index_from l = l.left

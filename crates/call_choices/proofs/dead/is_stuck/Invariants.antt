@@ -1,4 +1,0 @@
-use Rattle.call_choices.proofs.dead.is_stuck.Given as goal
-
-abbrev pub ghost-is_lost : goal.ghost-is_lost
-ghost-is_lost g a = g.start

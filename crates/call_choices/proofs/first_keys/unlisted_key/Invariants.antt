@@ -1,5 +1,0 @@
-use Rattle.std.specs.Prelude.{⊤}
-use Rattle.call_choices.proofs.first_keys.unlisted_key.Given as goal
-
-abbrev pub invariant-loop-pair : goal.invariant-loop-pair
-invariant-loop-pair l = ⊤

@@ -1,8 +1,0 @@
-use Rattle.std.specs.Prelude.{⊤}
-use Rattle.call_choices.proofs.idle.misses_pair.Given as goal
-
-abbrev pub ghost-is_missing : goal.ghost-is_missing
-ghost-is_missing g a = g.start
-
-abbrev pub invariant-loop-pair : goal.invariant-loop-pair
-invariant-loop-pair g l = ⊤

@@ -1,5 +1,0 @@
-use Rattle.call_choices.proofs.FirstKeyLemmas.{few_keys_first}
-use Rattle.call_choices.proofs.laws.few_keys_go_first.Goals as goal
-
-pub returns : goal.returns
-returns c = few_keys_first

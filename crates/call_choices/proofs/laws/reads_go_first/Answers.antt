@@ -1,5 +1,0 @@
-use Rattle.call_choices.proofs.ReadLemmas.{reads_first}
-use Rattle.call_choices.proofs.laws.reads_go_first.Goals as goal
-
-pub returns : goal.returns
-returns c = reads_first

@@ -1,0 +1,29 @@
+use Rattle.std.proofs.Common.{rules}
+use Rattle.history_text.specs.Limits.{text_limit}
+use Rattle.cli_judge.specs.Answers.{IsHistoryRefusal}
+use Rattle.judge.specs.Gates.{HoldsForText}
+use Rattle.cli_outcome.proofs.ReadText.{IsRun-read}
+use Rattle.cli_outcome.proofs.Reading.{made-status}
+use Rattle.cli_judge.proofs.HeldTexts.{held-whole}
+use Rattle.cli_judge.proofs.WholeHistories.{IsHistoryRefusal-whole}
+use Rattle.cli_draw.specs.Drawings.{IsViewAnswer}
+use Rattle.cli_draw.proofs.DrawingLemmas.{IsViewAnswer-whole}
+use Rattle.cli_draw.proofs.drawing.run_draw.Goals as goal
+
+pub returns-clause-run : goal.returns-clause-run
+returns-clause-run g c =
+    let budget = g.J.Judge.budget c.args.judge.now in
+    IsRun-read (IsViewAnswer budget c.args.view) IsHistoryRefusal text_limit (IsViewAnswer-whole budget c.args.view) IsHistoryRefusal-whole c.run_text.ensures.run
+    (λ text outcome made.
+    let shows = made.shows in
+    let met = made.says.met in
+    search rules)
+
+pub returns-clause-asked : goal.returns-clause-asked
+returns-clause-asked g c =
+    let WasAsked = g.J.Judge.was_asked c.args.judge.now in
+    made-status (HoldsForText WasAsked) text_limit (held-whole WasAsked) c.run_text.ensures.run
+    (λ text outcome made.
+    let shows = made.shows in
+    let met = made.says.met in
+    search rules)

@@ -1,5 +1,0 @@
-use Rattle.explain_engines.proofs.LongestLemmas.{no_front_is_longer}
-use Rattle.explain_engines.proofs.laws.no_front_is_longer.Goals as goal
-
-pub returns : goal.returns
-returns c = no_front_is_longer

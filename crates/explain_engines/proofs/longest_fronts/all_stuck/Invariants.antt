@@ -1,6 +1,0 @@
--- The values so far are those of the calls.
-use Rattle.explain_engines.proofs.Common.{◌≡◌, map, take, view, stuck_data}
-use Rattle.explain_engines.proofs.longest_fronts.all_stuck.Given as goal
-
-abbrev pub invariant-loop-call : goal.invariant-loop-call
-invariant-loop-call l = map view l.items.items ≡ map (stuck_data l.held) (take l.call-index l.next)

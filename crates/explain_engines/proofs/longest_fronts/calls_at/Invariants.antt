@@ -1,6 +1,0 @@
--- The calls so far are those of the numbers so far.
-use Rattle.explain_engines.proofs.Common.{◌≡◌, take, calls_at}
-use Rattle.explain_engines.proofs.longest_fronts.calls_at.Given as goal
-
-abbrev pub invariant-loop-number : goal.invariant-loop-number
-invariant-loop-number l = l.taken.items ≡ calls_at l.calls (take l.number-index l.front)

@@ -1,6 +1,0 @@
--- Those so far do not precede the call.
-use Rattle.explain_engines.proofs.Common.{◌≡◌, drop, is_preceded}
-use Rattle.explain_engines.proofs.longest_fronts.is_preceded.Given as goal
-
-abbrev pub invariant-loop-other : goal.invariant-loop-other
-invariant-loop-other l = is_preceded (drop l.other-index l.rest) l.call ≡ is_preceded l.rest l.call

@@ -1,6 +1,0 @@
--- What was found so far, with what is to come, is all.
-use Rattle.explain_engines.proofs.Common.{◌≡◌, ◌++◌, drop, unpreceded}
-use Rattle.explain_engines.proofs.longest_fronts.minimal_calls.Given as goal
-
-abbrev pub invariant-loop-call : goal.invariant-loop-call
-invariant-loop-call l = l.next.items ++ unpreceded l.rest (drop l.call-index l.rest) ≡ unpreceded l.rest l.rest

@@ -1,6 +1,0 @@
--- None of those so far is a call of the place with an answer.
-use Rattle.explain_engines.proofs.Common.{◌≡◌, drop, was_answered}
-use Rattle.explain_engines.proofs.reports.was_answered.Given as goal
-
-abbrev pub invariant-loop-call : goal.invariant-loop-call
-invariant-loop-call l = was_answered (drop l.call-index l.calls) l.place ≡ was_answered l.calls l.place

@@ -1,7 +1,0 @@
-use Rattle.explaining.proofs.Common.{ℕ, subst, All, IsUnshown, sizes_tried}
-use Rattle.explaining.proofs.losing.explanation_at.Goals as goal
-
-pub returns : goal.returns
-returns c =
-    subst (λ (few : ℕ). All (IsUnshown c.args.map.now few c.args.calls.now) sizes_tried) c.few_configurations-few.ensures
-    (rw c.in-None.is at c.in_ok-shown.ensures)

@@ -1,0 +1,5 @@
+use Rattle.follow_monitor.proofs.Common.{map, deref_pair, ArePutsOfEntries}
+use Rattle.follow_monitor.proofs.all_puts.open_puts.Given as goal
+
+abbrev pub invariant-loop-known : goal.invariant-loop-known
+invariant-loop-known l = ArePutsOfEntries (map deref_pair l.yielded) l.puts.items

@@ -1,0 +1,30 @@
+use Rattle.std.proofs.Common.{ℕ, ◌+◌, ◌<◌, ◌≤◌, List, ⊎_elim, subst, arith, take}
+use Rattle.std.proofs.lemmas.Bool.{cases_order}
+use Rattle.std.proofs.lemmas.List.{take-take}
+use Rattle.events.specs.declared.event.Event.{Event}
+use Rattle.events.specs.HistoryView.{HistoryView}
+use Rattle.events.specs.Operations.{operations}
+use Rattle.orders.specs.Orders.{IsLinearizable, IsLinearizableHistory}
+use Rattle.follow_monitor.specs.Prefixes.{prefix_of, GoesWrongAt}
+use Rattle.follow_monitor.proofs.PrefixLemmas.{prefix_has_order}
+use Rattle.follow_monitor.proofs.prefix_laws.one_event_goes_wrong.Goals as goal
+
+-- what has an order has one on fewer events
+fewer_events : (history : HistoryView) (fewer count : ℕ) → fewer ≤ count → IsLinearizableHistory (prefix_of history count)
+    → IsLinearizableHistory (prefix_of history fewer)
+fewer_events history fewer count within h =
+    subst (λ (events : List Event). IsLinearizable history.start (operations events)) (take-take fewer count history.events within)
+    (prefix_has_order history.start (take count history.events) fewer h)
+
+none_behind : (history : HistoryView) (number place count : ℕ) → GoesWrongAt history number place → place < count
+    → IsLinearizableHistory (prefix_of history count) → ⊥
+none_behind history number place count wrong behind h = wrong.after (fewer_events history (place + 1) count (omega arith) h)
+
+pub returns : goal.returns
+returns c history number place wrong = (
+  λ other elsewhere also. ⊎_elim (λ same. same) (λ apart. ⊎_elim
+      (λ earlier. absurd (none_behind history number place elsewhere wrong earlier also.before))
+      (λ later. absurd (none_behind history other elsewhere place also later wrong.before)) apart) (cases_order place elsewhere),
+  λ h. wrong.after (prefix_has_order history.start history.events (place + 1) h),
+  λ count behind h. none_behind history number place count wrong behind h,
+)

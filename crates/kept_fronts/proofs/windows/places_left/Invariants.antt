@@ -1,7 +1,0 @@
-use Rattle.kept_fronts.proofs.Common.{◌≤◌, length, places}
-use Rattle.kept_fronts.proofs.LeftLemmas.{AreLeftBelow}
-use Rattle.kept_fronts.proofs.windows.places_left.Given as goal
-
--- the places so far are those left below this place
-abbrev pub invariant-loop-place : goal.invariant-loop-place
-invariant-loop-place l = (l.place ≤ length l.calls) × AreLeftBelow (places l.front.levels.items) l.left.items l.place

@@ -1,5 +1,0 @@
-use Rattle.kept_parts.proofs.TakenLemmas.{taken_calls_disagree}
-use Rattle.kept_parts.proofs.past_event_laws.taken_calls_disagree.Goals as goal
-
-pub returns : goal.returns
-returns c = taken_calls_disagree

@@ -1,5 +1,0 @@
-use Rattle.kept_parts.proofs.UnionLemmas.{pasts_fall_apart}
-use Rattle.kept_parts.proofs.union_laws.pasts_fall_apart.Goals as goal
-
-pub returns : goal.returns
-returns c = pasts_fall_apart

@@ -1,6 +1,0 @@
-use Rattle.std.proofs.Common.{◌-◌}
-use Rattle.locating.proofs.bisecting.+bisect.Given as goal
-
--- a half is shorter
-abbrev pub decreases-bisect : goal.decreases-bisect
-decreases-bisect l = l.high - l.low

@@ -1,5 +1,0 @@
-use Rattle.locating.proofs.AgreeLemmas.{locations_agree}
-use Rattle.locating.proofs.laws.locations_agree.Goals as goal
-
-pub returns : goal.returns
-returns c = locations_agree c.one_event_goes_wrong.ensures c.answers_have_one_call.ensures

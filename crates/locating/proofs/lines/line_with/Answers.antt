@@ -1,8 +1,0 @@
-use Rattle.locating.proofs.Common.{ap, ◌∙◌, has_float, compact_text}
-use Rattle.locating.proofs.ReportLemmas.{has_float-ordered}
-use Rattle.locating.proofs.lines.line_with.Goals as goal
-
-pub returns : goal.returns
-returns c =
-    let is = c.in_ok-value.ensures in
-    c.in_ok-to_string.ensures.text (ap has_float is ∙ has_float-ordered c.args.order.now c.args.location.now) ∙ ap compact_text is

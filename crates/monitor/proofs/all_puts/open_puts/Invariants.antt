@@ -1,5 +1,0 @@
-use Rattle.monitor.proofs.Common.{map, deref_pair, ArePutsOfEntries}
-use Rattle.monitor.proofs.all_puts.open_puts.Given as goal
-
-abbrev pub invariant-loop-known : goal.invariant-loop-known
-invariant-loop-known l = ArePutsOfEntries (map deref_pair l.yielded) l.puts.items

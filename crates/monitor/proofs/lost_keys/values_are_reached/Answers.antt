@@ -1,5 +1,0 @@
-use Rattle.monitor.proofs.LossReachLemmas.{values_are_reached}
-use Rattle.monitor.proofs.lost_keys.values_are_reached.Goals as goal
-
-pub returns : goal.returns
-returns c = values_are_reached

@@ -1,5 +1,0 @@
-use Rattle.monitor.proofs.PrefixLemmas.{prefix_has_order}
-use Rattle.monitor.proofs.prefix_laws.prefixes_have_orders.Goals as goal
-
-pub returns : goal.returns
-returns c history count h = prefix_has_order history.start history.events count h

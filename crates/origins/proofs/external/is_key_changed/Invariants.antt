@@ -1,8 +1,0 @@
-use Rattle.std.proofs.Common.{◌≡◌, drop}
-use Rattle.std.specs.List.{list_any}
-use Rattle.origins.specs.External.{may_change}
-use Rattle.origins.proofs.external.is_key_changed.Given as goal
-
--- none of those so far does
-abbrev pub invariant-loop-call : goal.invariant-loop-call
-invariant-loop-call l = list_any (may_change l.key) (drop l.call-index l.calls) ≡ list_any (may_change l.key) l.calls

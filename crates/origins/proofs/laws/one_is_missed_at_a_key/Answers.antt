@@ -1,5 +1,0 @@
-use Rattle.origins.proofs.MissedLemmas.{one_is_missed_at_a_key}
-use Rattle.origins.proofs.laws.one_is_missed_at_a_key.Goals as goal
-
-pub returns : goal.returns
-returns c = one_is_missed_at_a_key

@@ -1,5 +1,0 @@
-use Rattle.origins.proofs.PutLemmas.{what_is_told_was_put}
-use Rattle.origins.proofs.laws.what_is_told_was_put.Goals as goal
-
-pub returns : goal.returns
-returns c = what_is_told_was_put

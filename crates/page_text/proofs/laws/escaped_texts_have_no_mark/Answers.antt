@@ -1,5 +1,0 @@
-use Rattle.page_text.proofs.EscapeLemmas.{escaped-unmarked}
-use Rattle.page_text.proofs.laws.escaped_texts_have_no_mark.Goals as goal
-
-pub returns : goal.returns
-returns c = escaped-unmarked

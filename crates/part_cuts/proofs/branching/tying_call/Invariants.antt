@@ -1,6 +1,0 @@
-use Rattle.part_cuts.proofs.EndLemmas.{NoneTies}
-use Rattle.part_cuts.proofs.branching.tying_call.Given as goal
-
--- none of the calls so far
-abbrev pub invariant-loop-place : goal.invariant-loop-place
-invariant-loop-place l = NoneTies l.calls l.position.taken.items l.place l.answered l.keys l.position.map

@@ -1,9 +1,0 @@
-use Rattle.parts.specs.Settled.{IsSettled}
-use Rattle.parts.proofs.settling.settle_met.Given as goal
-
--- the state says the same of the calls
-abbrev pub invariant-loop-place : goal.invariant-loop-place
-invariant-loop-place l = IsSettled l.fn.state l.state
-
-abbrev pub decreases-loop-place : goal.decreases-loop-place
-decreases-loop-place l = l.place

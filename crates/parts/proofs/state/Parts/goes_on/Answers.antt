@@ -1,9 +1,0 @@
-use Rattle.parts.proofs.Common.{subst, All, GoesOn, PartsView, kept_parts}
-use Rattle.parts.proofs.GoesOnLemmas.{parts_go_on}
-use Rattle.parts.proofs.state.Parts.goes_on.Goals as goal
-
-pub returns : goal.returns
-returns c =
-    let inside = c.self.inside in
-    let s : PartsView = record { rest = inside.rest; parts = inside.parts.items; reads = inside.reads.items; now = inside.now } in
-    subst (λ (v : PartsView). All GoesOn (kept_parts v)) c.self.view_is (parts_go_on s c.self.invariant)

@@ -1,6 +1,0 @@
-use Rattle.std.proofs.Common.{◌≡◌, ◌++◌, drop}
-use Rattle.picture_engines.specs.Choices.{places_put}
-use Rattle.picture_engines.proofs.choice.push_puts.Given as goal
-
-abbrev pub invariant-loop-pair : goal.invariant-loop-pair
-invariant-loop-pair l = l.fn.places.items ++ places_put l.calls l.pairs ≡ l.places.items ++ places_put l.calls (drop l.pair-index l.pairs)

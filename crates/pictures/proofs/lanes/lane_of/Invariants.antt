@@ -1,5 +1,0 @@
-use Rattle.pictures.proofs.Common.{◌≡◌, ℕ, ◌<◌, slice_index_or}
-use Rattle.pictures.proofs.lanes.lane_of.Given as goal
-
-abbrev pub invariant-loop-place : goal.invariant-loop-place
-invariant-loop-place l = (k d : ℕ) → k < l.place → slice_index_or l.lanes k d ≡ l.process → ⊥

@@ -1,5 +1,0 @@
-use Rattle.pictures.proofs.FewLemmas.{few_columns}
-use Rattle.pictures.proofs.laws.few_have_few_columns.Goals as goal
-
-pub returns : goal.returns
-returns c = few_columns

@@ -1,6 +1,0 @@
-use Rattle.events.specs.Operations.{operations}
-use Rattle.pictures.proofs.MarkLemmas.{AreMarksBelow}
-use Rattle.pictures.proofs.marks.marks_of.Given as goal
-
-abbrev pub invariant-loop-place : goal.invariant-loop-place
-invariant-loop-place l = AreMarksBelow (operations l.scene.history.now.events) l.order l.bars l.place l.marks.items

@@ -1,6 +1,0 @@
--- The values so far are those of the numbers.
-use Rattle.stream_engines.proofs.Common.{◌≡◌, map, take, view, number_data}
-use Rattle.stream_engines.proofs.reports.numbers_value.Given as goal
-
-abbrev pub invariant-loop-number : goal.invariant-loop-number
-invariant-loop-number l = map view l.items.items ≡ map number_data (take l.number-index l.numbers)
