@@ -22,7 +22,7 @@ impl KeyCall {
     ghost use Rattle.art_rows.specs.Rows.{locks};
     ghost use Rattle.art_rows.specs.Steps.{access_of, reply_of};
     ghost use Rattle.art_rows.specs.Act.{point_of};
-    ghost use Rattle.art_control_states.specs.Automaton.{start_at, turn_at, stage_after as stage_behind};
+    ghost use Rattle.art_control_states.specs.Automaton.{start_at, turn_at, stage_after as stage_thereafter};
     ghost use Rattle.art_control_states.specs.Settings.{setting_of};
 
     /// A call that has made no access yet.
@@ -52,7 +52,7 @@ impl KeyCall {
     /// Takes what the access got, and returns the reply once it is known.
     pub fn take(&mut self, setting: &Setting, got: u64) -> Option<Reply>
         requires asks { reply_of (turn_at (setting_of setting.now) self.old.stage) ≡ None }
-        ensures next { self.new.stage ≡ stage_behind (setting_of setting.now) self.old.stage got }
+        ensures next { self.new.stage ≡ stage_thereafter (setting_of setting.now) self.old.stage got }
         ensures reply { reply_of (turn_at (setting_of setting.now) self.new.stage) ≡ result }
     {
         make_stage(setting, &mut self.stage, got);

@@ -1,5 +1,5 @@
-// The stage of a call: plain data, of which the automaton is made and which proofs about the trees
-// speak of.
+// The stage of a call: plain data, which the automaton goes through and which proofs about the trees
+// cite.
 use art_rows::{Child, Kind};
 
 /// A row that a call is at: where it is, its kind and info word, and its version, from which it was

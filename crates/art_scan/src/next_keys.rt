@@ -11,7 +11,7 @@ pub struct KeyPlace {
     pub place: u32,
 }
 
-/// The least byte from this one on, among this many bytes of a word, the first of which is at this
+/// The least byte from this one on, among this many bytes of a word. The first of them is at this
 /// place. If none is less, it is what was found before.
 fn least_among(word: u64, count: u32, byte: u32, place: u32, found: KeyPlace) -> KeyPlace
     requires { place + count ≤ 16 }

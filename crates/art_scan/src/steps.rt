@@ -4,7 +4,7 @@ ghost use Rattle.art_control_states.specs.Stages.{held};
 ghost use Rattle.art_rows.specs.Words.{is_locked};
 ghost use Rattle.art_control_states.specs.declared.stage.Entry.TheVariants.{Below};
 ghost use Rattle.art_control_states.specs.declared.stage.ScanStep.TheVariants.{Lock, Exchange, Wait, SecondKeys};
-ghost use Rattle.art_control_states.specs.Scans.{Walk, at, step_after as step_behind, enter_at, entry_at, keys_after_word, release_after};
+ghost use Rattle.art_control_states.specs.Scans.{Walk, at, step_after as step_thereafter, enter_at, entry_at, keys_after_word, release_after};
 ghost use Rattle.art_control_states.specs.Scans.{scan_start};
 ghost use Rattle.art_control_states.specs.Scans.{with_frame, resume_at, visit_at, frame_of as frame_from};
 ghost use Rattle.art_control_states.specs.Settings.{setting_of};
@@ -185,7 +185,7 @@ fn take_exchange(
 )
     requires { vec_len lists.old.rows < vec_capacity lists.old.rows }
     ensures step { at step.new (walk_of lists.new)
-        ≡ step_behind (setting_of setting.now) low high (Exchange entry version) (walk_of lists.old) got }
+        ≡ step_thereafter (setting_of setting.now) low high (Exchange entry version) (walk_of lists.old) got }
     ensures sound { is_sound_step step.new ≡ true }
 {
     if got == version {
@@ -209,7 +209,7 @@ fn take_wait(
     step: &mut ScanStep,
 )
     requires { vec_len lists.old.rows < vec_capacity lists.old.rows }
-    ensures step { at step.new (walk_of lists.new) ≡ step_behind (setting_of setting.now) low high (Wait entry) (walk_of lists.old) got }
+    ensures step { at step.new (walk_of lists.new) ≡ step_thereafter (setting_of setting.now) low high (Wait entry) (walk_of lists.old) got }
     ensures sound { is_sound_step step.new ≡ true }
 {
     if version_is_locked(got) {
@@ -232,7 +232,7 @@ pub fn make_step(
 )
     requires room { HasRoomForOneMore lists.old }
     requires sound { is_sound_step step.old ≡ true }
-    ensures step { at step.new (walk_of lists.new) ≡ step_behind (setting_of setting.now) low high step.old (walk_of lists.old) got }
+    ensures step { at step.new (walk_of lists.new) ≡ step_thereafter (setting_of setting.now) low high step.old (walk_of lists.old) got }
     ensures sound { is_sound_step step.new ≡ true }
 {
     match step {

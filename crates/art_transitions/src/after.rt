@@ -207,7 +207,7 @@ pub fn make_stage(setting: &Setting, stage: &mut Stage, got: u64)
         Stage::CheckLast { row } => last_checked(setting, row, got, stage),
         Stage::LetGo { place, finding, .. } => find_checked(setting, place, finding, stage),
         Stage::Take { taking } => take_exchanged(setting, taking, got, stage),
-        Stage::Write { hold, reply, .. } => answer_behind_write(hold, *reply, stage),
+        Stage::Write { hold, reply, .. } => answer_after_write(hold, *reply, stage),
         Stage::ClaimPair { hold, pair } => pair_claimed(setting, hold, pair, got, stage),
         Stage::StorePair {
             hold,
@@ -408,7 +408,7 @@ fn take_exchanged(setting: &Setting, taking: &Taking, got: u64, stage: &mut Stag
     }
 }
 
-fn answer_behind_write(hold: &Hold, reply: Option<u32>, stage: &mut Stage)
+fn answer_after_write(hold: &Hold, reply: Option<u32>, stage: &mut Stage)
     ensures stage { stage.new ≡ UnlockAll hold.now (Some (Value reply)) }
     ensures sound { is_sound stage.new ≡ true }
 {

@@ -16,15 +16,15 @@ IsHistoryLineOutcome (Judge budget workers) source outcome = IsJudgeOutcome budg
 IsHistoryLineOutcome other source outcome = ⊥
 
 -- a line that asks for something other than `check` and `judge`
-abbrev pub IsElsewhere : Line → Type 0
-IsElsewhere (Check order) = ⊥
-IsElsewhere (Judge budget workers) = ⊥
-IsElsewhere other = ⊤
+abbrev pub IsUnsupported : Line → Type 0
+IsUnsupported (Check order) = ⊥
+IsUnsupported (Judge budget workers) = ⊥
+IsUnsupported other = ⊤
 
 -- the answer to such a line
-abbrev pub elsewhere_line : List ℕ
-elsewhere_line = line (codes "error: this program checks and judges alone")
+abbrev pub unsupported_line : List ℕ
+unsupported_line = line (codes "error: this program checks and judges alone")
 
 -- the outcome of a run with this command line
 abbrev pub IsHistoryWordsOutcome : List Text → Change → CommandOutcome → Type 0
-IsHistoryWordsOutcome words source outcome = IsPartOutcome IsHistoryLineOutcome IsElsewhere elsewhere_line words source outcome
+IsHistoryWordsOutcome words source outcome = IsPartOutcome IsHistoryLineOutcome IsUnsupported unsupported_line words source outcome

@@ -15,7 +15,7 @@ pub fn value_after(value: Option<u64>, call: &Operation) -> Option<u64>
 {
     match &call.response {
         Some(response) => value_after_reply(value, &call.call, &response.reply),
-        None => value_behind_done(value, &call.call),
+        None => value_after_done(value, &call.call),
     }
 }
 
@@ -25,24 +25,24 @@ fn value_after_reply(value: Option<u64>, call: &Call, reply: &Reply) -> Option<u
 {
     match reply {
         Reply::Refused => value,
-        _ => value_behind_done(value, call),
+        _ => value_after_done(value, call),
     }
 }
 
 /// Returns the value after a call that was not refused.
-fn value_behind_done(value: Option<u64>, call: &Call) -> Option<u64>
+fn value_after_done(value: Option<u64>, call: &Call) -> Option<u64>
     ensures { result ≡ spec.value_after value call.now }
 {
     match call {
         Call::Get(_) | Call::Scan(_, _) => value,
         Call::Insert(_, new) => Some(*new),
         Call::Remove(_) => None,
-        Call::Replace(_, expected, new) => value_behind_replace(value, *expected, *new),
+        Call::Replace(_, expected, new) => value_after_replace(value, *expected, *new),
     }
 }
 
 /// Returns the value after a replace.
-fn value_behind_replace(value: Option<u64>, expected: u64, new: u64) -> Option<u64>
+fn value_after_replace(value: Option<u64>, expected: u64, new: u64) -> Option<u64>
     ensures { result ≡ (if is_just value expected then Some new else value) }
 {
     match value {

@@ -11,7 +11,7 @@ use Rattle.cli_explain.specs.Outcomes.{IsExplainOutcome}
 use Rattle.cli_draw.specs.Outcomes.{IsDrawOutcome}
 use Rattle.cli_page.specs.Outcomes.{IsPageOutcome}
 use Rattle.cli_follow.specs.Outcomes.{IsFollowOutcome}
-use Rattle.cli_words.specs.Outcomes.{IsElsewhereOutcome}
+use Rattle.cli_words.specs.Outcomes.{IsUnsupportedOutcome}
 
 -- a line that asks for a plan or a tree
 abbrev pub AsksForTrees : Line → Type 0
@@ -39,4 +39,4 @@ IsJudgeLineOutcome (Draw budget workers around calls) source outcome =
     IsDrawOutcome budget (record { around = around; calls = calls }) source outcome
 IsJudgeLineOutcome (Page budget workers) source outcome = IsPageOutcome budget source outcome
 IsJudgeLineOutcome (Follow budget) source outcome = IsFollowOutcome budget source outcome
-IsJudgeLineOutcome other source outcome = IsUnused source × IsElsewhereOutcome no_trees_line outcome
+IsJudgeLineOutcome other source outcome = IsUnused source × IsUnsupportedOutcome no_trees_line outcome

@@ -44,7 +44,7 @@ pub use Rattle.cli_follow.specs.Answers.{IsFollowAnswer, IsJudgedAnswer, IsLostT
 pub use Rattle.cli_follow.specs.Answers.{Judgement}
 pub use Rattle.cli_follow.specs.EventLines.{CallHasWords, HasFewPairs, HasWords, IsWord, MayStand, ReplyHasWords, event_line}
 pub use Rattle.cli_follow.specs.Followed.{FollowsStream, IsFollowed}
-pub use Rattle.cli_follow.specs.Handed.{HasEnded, IsHanded, MayTake}
+pub use Rattle.cli_follow.specs.Taken.{HasEnded, HasTaken, MayTake}
 pub use Rattle.cli_follow.specs.Leaves.{IsAnsweredWith, IsLineRefusal, IsLostOutcome, IsManyRefusal, IsRefusalAfter, IsSpentOutcome}
 pub use Rattle.cli_follow.specs.Leaves.{IsTurnRefusal, IsYesOutcome}
 pub use Rattle.cli_follow.specs.Outcomes.{IsFollowOutcome, IsStreamOutcome}

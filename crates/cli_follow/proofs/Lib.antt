@@ -8,6 +8,6 @@ mod FollowedLemmas
 mod RefusalLemmas
 mod JudgedLemmas
 mod ReadingLemmas
-mod HandedLemmas
+mod AddedLemmas
 mod LineLemmas
 mod StopLemmas

@@ -9,4 +9,4 @@ pub mod Leaves
 pub mod Outcomes
 pub mod Stops
 pub mod Reading
-pub mod Handed
+pub mod Taken

@@ -32,7 +32,7 @@ pub struct Followed {
 }
 
 impl Followed {
-    /// Returns a stream of which no line was read.
+    /// Returns a stream before its first line.
     pub fn new(alloc: Global) -> Result<Followed, Memory>
         ensures { IfOk result (IsFollowed []) }
     {

@@ -5,7 +5,7 @@ ghost use Rattle.stream_text.specs.Cuts.{lines_of};
 ghost use Rattle.stream_text.specs.LineLimits.{number_limit};
 ghost use Rattle.stream_text.specs.Lines.{as_event};
 ghost use Rattle.cli_follow.specs.EventLines.{event_line, CallHasWords, ReplyHasWords, HasWords, MayStand};
-ghost use Rattle.cli_follow.specs.Handed.{HasEnded, IsHanded, MayTake};
+ghost use Rattle.cli_follow.specs.Taken.{HasEnded, HasTaken, MayTake};
 ghost use Rattle.cli_follow.specs.Outcomes.{IsStreamOutcome};
 ghost use Rattle.cli_follow.specs.Reading.{AreLinesOf};
 
@@ -42,7 +42,7 @@ pub enum LineFollower {
 impl LineFollower {
     /// Returns a follower that has taken no line.
     pub fn new(alloc: Global, budget: u32) -> Result<LineFollower, Memory>
-        ensures { IfOk result (IsHanded budget []) }
+        ensures { IfOk result (HasTaken budget []) }
     {
         let followed = Followed::new(alloc)?;
         Ok(LineFollower::Going {
@@ -54,8 +54,8 @@ impl LineFollower {
 
     /// Takes the lines of some bytes. A line feed ends each line, but the last one may lack it.
     pub fn take_lines(self, alloc: Global, bytes: &[u8]) -> LineFollower
-        ensures handed { (budget : ℕ) (lines : List (List ℕ)) → IsHanded budget lines self
-            → IsHanded budget (lines ++ lines_of bytes.now) result }
+        ensures added { (budget : ℕ) (lines : List (List ℕ)) → HasTaken budget lines self
+            → HasTaken budget (lines ++ lines_of bytes.now) result }
         ensures ended { HasEnded self → result ≡ self }
     {
         let mut follower = self;
@@ -74,9 +74,9 @@ impl LineFollower {
 
     /// Takes the invocation of a call by a process of this number, as its line (`event_line`).
     pub fn take_call(self, alloc: Global, process: u32, call: Call) -> LineFollower
-        ensures handed { (budget : ℕ) (lines : List (List ℕ)) → CallHasWords call
-            → IsHanded budget lines self
-            → IsHanded budget (lines ++ event_line (Invoke process call) ∷ []) result }
+        ensures added { (budget : ℕ) (lines : List (List ℕ)) → CallHasWords call
+            → HasTaken budget lines self
+            → HasTaken budget (lines ++ event_line (Invoke process call) ∷ []) result }
         ensures ended { HasEnded self → result ≡ self }
     {
         match process_number(process) {
@@ -87,9 +87,9 @@ impl LineFollower {
 
     /// Takes the answer of the open call of a process of this number, as its line (`event_line`).
     pub fn take_reply(self, alloc: Global, process: u32, reply: Reply) -> LineFollower
-        ensures handed { (budget : ℕ) (lines : List (List ℕ)) → ReplyHasWords reply
-            → IsHanded budget lines self
-            → IsHanded budget (lines ++ event_line (Answer process reply) ∷ []) result }
+        ensures added { (budget : ℕ) (lines : List (List ℕ)) → ReplyHasWords reply
+            → HasTaken budget lines self
+            → HasTaken budget (lines ++ event_line (Answer process reply) ∷ []) result }
         ensures ended { HasEnded self → result ≡ self }
     {
         match process_number(process) {
@@ -101,9 +101,9 @@ impl LineFollower {
     /// Takes an event that is given by its values, as its line (`event_line`). That line is written
     /// only if the stream ends at it, or if it may be too long.
     fn take_event(self, alloc: Global, event: &StreamEvent) -> LineFollower
-        ensures handed { (budget : ℕ) (lines : List (List ℕ)) → HasWords (as_event event.now)
-            → IsHanded budget lines self
-            → IsHanded budget (lines ++ event_line (as_event event.now) ∷ []) result }
+        ensures added { (budget : ℕ) (lines : List (List ℕ)) → HasWords (as_event event.now)
+            → HasTaken budget lines self
+            → HasTaken budget (lines ++ event_line (as_event event.now) ∷ []) result }
         ensures ended { HasEnded self → result ≡ self }
     {
         if self.may_take(event) {
@@ -131,9 +131,9 @@ impl LineFollower {
     /// Takes an event as its line, which has to spell it.
     fn take_values(self, alloc: Global, event: &StreamEvent) -> LineFollower
         requires { MayTake self (as_event event.now) }
-        ensures handed { (budget : ℕ) (lines : List (List ℕ)) → HasWords (as_event event.now)
-            → IsHanded budget lines self
-            → IsHanded budget (lines ++ event_line (as_event event.now) ∷ []) result }
+        ensures added { (budget : ℕ) (lines : List (List ℕ)) → HasWords (as_event event.now)
+            → HasTaken budget lines self
+            → HasTaken budget (lines ++ event_line (as_event event.now) ∷ []) result }
         ensures ended { HasEnded self → result ≡ self }
     {
         match self {
@@ -155,9 +155,9 @@ impl LineFollower {
 
     /// Takes the next line, as it was written. If memory ran out for it, the stream ends.
     fn take_written(self, alloc: Global, line: Result<String, AllocError>) -> LineFollower
-        ensures handed { (budget : ℕ) (lines : List (List ℕ)) (next : List ℕ)
-            → IfOk line (λ text. string_bytes text ≡ next) → IsHanded budget lines self
-            → IsHanded budget (lines ++ next ∷ []) result }
+        ensures added { (budget : ℕ) (lines : List (List ℕ)) (next : List ℕ)
+            → IfOk line (λ text. string_bytes text ≡ next) → HasTaken budget lines self
+            → HasTaken budget (lines ++ next ∷ []) result }
         ensures ended { HasEnded self → result ≡ self }
     {
         match line {
@@ -168,8 +168,8 @@ impl LineFollower {
 
     /// Takes a line for which memory ran out. The stream ends there.
     pub fn out_of_memory(self) -> LineFollower
-        ensures handed { (budget : ℕ) (lines : List (List ℕ)) (next : List ℕ)
-            → IsHanded budget lines self → IsHanded budget (lines ++ next ∷ []) result }
+        ensures added { (budget : ℕ) (lines : List (List ℕ)) (next : List ℕ)
+            → HasTaken budget lines self → HasTaken budget (lines ++ next ∷ []) result }
         ensures ended { HasEnded self → result ≡ self }
     {
         match self {
@@ -180,8 +180,8 @@ impl LineFollower {
 
     /// Takes the next line.
     fn take_line(self, alloc: Global, line: &[u8]) -> LineFollower
-        ensures handed { (budget : ℕ) (lines : List (List ℕ)) → IsHanded budget lines self
-            → IsHanded budget (lines ++ line.now ∷ []) result }
+        ensures added { (budget : ℕ) (lines : List (List ℕ)) → HasTaken budget lines self
+            → HasTaken budget (lines ++ line.now ∷ []) result }
         ensures ended { HasEnded self → result ≡ self }
     {
         match self {

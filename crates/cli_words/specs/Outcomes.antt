@@ -32,23 +32,23 @@ IsWordsOutcome IsLineOutcome words source outcome = IsAskedOutcome IsLineOutcome
 
 -- the outcome of a line that a part of the program does not do: it prints this text, or memory ran
 -- out
-abbrev pub IsElsewhereOutcome : List ℕ → CommandOutcome → Type 0
-IsElsewhereOutcome told (Words text) = string_bytes text ≡ told
-IsElsewhereOutcome told Memory = ⊤
-IsElsewhereOutcome told outcome = ⊥
+abbrev pub IsUnsupportedOutcome : List ℕ → CommandOutcome → Type 0
+IsUnsupportedOutcome text (Words written) = string_bytes written ≡ text
+IsUnsupportedOutcome text Memory = ⊤
+IsUnsupportedOutcome text outcome = ⊥
 
 -- the words ask for such a line, and nothing is read
-pub record AsksElsewhere (IsElsewhere : Line → Type 0) (told : List ℕ) (words : List Text) (source : Change) (outcome : CommandOutcome)
+pub record AsksUnsupported (IsUnsupported : Line → Type 0) (text : List ℕ) (words : List Text) (source : Change) (outcome : CommandOutcome)
     : Type 0 where
   pub line : Line
   pub accepted : IsAccepted words
   pub asked : IsLineOf words line
-  pub other : IsElsewhere line
-  pub comes : IsElsewhereOutcome told outcome
+  pub other : IsUnsupported line
+  pub comes : IsUnsupportedOutcome text outcome
   pub unused : IsUnused source
 
 -- The outcome of a run of a part of the program with these words: what they ask for; or the fault
 -- that they have; or that they ask for what the part does not do.
 abbrev pub IsPartOutcome : (Line → Change → CommandOutcome → Type 0) → (Line → Type 0) → List ℕ → List Text → Change → CommandOutcome → Type 0
-IsPartOutcome IsLineOutcome IsElsewhere told words source outcome =
-    IsWordsOutcome IsLineOutcome words source outcome ⊎ AsksElsewhere IsElsewhere told words source outcome
+IsPartOutcome IsLineOutcome IsUnsupported text words source outcome =
+    IsWordsOutcome IsLineOutcome words source outcome ⊎ AsksUnsupported IsUnsupported text words source outcome

@@ -3,7 +3,7 @@ ghost use Rattle.std.specs.Prelude.{◌≡◌, IfErr, IfOk, map, string_bytes};
 ghost use Rattle.clap.specs.Walk.{texts};
 ghost use Rattle.command_line.specs.WordsFaults.{IsAccepted};
 ghost use Rattle.command_line.specs.Lines.{IsLineOf, IsWithinLimits};
-ghost use Rattle.cli_words.specs.Outcomes.{IsElsewhereOutcome, IsFaultOutcome};
+ghost use Rattle.cli_words.specs.Outcomes.{IsUnsupportedOutcome, IsFaultOutcome};
 
 use cli_outcome::CommandOutcome;
 use command_line::{Line, LineFault, read_line};
@@ -57,10 +57,10 @@ pub fn asked_line(alloc: Global, words: &[&str]) -> Result<Line, CommandOutcome>
 
 /// Returns the outcome if the words ask for something that this part of the program does not do. It
 /// prints this text.
-pub fn unsupported_outcome(alloc: Global, told: &str) -> CommandOutcome
-    ensures { IsElsewhereOutcome told.now result }
+pub fn unsupported_outcome(alloc: Global, text: &str) -> CommandOutcome
+    ensures { IsUnsupportedOutcome text.now result }
 {
-    match String::from_str(alloc, told) {
+    match String::from_str(alloc, text) {
         Ok(text) => CommandOutcome::Words(text),
         Err(_) => CommandOutcome::Memory,
     }

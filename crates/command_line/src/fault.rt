@@ -71,14 +71,14 @@ fn write_words<W: fmt::Write>(f: &mut fmt::Formatter<W>, words: &[&str]) -> fmt:
     f.write_str("\n  [possible values: ")?;
     let mut before = "";
     for word in words {
-        write_behind(f, before, word)?;
+        write_after(f, before, word)?;
         before = ", ";
     }
     f.write_str("]")
 }
 
 // Writes a word, after another text.
-fn write_behind<W: fmt::Write>(f: &mut fmt::Formatter<W>, before: &str, word: &str) -> fmt::Result {
+fn write_after<W: fmt::Write>(f: &mut fmt::Formatter<W>, before: &str, word: &str) -> fmt::Result {
     f.write_str(before)?;
     f.write_str(word)
 }

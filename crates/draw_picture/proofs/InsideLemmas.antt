@@ -5,10 +5,10 @@ use Rattle.draw_picture.proofs.Common.{MarksStayInside}
 use Rattle.draw_picture.proofs.RankLemmas.{ranks_rise}
 
 -- an end after a mark of the viewport is not before the viewport
-ends_behind : (columns : List ℕ) (from column : ℕ) (end : Option ℕ) → from ≤ rank columns column → Contains columns column
+ends_after : (columns : List ℕ) (from column : ℕ) (end : Option ℕ) → from ≤ rank columns column → Contains columns column
     → IfSome end (λ e. column < e) → ends_from from (option_map (rank columns) end) ≡ true
-ends_behind columns from column None le is before = refl
-ends_behind columns from column (Some e) le is before =
+ends_after columns from column None le is before = refl
+ends_after columns from column (Some e) le is before =
     let less = (ranks_rise columns column e).1 is before in le-leb from (rank columns e) (omega arith)
 
 -- an end after a mark, if it is in the viewport, is after the mark there
@@ -30,7 +30,7 @@ marks_stay_inside columns all lanes from to bar mark inside starts stands lane_i
     let lt : rank columns mark.column < to = ltb-true (rank columns mark.column) to high in
     let begins : rank columns bar.from < rank columns mark.column = (ranks_rise columns bar.from mark.column).1 starts inside.behind in (
       and_from (nat_lt (rank columns bar.from) to) (ends_from from (option_map (rank columns) bar.to))
-          (lt-ltb (rank columns bar.from) to (omega arith)) (ends_behind columns from mark.column bar.to le stands inside.before),
+          (lt-ltb (rank columns bar.from) to (omega arith)) (ends_after columns from mark.column bar.to le stands inside.before),
       record {
         lane = rw (inside.lane, lane_is) refl;
         behind = omega (arith, begins);

@@ -6,7 +6,7 @@ use Rattle.draw_picture.specs.declared.picture.Picture.{Picture}
 use Rattle.draw_svg.specs.Bars.{number_text, opening_text, with_shape, with_stripes, with_title, with_words}
 use Rattle.draw_svg.specs.Frame.{has_wrong, with_legend}
 use Rattle.draw_svg.specs.Layout.{x_of, y_of, column_width, screens_before, width_of}
-use Rattle.draw_svg.specs.Parts.{with_before, with_behind, with_note, with_part, with_part_of, with_screens}
+use Rattle.draw_svg.specs.Parts.{with_before, with_after, with_note, with_part, with_part_of, with_screens}
 use Rattle.draw_svg.specs.Svg.{top_text, with_bars, with_lanes, with_legend_of, with_marks, IsSvgOf}
 
 -- a bar
@@ -21,7 +21,7 @@ bar-whole text opened titled shaped striped numbered worded whole width columns 
 -- what is said of a part
 pub part-whole : (text before behind counts : List ℕ) (width bottom end many : ℕ) (picture : Picture) (part : PicturePart)
     → picture.part ≡ Some part → many ≡ length picture.lanes.items → bottom ≡ y_of many → end ≡ x_of width picture.columns
-    → before ≡ with_before text part.before bottom → behind ≡ with_behind before (end + 8) part.behind bottom
+    → before ≡ with_before text part.before bottom → behind ≡ with_after before (end + 8) part.behind bottom
     → counts ≡ with_note behind (bottom + 52) picture.columns part picture.is_few picture.heading
     → counts ≡ with_part_of text width picture picture.part
 part-whole text before behind counts width bottom end many picture part is m b e first second third =

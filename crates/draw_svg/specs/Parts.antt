@@ -36,8 +36,8 @@ line_text x bottom =
 abbrev pub before_text : ℕ → List ℕ
 before_text count = codes "<text class='note' x='96' y='66'>&#8592; " ++ (decimal count ++ (codes " more columns</text>" ++ 10 ∷ []))
 
-abbrev pub behind_text : ℕ → ℕ → List ℕ
-behind_text x count =
+abbrev pub after_text : ℕ → ℕ → List ℕ
+after_text x count =
     codes "<text class='note' text-anchor='end' x='" ++ (decimal x ++ (codes "' y='66'>" ++ (decimal count
     ++ (codes " more columns &#8594;</text>" ++ 10 ∷ []))))
 
@@ -45,8 +45,8 @@ behind_text x count =
 abbrev pub with_before : List ℕ → ℕ → ℕ → List ℕ
 with_before text count bottom = if count == 0 then text else text ++ line_text 84 bottom ++ before_text count
 
-abbrev pub with_behind : List ℕ → ℕ → ℕ → ℕ → List ℕ
-with_behind text x count bottom = if count == 0 then text else text ++ line_text x bottom ++ behind_text x count
+abbrev pub with_after : List ℕ → ℕ → ℕ → ℕ → List ℕ
+with_after text x count bottom = if count == 0 then text else text ++ line_text x bottom ++ after_text x count
 
 -- how many columns are shown, of how many, and around which event
 abbrev pub counts_text : ℕ → PicturePart → List ℕ
@@ -80,7 +80,7 @@ abbrev pub with_part_of : List ℕ → ℕ → Picture → Option PicturePart �
 with_part_of text width picture None = text
 with_part_of text width picture (Some part) =
     let bottom = y_of (length picture.lanes.items) in
-    with_note (with_behind (with_before text part.before bottom) (x_of width picture.columns + 8) part.behind bottom)
+    with_note (with_after (with_before text part.before bottom) (x_of width picture.columns + 8) part.behind bottom)
     (bottom + 52) picture.columns part picture.is_few picture.heading
 
 unfoldable pub with_part : List ℕ → ℕ → Picture → List ℕ

@@ -1,7 +1,7 @@
 // The additions to a text that is long, or that shows a part of a picture.
 ghost use Rattle.std.specs.Prelude.{◌≡◌, ◌++◌, OnOk, string_bytes};
-ghost use Rattle.draw_svg.specs.Parts.{again_text, with_names, with_screens, line_text, before_text, behind_text};
-ghost use Rattle.draw_svg.specs.Parts.{with_before, with_behind, counts_text, alone_text, note_text, with_counts, with_note, with_part};
+ghost use Rattle.draw_svg.specs.Parts.{again_text, with_names, with_screens, line_text, before_text, after_text};
+ghost use Rattle.draw_svg.specs.Parts.{with_before, with_after, counts_text, alone_text, note_text, with_counts, with_note, with_part};
 
 use crate::layout::{names_at, x_of, y_of};
 use draw_picture::{Heading, Picture, PicturePart};
@@ -52,7 +52,7 @@ pub fn push_part(out: &mut String, width: u8, picture: &Picture) -> Result<(), M
     let bottom = y_of(picture.lanes.len());
     let end = x_of(width, picture.columns) + 8;
     push_before(out, part.before, bottom)?;
-    push_behind(out, end, part.behind, bottom)?;
+    push_after(out, end, part.behind, bottom)?;
     push_note(out, bottom + 52, part, picture)?;
     Ok(())
 }
@@ -73,8 +73,8 @@ fn push_before(out: &mut String, count: usize, bottom: u128) -> Result<(), Memor
 }
 
 /// Adds that there are more columns after the part, if there are.
-fn push_behind(out: &mut String, x: u128, count: usize, bottom: u128) -> Result<(), Memory>
-    ensures { OnOk result (string_bytes out.new ≡ with_behind (string_bytes out.old) x count
+fn push_after(out: &mut String, x: u128, count: usize, bottom: u128) -> Result<(), Memory>
+    ensures { OnOk result (string_bytes out.new ≡ with_after (string_bytes out.old) x count
         bottom) }
 {
     if count == 0 {

@@ -55,7 +55,7 @@ EachIsAfter may_answer r scripts done =
     (process : ℕ) (d : Result Pass Memory) → process < length done
     → IfOk (slice_index_or done process d) (IsPassAfter may_answer r scripts process)
 
--- the passes of all processes, by process, each of which did its script
+-- the passes of all processes, by process; each did its script
 abbrev pub AreAfter : (Call → Reply → Type 0) → Recorder → List (List Call) → List Pass → Type 0
 AreAfter may_answer r scripts passes =
     (process : ℕ) (d : Pass) → process < length passes → IsPassAfter may_answer r scripts process (slice_index_or passes process d)

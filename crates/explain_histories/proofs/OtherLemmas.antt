@@ -86,10 +86,10 @@ module _ (calls : List Operation) (others : List Event) (history : AreHistoryEve
       (k, b, less, b_at, same)
 
   pub may_follow : (n place : ℕ) (a : Operation) → slice_get calls n ≡ Some a → place ≡ begun_of calls (n + 1) → MayFollow calls n place a
-  may_follow n place a a_at place_is = (ends_behind, All-from_contains (EndsOutside a.inv place) (take n calls) ends_outside)
+  may_follow n place a a_at place_is = (ends_after, All-from_contains (EndsOutside a.inv place) (take n calls) ends_outside)
     where
-      ends_behind : IfSome a.response (λ response. place ≤ response.res)
-      ends_behind = of a.response refl
+      ends_after : IfSome a.response (λ response. place ≤ response.res)
+      ends_after = of a.response refl
         where
           of : (o : Option Response) → a.response ≡ o → IfSome o (λ response. place ≤ response.res)
           of None is = tt

@@ -63,11 +63,11 @@ fn may_follow(before: &[Operation], call: &Operation, place: usize) -> bool
     ensures { IsTrue result ↔ (EndsBehind place call.now
         × All (EndsOutside call.now.inv place) before.now) }
 {
-    ends_behind(place, call) && all_end_outside(call.inv, place, before)
+    ends_after(place, call) && all_end_outside(call.inv, place, before)
 }
 
 /// Returns whether a call is answered at a place or after it; a pending call is.
-fn ends_behind(place: usize, call: &Operation) -> bool
+fn ends_after(place: usize, call: &Operation) -> bool
     ensures { IsTrue result ↔ EndsBehind place call.now }
 {
     match &call.response {

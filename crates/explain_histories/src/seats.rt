@@ -18,8 +18,8 @@ pub struct Seat {
     pub res: Option<usize>,
 }
 
-/// The state of calls that begin and end one after another: the free processes, of which the last
-/// one became free last; the open calls, by rising number; and the events so far.
+/// The state of calls that begin and end one after another: the free processes, the one
+/// that became free last at the end; the open calls, by rising number; and the events so far.
 #[derive(Drop)]
 pub struct Seats {
     pub free: Vec<u8>,

@@ -276,7 +276,7 @@ put_answered : (call : Call) (reply : Reply) (res : ℕ) → is_some (put_of cal
 put_answered call reply res puts refused =
     false≢true (sym (put_says call reply res puts) ∙ (ap (says_unchanged call) refused ∙ refused_says call))
 
--- a call that surely put something was answered
+-- a call that is known to have put something was answered
 pub sure_answered : (call : Call) (response : Option Response) → is_sure call response ≡ true → is_some response ≡ true
 sure_answered call None sure = sure
 sure_answered call (Some response) sure = refl

@@ -1,4 +1,4 @@
--- Laws of calls of which some are left out.
+-- Laws of calls, some of them left out.
 use Rattle.std.specs.Prelude.{◌≡◌, false, ℕ, List}
 use Rattle.events.specs.declared.operation.Operation.{Operation}
 use Rattle.map_object.specs.MapObject.{Contents, IsRising}

@@ -1,5 +1,5 @@
--- Calls of which some are left out and some have lost their answers, so that each order of all
--- contains one of these. What the calls left out put is overwritten before the answer of a call
+-- Some calls are left out, and others have lost their answers. Each order of all calls contains an
+-- order of those that stay. What the calls left out put is overwritten before the answer of a call
 -- that stays could depend on it.
 use Rattle.std.specs.Prelude.{◌≡◌, ◌≢◌, ◌⊎◌, true, List, Contains}
 use Rattle.events.specs.declared.operation.Operation.{Operation}

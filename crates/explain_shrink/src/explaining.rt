@@ -12,7 +12,7 @@ use map_object::SortedMap;
 use std::alloc::Global;
 
 /// Explains why calls have no order from a map, if it is known that they have none. Returns a few
-/// calls that have none, which show that all have none, and each of which is needed. The calls are
+/// calls that have none. They show that all have none, and each of them is needed. The calls are
 /// sorted by rising invocation, and may have any places. The explanation names a call by its
 /// invocation. Each search may meet as many configurations as the budget. For n calls that leave r
 /// it makes about log n + 6 r searches, if a few neighbouring calls go wrong, and seldom more than

@@ -1,4 +1,4 @@
-// Laws of calls of which some are left out. Each is the contract of a function that does nothing.
+// Laws of calls, some of them left out. Each is the contract of a function that does nothing.
 ghost use Rattle.explain_shrink.specs.Laws.{RelaxedCallsHaveOrders, RestsAreRelaxed};
 
 /// Some calls are left out, and others have lost their answers. If none of those that stay depends

@@ -1,4 +1,4 @@
--- A past of which only one call is left becomes the one after it.
+-- A past with only one call left becomes the past after this call.
 use Rattle.follow_cuts.proofs.Common.{◌≡◌, ℕ, ◌<◌, ◌≤◌, Bool, false, not, cond, List, [], ◌∷◌, length, map, Option, Some, None, inl, refl, sym, subst}
 use Rattle.follow_cuts.proofs.Common.{⊎_elim, arith, ap, ◌∙◌, eq-eqb, All, AllPairs, Any, Contains, slice_get, le-ltb, none-some, same_Some, All-nil}
 use Rattle.follow_cuts.proofs.Common.{All-head, All-cons, AllPairs-nil, Any-first, Contains-nil, Contains-first, Contains-cases, Operation, Response}

@@ -1,4 +1,4 @@
-// A past of which only one call is left.
+// A past with only one call left.
 ghost use Rattle.std.specs.Prelude.{◌∷◌, [], IfOk, IfSome};
 ghost use Rattle.follow_cuts.specs.PartCuts.{AreCut, AreShaped};
 

@@ -38,8 +38,8 @@ pub(crate) fn branching_at(
     Ok(Branching { answered, keys })
 }
 
-/// Keys that no call ties to others, and of which this call has one. There are none if it would
-/// take too many.
+/// Keys that no call ties to others. This call has one of them. There are none if it would take too
+/// many.
 fn branch_keys(
     alloc: Global,
     calls: &[Operation],

@@ -4,8 +4,8 @@
 //!
 //! A walk from a past takes one call at a time. It ends as soon as nothing is left that ended
 //! before the moment: a call that it could take besides has not ended there, and is left. A read
-//! that fits is taken at once. Else only the calls of a few keys are tried, of which the call that
-//! ended first has one. A scan does not tie these keys to others while it does not fit the map at
+//! that fits is taken at once. Else only the calls of a few keys are tried. The call that ended
+//! first has one of them. A scan does not tie these keys to others while it does not fit the map at
 //! one of them: some call of these keys has to come before the scan.
 #![tactic(auto)]
 

@@ -174,7 +174,7 @@ fn scans_do_not_tie_keys_while_they_do_not_fit(rt: HostRuntime) -> Result<(), Fa
     Ok(())
 }
 
-/// The cut at a moment of two inserts, of which the second finds the value of the first.
+/// The cut at a moment of two inserts. The second one finds the value of the first.
 fn cut_of_two(alloc: Global, moment: usize) -> Result<Cut, Memory> {
     let calls = vec![in alloc;
         answered_call(Call::Insert(1, 5), 0, 1, Reply::None),

@@ -1,9 +1,9 @@
--- Calls of which an order is sought, and those of them that are left after a front.
+-- Calls that are to be ordered, and those of them that are left after a front.
 use Rattle.std.specs.Prelude.{◌≡◌, ◌↔◌, ℕ, ◌+◌, ◌<◌, ◌^◌, List, length, AllPairs, Contains}
 use Rattle.events.specs.declared.operation.Operation.{Operation}
 use Rattle.events.specs.Precedence.{NonePrecedesItself}
 
--- calls of which an order can be sought: by rising invocation, none precedes itself, and no more
+-- calls that can be ordered: by rising invocation, none precedes itself, and no more
 -- than have numbers
 pub record AreCalls (calls : List Operation) : Type 0 where
   pub few : length calls + 1 < 2 ^ 32

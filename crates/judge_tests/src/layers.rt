@@ -66,7 +66,7 @@ fn a_search_goes_on_turn_by_turn(rt: HostRuntime) -> Result<(), Fail> {
     Ok(())
 }
 
-/// As many calls as there may be, of which none overlaps another. There is one more configuration
+/// As many calls as there may be. None overlaps another. There is one more configuration
 /// than there are calls.
 #[test]
 fn a_search_of_most_calls_goes_on_turn_by_turn(rt: HostRuntime) -> Result<(), Fail> {

@@ -15,7 +15,7 @@ use std::thread::Threads;
 
 /// Searches this many segments by this many workers with one gate, and judges their history and its
 /// text. Returns how many times a worker was at the gate together with all the others.
-fn met_behind<R: Threads + Sync + Abort>(
+fn met_after<R: Threads + Sync + Abort>(
     rt: &R,
     alloc: Global,
     segments: u64,
@@ -75,7 +75,7 @@ fn judge_history<R: Threads + Sync + Abort>(
 
 #[test]
 fn gate_two_workers(rt: HostRuntime) -> Result<(), Fail> {
-    let met = met_behind(&rt, rt.alloc(), 2, 2)?;
+    let met = met_after(&rt, rt.alloc(), 2, 2)?;
     assert_eq!(rt; met, 6, "both have seen the other, three times");
     Ok(())
 }
@@ -83,7 +83,7 @@ fn gate_two_workers(rt: HostRuntime) -> Result<(), Fail> {
 #[test]
 fn as_many_workers_as_are_asked_for_meet_and_no_more(rt: HostRuntime) -> Result<(), Fail> {
     for workers in [1, 3, MAX_WORKERS] {
-        let met = met_behind(&rt, rt.alloc(), 192, workers)?;
+        let met = met_after(&rt, rt.alloc(), 192, workers)?;
         assert_eq!(rt; met, 576, "{workers} workers");
     }
     Ok(())

@@ -1,5 +1,5 @@
--- The text of a page: a template with texts in their places, in each of which `<` is escaped as
--- JSON has it (RFC 8259, section 7).
+-- The text of a page: a template with texts in their places. In each of them `<` is escaped as JSON
+-- has it (RFC 8259, section 7).
 use Rattle.std.specs.Prelude.{◌≡◌, ◌≢◌, ℕ, ◌==◌, if◌then◌else◌, List, [], ◌∷◌, ◌++◌, map, codes, All}
 use Rattle.std.specs.List.{concat}
 use Rattle.page_html.specs.declared.template.TheConstants.{BEFORE_HISTORY, BEFORE_JUDGE, BEFORE_LOCATE, BEFORE_EXPLAIN, BEFORE_ORDER, AFTER_ORDER}

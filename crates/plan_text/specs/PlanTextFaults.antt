@@ -19,7 +19,7 @@ IsPlanFormFault d faults.Shape = SpellsNoPlan d
 IsPlanFormFault d faults.Memory = ⊤
 IsPlanFormFault d fault = ⊥
 
--- the text spells scripts, of which there are none, or more than a plan has, or with more calls
+-- the text spells no script at all, or more scripts than a plan has, or scripts with more calls
 abbrev pub SpellsTooMany : List ℕ → Type 0
 SpellsTooMany text = (scripts : List (List Call)) × SpellsPlan text scripts × (AreFew scripts → ⊥)
 

@@ -14,7 +14,7 @@ use history_text::pairs_of;
 use serde_json::Value;
 use std::alloc::Global;
 
-/// The pairs that a value spells, with keys that rise, each of which a tree can insert. It returns
+/// The pairs that a value spells. Their keys rise, and a tree can insert each of them. It returns
 /// `Err` if memory runs out.
 pub fn start_of(alloc: Global, value: &Value) -> Result<Option<Vec<(u64, u64)>>, Memory>
     ensures spelled { IfOk result (λ found. IfSome found (λ pairs. view value.now ≡ list_data (map pair_data pairs.items))) }

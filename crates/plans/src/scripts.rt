@@ -8,7 +8,7 @@ use events::{MAX_CALLS, PROCESSES};
 use std::marker::Model;
 
 /// A script of calls for each process, within the limits: from 1 to `PROCESSES` scripts, with at most `MAX_CALLS` calls
-/// in all, each of which a tree can do. Contracts see the list of the scripts.
+/// in all. A tree can do each of them. Contracts see the list of the scripts.
 #[derive(Drop)]
 pub struct Plan {
     scripts: Vec<Vec<TreeCall>>,

@@ -60,11 +60,11 @@ pub(crate) fn enter_and_search<G: Gate>(
     ensures exact { IfOk result (λ f. HoldsAt (λ s. IsExactAnswer budget s f) segments.now segment) }
 {
     gate.enter(segment);
-    search_behind(alloc, segments, budget, gate, segment)
+    search_one(alloc, segments, budget, gate, segment)
 }
 
 /// Searches a segment, after the gate was passed for it.
-fn search_behind<G: Gate>(
+fn search_one<G: Gate>(
     alloc: Global,
     segments: &[Segment],
     budget: u32,

@@ -20,7 +20,7 @@ pub use Rattle.cli_outcome.specs.declared.outcome.Answer.TheVariants.{No, Undeci
 pub use Rattle.cli_outcome.specs.declared.outcome.CommandOutcome.{CommandOutcome}
 pub use Rattle.cli_outcome.specs.declared.outcome.CommandOutcome.TheVariants.{Answered, Failed, Memory, Noted, Refused, Words}
 pub use Rattle.cli_follow.specs.EventLines.{CallHasWords, IsWord, ReplyHasWords}
-pub use Rattle.cli_follow.specs.Handed.{IsHanded}
+pub use Rattle.cli_follow.specs.Taken.{HasTaken}
 pub use Rattle.cli_follow.specs.declared.line_follower.LineFollower.{LineFollower}
 pub use Rattle.stream_text.specs.Cuts.{lines_of}
 pub use Rattle.potzendai.specs.Calls.{IsBudget, IsCall, status_of, text_of, written}

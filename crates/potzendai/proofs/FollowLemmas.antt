@@ -3,7 +3,7 @@ use Rattle.potzendai.proofs.Common.{◌≡◌, ◌≢◌, ℕ, List, [], Option,
 use Rattle.potzendai.proofs.Common.{SpellLinearizable, BeginUnlinearizable}
 use Rattle.std.proofs.Common.{append-nil}
 use Rattle.cli_follow.specs.declared.line_follower.LineFollower.TheVariants.{Going, Ended}
-use Rattle.cli_follow.specs.Handed.{HasEnded}
+use Rattle.cli_follow.specs.Taken.{HasEnded}
 use Rattle.cli_follow.specs.Reading.{AreLinesOf}
 use Rattle.cli_follow.specs.StreamTexts.{BeginsWith}
 use Rattle.potzendai.proofs.StreamLemmas.{yes_has_order, no_has_none}

@@ -5,7 +5,7 @@ use Rattle.cli_outcome.specs.Lines.{line}
 use Rattle.cli_outcome.specs.Statuses.{memory_status, words_status}
 use Rattle.cli_follow.specs.declared.line_follower.LineFollower.{LineFollower}
 use Rattle.cli_follow.specs.declared.line_follower.LineFollower.TheVariants.{Going, Ended}
-use Rattle.cli_follow.specs.Handed.{IsHanded}
+use Rattle.cli_follow.specs.Taken.{HasTaken}
 use Rattle.cli_follow.specs.Outcomes.{IsStreamOutcome}
 use Rattle.cli_follow.specs.Reading.{AreLinesOf}
 use Rattle.potzendai.specs.Calls.{IsBudget, status_of, text_of, written}
@@ -13,7 +13,7 @@ use Rattle.potzendai.specs.Calls.{IsBudget, status_of, text_of, written}
 -- there is a follower, to which these lines were given at this budget
 abbrev pub Follows : ℕ → List (List ℕ) → Option LineFollower → Type 0
 Follows budget lines None = ⊥
-Follows budget lines (Some follower) = IsHanded budget lines follower
+Follows budget lines (Some follower) = HasTaken budget lines follower
 
 -- the status of a stream so far: 0 while it is followed
 abbrev pub standing : LineFollower → ℕ

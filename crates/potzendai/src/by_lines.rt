@@ -2,7 +2,7 @@
 ghost use Rattle.std.specs.Prelude.{◌≡◌, ◌≢◌, ℕ, List, ◌++◌, None};
 ghost use Rattle.potzendai.specs.Follows.{Follows, standing_of, IsOpening, IsReportedSoFar, IsReportedClosed};
 ghost use Rattle.potzendai.specs.Streams.{SpellLinearizable, BeginUnlinearizable};
-ghost use Rattle.cli_follow.specs.Handed.{IsHanded};
+ghost use Rattle.cli_follow.specs.Taken.{HasTaken};
 ghost use Rattle.stream_text.specs.Cuts.{lines_of};
 
 use crate::handle::{PotzendaiFollower, put, take};
@@ -48,7 +48,7 @@ pub extern "C" fn potzendai_follow_event(
     handle: &mut PotzendaiFollower,
     text: &[u8],
 ) -> u32
-    ensures handed { (budget : ℕ) (lines : List (List ℕ)) → Follows budget lines handle.old.follows
+    ensures added { (budget : ℕ) (lines : List (List ℕ)) → Follows budget lines handle.old.follows
         → Follows budget (lines ++ lines_of text.now) handle.new.follows }
     ensures closed { handle.old.follows ≡ None → handle.new.follows ≡ None }
     ensures stays { standing_of handle.old.follows ≢ 0 → handle.new.follows ≡ handle.old.follows }
@@ -107,7 +107,7 @@ pub extern "C" fn potzendai_follow_close(alloc: Global, handle: &mut PotzendaiFo
 
 /// Writes the outcome for a stream of the lines so far.
 fn report_follower(alloc: Global, follower: &LineFollower, room: &mut [u8], size: &mut usize) -> u32
-    ensures { (budget : ℕ) (lines : List (List ℕ)) → IsHanded budget lines follower.now
+    ensures { (budget : ℕ) (lines : List (List ℕ)) → HasTaken budget lines follower.now
         → IsReportedSoFar budget lines room.old room.new size.new result }
 {
     match follower {

@@ -5,7 +5,7 @@ ghost use Rattle.potzendai.specs.Follows.{Follows, standing_of};
 ghost use Rattle.potzendai.specs.Streams.{BeginUnlinearizable};
 ghost use Rattle.potzendai.specs.Values.{call_line, call_of, reply_line, reply_of};
 ghost use Rattle.cli_follow.specs.EventLines.{CallHasWords, ReplyHasWords};
-ghost use Rattle.cli_follow.specs.Handed.{HasEnded, IsHanded};
+ghost use Rattle.cli_follow.specs.Taken.{HasEnded, HasTaken};
 ghost use Rattle.stream_text.specs.Cuts.{lines_of};
 
 use crate::handle::{PotzendaiFollower, put, take};
@@ -31,7 +31,7 @@ pub extern "C" fn potzendai_follow_invoke(
     value: u64,
     other: u64,
 ) -> u32
-    ensures handed { (budget : ℕ) (lines : List (List ℕ)) → Follows budget lines handle.old.follows
+    ensures added { (budget : ℕ) (lines : List (List ℕ)) → Follows budget lines handle.old.follows
         → Follows budget (lines ++ call_line process (call_of kind key value other) ∷ [])
         handle.new.follows }
     ensures closed { handle.old.follows ≡ None → handle.new.follows ≡ None }
@@ -65,7 +65,7 @@ pub extern "C" fn potzendai_follow_answer_with(
     value: u64,
     pairs: &[PotzendaiPair],
 ) -> u32
-    ensures handed { (budget : ℕ) (lines : List (List ℕ)) → Follows budget lines handle.old.follows
+    ensures added { (budget : ℕ) (lines : List (List ℕ)) → Follows budget lines handle.old.follows
         → Follows budget (lines ++ reply_line process (reply_of kind value pairs.now) ∷ [])
         handle.new.follows }
     ensures closed { handle.old.follows ≡ None → handle.new.follows ≡ None }
@@ -95,9 +95,9 @@ fn take_call(
     process: u32,
     call: Option<Call>,
 ) -> LineFollower
-    ensures handed { (budget : ℕ) (lines : List (List ℕ)) → IfSome call CallHasWords
-        → IsHanded budget lines follower
-        → IsHanded budget (lines ++ call_line process call ∷ []) result }
+    ensures added { (budget : ℕ) (lines : List (List ℕ)) → IfSome call CallHasWords
+        → HasTaken budget lines follower
+        → HasTaken budget (lines ++ call_line process call ∷ []) result }
     ensures ended { HasEnded follower → result ≡ follower }
 {
     match call {
@@ -113,10 +113,10 @@ fn take_answer(
     process: u32,
     reply: Result<Option<Reply>, Memory>,
 ) -> LineFollower
-    ensures handed { (budget : ℕ) (lines : List (List ℕ)) (given : Option Answer)
+    ensures added { (budget : ℕ) (lines : List (List ℕ)) (given : Option Answer)
         → IfOk reply (λ found. found ≡ given) → IfOk reply (λ found. IfSome found ReplyHasWords)
-        → IsHanded budget lines follower
-        → IsHanded budget (lines ++ reply_line process given ∷ []) result }
+        → HasTaken budget lines follower
+        → HasTaken budget (lines ++ reply_line process given ∷ []) result }
     ensures ended { HasEnded follower → result ≡ follower }
 {
     match reply {
@@ -132,9 +132,9 @@ fn take_reply(
     process: u32,
     reply: Option<Reply>,
 ) -> LineFollower
-    ensures handed { (budget : ℕ) (lines : List (List ℕ)) → IfSome reply ReplyHasWords
-        → IsHanded budget lines follower
-        → IsHanded budget (lines ++ reply_line process reply ∷ []) result }
+    ensures added { (budget : ℕ) (lines : List (List ℕ)) → IfSome reply ReplyHasWords
+        → HasTaken budget lines follower
+        → HasTaken budget (lines ++ reply_line process reply ∷ []) result }
     ensures ended { HasEnded follower → result ≡ follower }
 {
     match reply {

@@ -24,7 +24,7 @@ struct Meeting {
 }
 
 impl Meeting {
-    /// A subject of which no call has begun yet.
+    /// A subject before its first call.
     fn new() -> Meeting {
         Meeting {
             first: AtomicBool::new(false),

@@ -88,7 +88,7 @@ fn a_call_that_changed_nothing_puts_nothing(rt: HostRuntime) -> Result<(), Fail>
     Ok(())
 }
 
-// A get of which it is known only that it was done.
+// It is known only that the get was done.
 #[test]
 fn a_call_that_reports_less_is_not_stuck(rt: HostRuntime) -> Result<(), Fail> {
     let alloc = rt.alloc();

@@ -29,7 +29,7 @@ impl SharedCore {
     ghost use Rattle.running.specs.Places.{IsPlaceOf, shown, setup_of};
     ghost use Rattle.running.specs.Ends.{Ended};
 
-    /// The words of an empty tree, and a place with all processes, none of which has begun
+    /// The words of an empty tree, and a place with all processes. None of them has begun
     /// anything. No other call takes memory, and this one fails only if memory runs out.
     pub fn open(alloc: Global, setup: Setup) -> Result<(SharedCore, SharedGroup), Memory>
         requires limits { IsSetup setup }

@@ -44,13 +44,13 @@ OneExactAnswer =
     (budget : ℕ) (segment : SegmentView) (a b : Found) → IsExactAnswer budget segment a → IsExactAnswer budget segment b
     → AreSameAnswer a b
 
--- calls of which none precedes itself have a least order or no order
+-- calls, none of which precedes itself, have a least order or no order
 abbrev pub LeastOrderOrNone : Type 0
 LeastOrderOrNone =
     (start : Contents) (calls : List Operation) → NonePrecedesItself calls
     → ((order : List ℕ) × IsLeastOrder start calls order) ⊎ (IsLinearizable start calls → ⊥)
 
--- calls of which none precedes itself have a count
+-- calls, none of which precedes itself, have a count
 abbrev pub EachHasCount : Type 0
 EachHasCount = (start : Contents) (calls : List Operation) → NonePrecedesItself calls → (n : ℕ) × HasCount start calls n
 

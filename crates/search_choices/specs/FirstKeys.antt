@@ -1,5 +1,5 @@
--- Keys of which a call goes first: where what is left has an order, it has one that begins with a
--- call of one of them. Such calls are what Valmari 1991 calls a stubborn set and Godefroid 1996 a
+-- Keys that have a call that goes first: if what is left has an order, it has one that begins with
+-- a call of one of them. Such calls are what Valmari 1991 calls a stubborn set and Godefroid 1996 a
 -- persistent one: no call of another key changes whether they may come next.
 use Rattle.std.specs.Prelude.{◌≡◌, ◌≢◌, ◌⊎◌, ℕ, ◌≤◌, List, [], ◌∷◌, ◌++◌, Option, Some, slice_get, Contains}
 use Rattle.events.specs.declared.event.Call.{Call}
@@ -62,7 +62,7 @@ AllMissOne m calls path answered keys =
     (n : ℕ) (p : Operation) (r : Response) → IsLeftBy calls path answered n p → p.response ≡ Some r → IsScanOfOne keys p.call r.reply
     → MissesOne m keys p.call r.reply
 
--- the keys of which a call goes first, where the earliest answer is at this place
+-- the keys that have a call that goes first, if the earliest answer is at this place
 pub record AreFirstKeys (m : Contents) (calls : List Operation) (path : List ℕ) (answered : ℕ) (keys : List ℕ) : Type 0 where
   pub first : HasAnswered m calls path answered keys
   pub scans : AllMissOne m calls path answered keys

@@ -1,4 +1,4 @@
-// Keys of which a call goes first.
+// Keys that have a call that goes first.
 ghost use Rattle.std.specs.Prelude.{◌≡◌, ◌↔◌, ◌⊎◌, ◌∷◌, [], ℕ, ◌<◌, ◌≤◌, true, false, length, Some, IsTrue, IfSome, IfNone, IfOk};
 ghost use Rattle.std.specs.Prelude.{AllPairs, Contains};
 ghost use Rattle.events.specs.declared.operation.Response.{Response};
@@ -17,7 +17,7 @@ use std::alloc::Global;
 /// How many keys are taken together, at most.
 const MOST: usize = 64;
 
-/// Keys of which a call goes first, if such are seen. The first key is the key of the call that was
+/// Keys that have a call that goes first, if such are seen. The first key is the key of the call that was
 /// answered first, or one that this call missed. Each scan over these keys that missed none of them
 /// adds one more. For each of these keys it looks at the scans that begin no later than the answer,
 /// and at their pairs.

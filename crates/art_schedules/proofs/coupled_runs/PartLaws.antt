@@ -1,4 +1,4 @@
--- The laws of the parts of which the proof is made.
+-- The laws that the proof is made of.
 use Rattle.art_schedules.proofs.Common.{KeptTreesFollow, WorkBegins, WorkersMayHaveNoMark, OthersKeepMarked, WorkersGoOn, ObsoleteRowsHang}
 use Rattle.art_schedules.proofs.Common.{WorkersOnlyWork, OthersKeepEnds, EndersGoOn, CallsBegin, CallsGoOn, CallsStay, FoundIsAnswered}
 use Rattle.art_schedules.proofs.Common.{OthersLeaveWays, WaysTakeLive, ObsoleteRowsLeave, RestsHaveNone, WaysTakeReached, GoodRowsStay}

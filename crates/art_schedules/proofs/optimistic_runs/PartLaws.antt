@@ -1,4 +1,4 @@
--- The laws of the parts of which the proof is made.
+-- The laws that the proof is made of.
 use Rattle.art_schedules.proofs.Common.{KeptTreesFollow, WorkBegins, OthersKeepWork, OthersKeepEnds, WorkersStep, LeaversStep, WaysBegin}
 use Rattle.art_schedules.proofs.Common.{OtherStepsKeepWays, OwnFindingsStay, OwnStepsGoOn, QuietStepsKeepTrees, ScansStoreNothing}
 use Rattle.art_schedules.proofs.Common.{AnsweredScansHavePoints}

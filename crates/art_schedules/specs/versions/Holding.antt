@@ -70,7 +70,7 @@ child_rows (ChildRow base kind) = (base, kind) ∷ []
 child_rows Empty = []
 child_rows (Leaf key value) = []
 
--- The rows of which a call has kept a version: where reads are locked, those that it holds.
+-- The rows whose version a call has kept: where reads are locked, those that it holds.
 
 abbrev pub kept_at_place : Bool → Bool → Position → List HeldRow
 kept_at_place true i p = held_at_place true i p
@@ -341,7 +341,7 @@ FitsScan l P (scan.Index n index words) w = (n.kind ≡ FortyEight) × (index < 
 FitsScan l P (scan.Child f slot) w = FitsFrame P f × IsSlot f.row.base f.row.kind slot
 FitsScan l P step w = Unit {0}
 
--- a row of which such a version is kept
+-- a row whose version is kept so
 abbrev pub IsKept : Bool → OfRows → HeldRow → Type 0
 IsKept l P h = IsVersion l h.kept × P h.base h.kind
 

@@ -1,13 +1,13 @@
-use Rattle.potzendai.proofs.Common.{◌≢◌, ◌++◌, Option, Some, ap, sym, ◌∙◌, subst, lines_of, IsHanded, LineFollower, Follows, standing_of}
+use Rattle.potzendai.proofs.Common.{◌≢◌, ◌++◌, Option, Some, ap, sym, ◌∙◌, subst, lines_of, HasTaken, LineFollower, Follows, standing_of}
 use Rattle.potzendai.proofs.FollowLemmas.{has_ended, standing_no}
 use Rattle.potzendai.proofs.by_lines.potzendai_follow_event.Goals as goal
 
-pub returns-clause-handed : goal.returns-clause-handed
-returns-clause-handed c = λ budget lines follows.
+pub returns-clause-added : goal.returns-clause-added
+returns-clause-added c = λ budget lines follows.
     let held = subst (λ (f : Option LineFollower). Follows budget lines f) (sym c.in-Some.ensures.taken) follows in
     let taken = sym (c.replace-follower.ensures.value ∙ c.deref_mut.ensures.value) in
-    let handed = c.take_lines.ensures.handed budget lines (subst (λ (f : LineFollower). IsHanded budget lines f) taken held) in
-    subst (λ (f : Option LineFollower). Follows budget (lines ++ lines_of c.args.text.now) f) (sym c.put.ensures) handed
+    let added = c.take_lines.ensures.added budget lines (subst (λ (f : LineFollower). HasTaken budget lines f) taken held) in
+    subst (λ (f : Option LineFollower). Follows budget (lines ++ lines_of c.args.text.now) f) (sym c.put.ensures) added
 
 pub returns-clause-no : goal.returns-clause-no
 returns-clause-no c = λ budget all follows one.

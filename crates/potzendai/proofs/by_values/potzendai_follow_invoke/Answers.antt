@@ -1,16 +1,16 @@
-use Rattle.potzendai.proofs.Common.{◌≢◌, [], ◌∷◌, ◌++◌, Option, Some, ap, sym, ◌∙◌, subst, Call, IsHanded, LineFollower, Follows, standing_of, call_line}
+use Rattle.potzendai.proofs.Common.{◌≢◌, [], ◌∷◌, ◌++◌, Option, Some, ap, sym, ◌∙◌, subst, Call, HasTaken, LineFollower, Follows, standing_of, call_line}
 use Rattle.potzendai.proofs.Common.{call_of}
 use Rattle.potzendai.proofs.FollowLemmas.{has_ended, standing_no}
 use Rattle.potzendai.proofs.by_values.potzendai_follow_invoke.Goals as goal
 
-pub returns-clause-handed : goal.returns-clause-handed
-returns-clause-handed c = λ budget lines follows.
+pub returns-clause-added : goal.returns-clause-added
+returns-clause-added c = λ budget lines follows.
     let held = subst (λ (f : Option LineFollower). Follows budget lines f) (sym c.in-Some.ensures.taken) follows in
     let taken = sym (c.replace-follower.ensures.value ∙ c.deref_mut.ensures.value) in
-    let handed = c.take_call.ensures.handed budget lines c.call_of.ensures.words (subst (λ (f : LineFollower). IsHanded budget lines f) taken held) in
+    let added = c.take_call.ensures.added budget lines c.call_of.ensures.words (subst (λ (f : LineFollower). HasTaken budget lines f) taken held) in
     let call = call_of c.args.kind c.args.key c.args.value c.args.other in
-    let asked = subst (λ (call : Option Call). IsHanded budget (lines ++ call_line c.args.process call ∷ []) c.take_call.result)
-    c.call_of.ensures.call handed in
+    let asked = subst (λ (call : Option Call). HasTaken budget (lines ++ call_line c.args.process call ∷ []) c.take_call.result)
+    c.call_of.ensures.call added in
     subst (λ (f : Option LineFollower). Follows budget (lines ++ call_line c.args.process call ∷ []) f) (sym c.put.ensures) asked
 
 pub returns-clause-no : goal.returns-clause-no

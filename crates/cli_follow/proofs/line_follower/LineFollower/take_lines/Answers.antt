@@ -1,12 +1,12 @@
-use Rattle.cli_follow.proofs.Common.{◌≡◌, ℕ, List, length, [], ◌∷◌, ◌++◌, take, refl, sym, ap, ◌∙◌, subst, append_assoc, append-nil, IsHanded, HasEnded}
-use Rattle.cli_follow.proofs.HandedLemmas.{lines_of-cut, handed_next, handed_all, handed_last, none_left}
+use Rattle.cli_follow.proofs.Common.{◌≡◌, ℕ, List, length, [], ◌∷◌, ◌++◌, take, refl, sym, ap, ◌∙◌, subst, append_assoc, append-nil, HasTaken, HasEnded}
+use Rattle.cli_follow.proofs.AddedLemmas.{lines_of-cut, added_next, added_all, added_last, none_left}
 use Rattle.cli_follow.proofs.line_follower.LineFollower.take_lines.Goals as goal
 
 pub loop-count-init : goal.loop-count-init
 loop-count-init c = (
   [],
   refl,
-  λ budget lines handed. subst (λ (ls : List (List ℕ)). IsHanded budget ls c.args.self) (sym (append-nil lines)) handed,
+  λ budget lines added. subst (λ (ls : List (List ℕ)). HasTaken budget ls c.args.self) (sym (append-nil lines)) added,
   λ ended. refl,
 )
 
@@ -19,25 +19,25 @@ loop-count-preserved c =
     let read = lines_of-cut c.in-Some.count rest c.in-Some.ensures.within c.in-Some.ensures.here c.in-Some.ensures.before in (
       at.0 ++ line ∷ [],
       at.1 ∙ (ap (λ (ls : List (List ℕ)). at.0 ++ ls) read ∙ sym (append_assoc at.0 (line ∷ []) _)),
-      λ budget lines handed. handed_next budget lines at.0 line c.take_line-follower.result
-          (c.take_line-follower.ensures.handed budget (lines ++ at.0) (at.2 budget lines handed)),
+      λ budget lines added. added_next budget lines at.0 line c.take_line-follower.result
+          (c.take_line-follower.ensures.added budget (lines ++ at.0) (at.2 budget lines added)),
       λ ended. c.take_line-follower.ensures.ended (subst HasEnded (sym (at.3 ended)) ended) ∙ at.3 ended,
     )
 
-pub returns-then-is_empty-clause-handed : goal.returns-then-is_empty-clause-handed
-returns-then-is_empty-clause-handed c = λ budget lines handed.
+pub returns-then-is_empty-clause-added : goal.returns-then-is_empty-clause-added
+returns-then-is_empty-clause-added c = λ budget lines added.
     let l = c.loop-count in
     let at = l.invariant in
-    handed_all budget lines at.0 c.args.bytes.now l.rest.now l.follower at.1
-    (none_left l.rest.now c.is_empty.result c.is_empty.ensures c.if-is_empty.true) (at.2 budget lines handed)
+    added_all budget lines at.0 c.args.bytes.now l.rest.now l.follower at.1
+    (none_left l.rest.now c.is_empty.result c.is_empty.ensures c.if-is_empty.true) (at.2 budget lines added)
 
-pub returns-else-is_empty-clause-handed : goal.returns-else-is_empty-clause-handed
-returns-else-is_empty-clause-handed c = λ budget lines handed.
+pub returns-else-is_empty-clause-added : goal.returns-else-is_empty-clause-added
+returns-else-is_empty-clause-added c = λ budget lines added.
     let l = c.loop-count in
     let at = l.invariant in
-    handed_last budget lines at.0 c.args.bytes.now l.rest.now c.take_line.result at.1
+    added_last budget lines at.0 c.args.bytes.now l.rest.now c.take_line.result at.1
     (λ (none : length l.rest.now ≡ 0). let t = rw none at c.is_empty.ensures in cc) c.in_default.ensures.none
-    (c.take_line.ensures.handed budget (lines ++ at.0) (at.2 budget lines handed))
+    (c.take_line.ensures.added budget (lines ++ at.0) (at.2 budget lines added))
 
 pub returns-else-is_empty-clause-ended : goal.returns-else-is_empty-clause-ended
 returns-else-is_empty-clause-ended c = λ ended.

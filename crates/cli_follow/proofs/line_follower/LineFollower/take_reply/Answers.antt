@@ -1,12 +1,12 @@
-use Rattle.cli_follow.proofs.Common.{ℕ, [], ◌∷◌, ◌++◌, subst, Answer, event_line, IsHanded}
+use Rattle.cli_follow.proofs.Common.{ℕ, [], ◌∷◌, ◌++◌, subst, Answer, event_line, HasTaken}
 use Rattle.cli_follow.proofs.line_follower.LineFollower.take_reply.Goals as goal
 
-pub returns-in-Some-clause-handed : goal.returns-in-Some-clause-handed
-returns-in-Some-clause-handed c = λ budget lines words handed.
+pub returns-in-Some-clause-added : goal.returns-in-Some-clause-added
+returns-in-Some-clause-added c = λ budget lines words added.
     let is = c.in-Some.ensures in
-    subst (λ (process : ℕ). IsHanded budget (lines ++ event_line (Answer process c.args.reply) ∷ []) c.take_event.result) is.0
-    (c.take_event.ensures.handed budget lines (is.1, words) handed)
+    subst (λ (process : ℕ). HasTaken budget (lines ++ event_line (Answer process c.args.reply) ∷ []) c.take_event.result) is.0
+    (c.take_event.ensures.added budget lines (is.1, words) added)
 
-pub returns-in-None-clause-handed : goal.returns-in-None-clause-handed
-returns-in-None-clause-handed c = λ budget lines words handed.
-    c.take_written.ensures.handed budget lines (event_line (Answer c.args.process c.args.reply)) c.reply_line.ensures handed
+pub returns-in-None-clause-added : goal.returns-in-None-clause-added
+returns-in-None-clause-added c = λ budget lines words added.
+    c.take_written.ensures.added budget lines (event_line (Answer c.args.process c.args.reply)) c.reply_line.ensures added

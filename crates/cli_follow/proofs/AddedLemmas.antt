@@ -1,8 +1,8 @@
--- The outcomes of lines that are handed over.
+-- The outcomes of lines that are passed.
 use Rattle.cli_follow.proofs.Common.{◌≡◌, ◌≢◌, ℕ, zero, suc, ◌+◌, ◌-◌, ◌<◌, ◌≤◌, ◌==◌, Bool, true, false, List, [], ◌∷◌, ◌++◌, length, take, drop}
 use Rattle.cli_follow.proofs.Common.{Option, Some, None, get_or, refl, sym, ap, ◌∙◌, subst, inr, append_assoc, append-nil, length-drop, arith}
 use Rattle.cli_follow.proofs.Common.{string_bytes, nat_tests, take_all, All-head, All-tail, line_feed, HasNoLineFeed, lines_of, CommandOutcome}
-use Rattle.cli_follow.proofs.Common.{Answered, Noted, Refused, Memory, Words, Failed, Followed, LineFollower, Going, Ended, IsHanded}
+use Rattle.cli_follow.proofs.Common.{Answered, Noted, Refused, Memory, Words, Failed, Followed, LineFollower, Going, Ended, HasTaken}
 use Rattle.cli_follow.proofs.Common.{IsManyRefusal, IsStreamOutcome, too_many_name, most_lines, BeginsWith}
 use Rattle.cli_follow.proofs.ReadingLemmas.{with_byte}
 use Rattle.cli_follow.proofs.RefusalLemmas.{refusal_of, next_of, numbered}
@@ -55,16 +55,16 @@ lines_of-unfed byte (next ∷ bytes) whole =
 -- ---- a line more
 
 -- there are too many lines
-pub handed_many : (budget given count number : ℕ) (lines : List (List ℕ)) (line : List ℕ) (f : Followed) (outcome : CommandOutcome)
-    → IsHanded budget lines (Going f count given) → most_lines ≤ count → number ≡ most_lines + 1 → IsManyRefusal number outcome
-    → IsHanded budget (lines ++ line ∷ []) (Ended outcome)
-handed_many budget given count number lines line f outcome handed many numbers is = λ known begins. refused known outcome begins is
+pub added_many : (budget given count number : ℕ) (lines : List (List ℕ)) (line : List ℕ) (f : Followed) (outcome : CommandOutcome)
+    → HasTaken budget lines (Going f count given) → most_lines ≤ count → number ≡ most_lines + 1 → IsManyRefusal number outcome
+    → HasTaken budget (lines ++ line ∷ []) (Ended outcome)
+added_many budget given count number lines line f outcome added many numbers is = λ known begins. refused known outcome begins is
   where
     counted : count ≡ length lines
-    counted = handed.1
+    counted = added.1
 
     most : length lines ≡ most_lines
-    most = let top = handed.2 in omega (arith, counted, many, top)
+    most = let top = added.2 in omega (arith, counted, many, top)
 
     refused : (known : Option (List ℕ)) (outcome : CommandOutcome) → BeginsWith known (lines ++ line ∷ []) → IsManyRefusal number outcome
         → IsStreamOutcome budget known outcome
@@ -75,17 +75,17 @@ handed_many budget given count number lines line f outcome handed many numbers i
     refused known Failed begins is = absurd is
     refused None (Refused bytes hint) begins is = tt
     refused (Some text) (Refused bytes hint) begins is =
-        refusal_of text lines (line ∷ begins.0) f too_many_name (string_bytes bytes) (string_bytes hint) handed.3 (next_of text lines begins.0 line begins.1)
+        refusal_of text lines (line ∷ begins.0) f too_many_name (string_bytes bytes) (string_bytes hint) added.3 (next_of text lines begins.0 line begins.1)
         (inr (inr (record { count = most; name_is = refl; hint_is = is.1 })))
         (numbered (length lines + 1) number too_many_name (string_bytes bytes) (ap (λ n. n + 1) most ∙ sym numbers) is.0)
 
 -- ---- lines more
 
 -- the follower of some lines more, after one more
-pub handed_next : (budget : ℕ) (lines read : List (List ℕ)) (line : List ℕ) (f : LineFollower)
-    → IsHanded budget ((lines ++ read) ++ line ∷ []) f → IsHanded budget (lines ++ (read ++ line ∷ [])) f
-handed_next budget lines read line f handed =
-    subst (λ (ls : List (List ℕ)). IsHanded budget ls f) (append_assoc lines read (line ∷ [])) handed
+pub added_next : (budget : ℕ) (lines read : List (List ℕ)) (line : List ℕ) (f : LineFollower)
+    → HasTaken budget ((lines ++ read) ++ line ∷ []) f → HasTaken budget (lines ++ (read ++ line ∷ [])) f
+added_next budget lines read line f added =
+    subst (λ (ls : List (List ℕ)). HasTaken budget ls f) (append_assoc lines read (line ∷ [])) added
 
 pub none_left : (rest : List ℕ) (empty : Bool) → empty ≡ (length rest == 0) → empty ≡ true → length rest ≡ 0
 none_left [] empty is right = refl
@@ -94,24 +94,24 @@ none_left (byte ∷ rest) empty is right =
     let t = is ∙ more in cc
 
 -- no bytes are left
-pub handed_all : (budget : ℕ) (lines read : List (List ℕ)) (bytes rest : List ℕ) (f : LineFollower)
-    → lines_of bytes ≡ read ++ lines_of rest → length rest ≡ 0 → IsHanded budget (lines ++ read) f
-    → IsHanded budget (lines ++ lines_of bytes) f
-handed_all budget lines read bytes [] f parts none handed =
-    subst (λ (ls : List (List ℕ)). IsHanded budget (lines ++ ls) f) (sym (append-nil read) ∙ sym parts) handed
-handed_all budget lines read bytes (byte ∷ rest) f parts none handed = absurd (omega (arith, none))
+pub added_all : (budget : ℕ) (lines read : List (List ℕ)) (bytes rest : List ℕ) (f : LineFollower)
+    → lines_of bytes ≡ read ++ lines_of rest → length rest ≡ 0 → HasTaken budget (lines ++ read) f
+    → HasTaken budget (lines ++ lines_of bytes) f
+added_all budget lines read bytes [] f parts none added =
+    subst (λ (ls : List (List ℕ)). HasTaken budget (lines ++ ls) f) (sym (append-nil read) ∙ sym parts) added
+added_all budget lines read bytes (byte ∷ rest) f parts none added = absurd (omega (arith, none))
 
 -- those that are left are the last line
-pub handed_last : (budget : ℕ) (lines read : List (List ℕ)) (bytes rest : List ℕ) (f : LineFollower)
-    → lines_of bytes ≡ read ++ lines_of rest → length rest ≢ 0 → HasNoLineFeed rest → IsHanded budget ((lines ++ read) ++ rest ∷ []) f
-    → IsHanded budget (lines ++ lines_of bytes) f
-handed_last budget lines read bytes [] f parts some whole handed = absurd (some refl)
-handed_last budget lines read bytes (byte ∷ rest) f parts some whole handed =
-    subst (λ (ls : List (List ℕ)). IsHanded budget (lines ++ ls) f)
+pub added_last : (budget : ℕ) (lines read : List (List ℕ)) (bytes rest : List ℕ) (f : LineFollower)
+    → lines_of bytes ≡ read ++ lines_of rest → length rest ≢ 0 → HasNoLineFeed rest → HasTaken budget ((lines ++ read) ++ rest ∷ []) f
+    → HasTaken budget (lines ++ lines_of bytes) f
+added_last budget lines read bytes [] f parts some whole added = absurd (some refl)
+added_last budget lines read bytes (byte ∷ rest) f parts some whole added =
+    subst (λ (ls : List (List ℕ)). HasTaken budget (lines ++ ls) f)
     (ap (λ (ls : List (List ℕ)). read ++ ls) (sym (lines_of-unfed byte rest whole)) ∙ sym parts)
-    (handed_next budget lines read (byte ∷ rest) f handed)
+    (added_next budget lines read (byte ∷ rest) f added)
 
--- all lines of a text were handed over
-pub ended_with : (budget : ℕ) (text : List ℕ) (outcome : CommandOutcome) → IsHanded budget (lines_of text) (Ended outcome)
+-- all lines of a text were passed
+pub ended_with : (budget : ℕ) (text : List ℕ) (outcome : CommandOutcome) → HasTaken budget (lines_of text) (Ended outcome)
     → IsStreamOutcome budget (Some text) outcome
-ended_with budget text outcome handed = handed (Some text) ([], sym (append-nil (lines_of text)))
+ended_with budget text outcome added = added (Some text) ([], sym (append-nil (lines_of text)))

@@ -1,5 +1,5 @@
 use Rattle.pool.proofs.Common.{at_read, IfOk-weaker, HoldsAt, IsExactAnswer}
-use Rattle.pool.proofs.worker.search_behind.Goals as goal
+use Rattle.pool.proofs.worker.search_one.Goals as goal
 
 pub returns : goal.returns
 returns g c =

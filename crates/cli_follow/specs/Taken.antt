@@ -11,10 +11,10 @@ use Rattle.cli_follow.specs.declared.line_follower.LineFollower.TheVariants.{Goi
 
 -- these lines were passed at this budget: they are followed, or the outcome is one of any text that
 -- begins with them
-abbrev pub IsHanded : ℕ → List (List ℕ) → LineFollower → Type 0
-IsHanded budget lines (Going followed count given) =
+abbrev pub HasTaken : ℕ → List (List ℕ) → LineFollower → Type 0
+HasTaken budget lines (Going followed count given) =
     (given ≡ budget) × (count ≡ length lines) × (count ≤ most_lines) × IsFollowed lines followed
-IsHanded budget lines (Ended outcome) = (known : Option (List ℕ)) → BeginsWith known lines → IsStreamOutcome budget known outcome
+HasTaken budget lines (Ended outcome) = (known : Option (List ℕ)) → BeginsWith known lines → IsStreamOutcome budget known outcome
 
 -- the outcome is known
 abbrev pub HasEnded : LineFollower → Type 0
