@@ -1,7 +1,7 @@
 -- No front is longer than the longest that a search of all configurations meets.
-use Rattle.cli_explain.proofs.Common.{ℕ, ◌≤◌, List, [], ◌∷◌, ◌++◌, length, ◌∙◌, subst, ⊎_elim, arith, ◌≢◌, Contains, length-append}
-use Rattle.cli_explain.proofs.Common.{get_or_default, All-contains, All-weaker, Contains-push_cases, Operation, NonePrecedesItself}
-use Rattle.cli_explain.proofs.Common.{All-from_contains, Contents, as_long_as, NoFrontIsLonger}
+use Rattle.cli_explain.proofs.Common.{ℕ, ◌≤◌, List, [], ◌∷◌, ◌++◌, length, ◌∙◌, subst, ⊎_elim, arith, ◌≢◌, Contains, length-append, get_or_default}
+use Rattle.cli_explain.proofs.Common.{All-contains, All-weaker, Contains-push_cases, Operation, NonePrecedesItself, All-from_contains, Contents}
+use Rattle.cli_explain.proofs.Common.{as_long_as, NoFrontIsLonger}
 use Rattle.std.proofs.lemmas.List.Quantifiers.{all_pairs_push}
 use Rattle.memo.specs.Configurations.{Configuration, IsReachable}
 use Rattle.memo.specs.Counts.{ReachesMoreThan}

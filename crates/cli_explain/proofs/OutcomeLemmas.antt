@@ -1,6 +1,5 @@
 -- An explanation is an outcome of the text, and an answer to the text that was read is one to the whole.
-use Rattle.cli_explain.proofs.Common.{ℕ, ◌+◌, List, take, text_limit, IsTextOf-whole, IsExplainAnswer}
-use Rattle.cli_outcome.specs.declared.outcome.Answer.{Answer}
+use Rattle.cli_explain.proofs.Common.{ℕ, ◌+◌, List, take, text_limit, IsTextOf-whole, IsExplainAnswer, Answer}
 
 pub IsExplainAnswer-whole : (budget : ℕ) (text : List ℕ) (answer : Answer) (bytes : List ℕ)
     → IsExplainAnswer budget (take (text_limit + 1) text) answer bytes

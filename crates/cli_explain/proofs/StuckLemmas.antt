@@ -1,13 +1,13 @@
 -- After the longest front of few calls none can come next.
-use Rattle.cli_explain.proofs.Common.{◌≡◌, ℕ, ◌<◌, Bool, true, false, not, List, [], ◌∷◌, length, Option, Some, None, refl, sym, ap, ap₂, ◌∙◌}
-use Rattle.cli_explain.proofs.Common.{⊎_elim, subst, arith, ◌==◌, ◌||◌, is_some, slice_get, All, Contains, list_any, both_ways, not-true}
-use Rattle.cli_explain.proofs.Common.{cases_Bool, cases_order, eq-eqb, eqb-true, or_cases, or_left, or_right, false≢true, All-head, All-tail}
-use Rattle.cli_explain.proofs.Common.{All-weaker, none-some, same_Some, slice_get_within, Operation, Response, may_change, operations, belongs}
-use Rattle.cli_explain.proofs.Common.{precedes, Contains-filter_map, Contains-from_filter_map, AllPairs-at, All-from_contains, Contains-at}
-use Rattle.cli_explain.proofs.Common.{Contains-cases, Contains-filter, Contains-from_filter, Contains-first, Contains-later, Contains-nil}
-use Rattle.cli_explain.proofs.Common.{place_of-Contains, Contents, after_reply, IsLegalReply, after_call, after_calls, calls_at, IsLegalCall}
-use Rattle.cli_explain.proofs.Common.{at_places, All-at_places, IsSegmentView, BelongsAt-below, IsSegmentView-segment_of, reply_in, AreAlike}
-use Rattle.cli_explain.proofs.Common.{RangesSuffice, as_long_as, is_taken, is_preceded, left_by, next_of, NoNextCallIsLegal}
+use Rattle.cli_explain.proofs.Common.{◌≡◌, ℕ, ◌<◌, Bool, true, false, not, List, [], ◌∷◌, length, Option, Some, None, refl, sym, ap, ap₂, ◌∙◌, ⊎_elim}
+use Rattle.cli_explain.proofs.Common.{subst, arith, ◌==◌, ◌||◌, is_some, slice_get, All, Contains, list_any, both_ways, not-true, cases_Bool}
+use Rattle.cli_explain.proofs.Common.{cases_order, eq-eqb, eqb-true, or_cases, or_left, or_right, false≢true, All-head, All-tail, All-weaker}
+use Rattle.cli_explain.proofs.Common.{none-some, same_Some, slice_get_within, Operation, Response, may_change, operations, belongs, precedes}
+use Rattle.cli_explain.proofs.Common.{Contains-filter_map, Contains-from_filter_map, AllPairs-at, All-from_contains, Contains-at, Contains-cases}
+use Rattle.cli_explain.proofs.Common.{Contains-filter, Contains-from_filter, Contains-first, Contains-later, Contains-nil, place_of-Contains}
+use Rattle.cli_explain.proofs.Common.{Contents, after_reply, IsLegalReply, after_call, after_calls, calls_at, IsLegalCall, at_places, All-at_places}
+use Rattle.cli_explain.proofs.Common.{IsSegmentView, BelongsAt-below, IsSegmentView-segment_of, reply_in, AreAlike, RangesSuffice, as_long_as}
+use Rattle.cli_explain.proofs.Common.{is_taken, is_preceded, left_by, next_of, NoNextCallIsLegal}
 use Rattle.events.specs.declared.event.Call.{Call}
 use Rattle.events.specs.declared.event.Reply.{Reply}
 use Rattle.events.proofs.NumberLemmas.{slice_get-below}

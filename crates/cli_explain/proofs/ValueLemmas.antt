@@ -1,6 +1,6 @@
 -- The values of a list, pushed one by one.
-use Rattle.cli_explain.proofs.Common.{◌≡◌, ℕ, ◌+◌, ◌<◌, List, [], ◌∷◌, ◌++◌, length, map, take, sym, ap, ◌∙◌, slice_index_or, map-append}
-use Rattle.cli_explain.proofs.Common.{map_more, view}
+use Rattle.cli_explain.proofs.Common.{◌≡◌, ℕ, ◌+◌, ◌<◌, List, [], ◌∷◌, ◌++◌, length, map, take, sym, ap, ◌∙◌, slice_index_or, map-append, map_more}
+use Rattle.cli_explain.proofs.Common.{view}
 use Rattle.serde_json.specs.Data.{Data}
 use Rattle.serde_json.specs.declared.value.Value.{Value}
 

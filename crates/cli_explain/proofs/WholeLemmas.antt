@@ -1,6 +1,6 @@
 -- The segment of all calls of a history that belong to one: its orders and its fronts, by numbers.
-use Rattle.cli_explain.proofs.Common.{◌≡◌, ℕ, ◌+◌, ◌<◌, true, List, [], ◌∷◌, ◌++◌, length, Option, Some, None, refl, sym, ap, ap₂, ◌∙◌, subst}
-use Rattle.cli_explain.proofs.Common.{arith, IsTrue, IsSomeAnd, slice_get, slice_index, All, Contains, or_left, length-append, All-head, All-tail}
+use Rattle.cli_explain.proofs.Common.{◌≡◌, ℕ, ◌+◌, ◌<◌, true, List, [], ◌∷◌, ◌++◌, length, Option, Some, None, refl, sym, ap, ap₂, ◌∙◌, subst, arith}
+use Rattle.cli_explain.proofs.Common.{IsTrue, IsSomeAnd, slice_get, slice_index, All, Contains, or_left, length-append, All-head, All-tail}
 use Rattle.cli_explain.proofs.Common.{All-contains, Contains-get_or, same_Some, slice_get_within, Operation, may_change, is_completed, belongs}
 use Rattle.cli_explain.proofs.Common.{precedes, Contains-map, All-from_contains, Contains-at, Contents, within, after_call, after_calls, calls_at}
 use Rattle.cli_explain.proofs.Common.{IsLegalCall, IsLegalOrder, IsCompletedAt, IsOrder, IsLinearizable, at_places, place_of, slice_get-at_place}

@@ -1,10 +1,7 @@
 -- An answer of `locate` to the text that was read is one to the whole text, with an order or without.
-use Rattle.std.proofs.Common.{ℕ, ◌+◌, Bool, true, false, List, take, subst}
-use Rattle.history_text.specs.Limits.{text_limit}
-use Rattle.cli_outcome.specs.declared.outcome.Answer.{Answer}
+use Rattle.cli_explain.proofs.Common.{ℕ, ◌+◌, Bool, true, false, List, take, subst, text_limit, Answer, IsTextOf, IsLocateAnswer, IsLocateAnswerWith}
+use Rattle.cli_explain.proofs.Common.{IsLocateOrderAnswer}
 use Rattle.cli_outcome.proofs.WholeText.{same_text}
-use Rattle.cli_judge.specs.Answers.{IsTextOf}
-use Rattle.cli_explain.specs.LocationAnswers.{IsLocateAnswer, IsLocateAnswerWith, IsLocateOrderAnswer}
 
 pub IsLocateAnswer-whole : (budget : ℕ) (text : List ℕ) (answer : Answer) (bytes : List ℕ)
     → IsLocateAnswer budget (take (text_limit + 1) text) answer bytes

@@ -1,6 +1,5 @@
 -- The report, and after it what shows it.
-use Rattle.cli_explain.proofs.Common.{ℕ, List, ◌++◌, string_bytes, ap, ◌∙◌, line, compact_text}
-use Rattle.explain_locate.specs.Reports.{location_data}
+use Rattle.cli_explain.proofs.Common.{ℕ, List, ◌++◌, string_bytes, ap, ◌∙◌, line, compact_text, location_data}
 use Rattle.cli_explain.proofs.explained.located_details.Goals as goal
 
 pub returns : goal.returns

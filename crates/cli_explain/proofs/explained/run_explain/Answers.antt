@@ -1,6 +1,4 @@
-use Rattle.cli_explain.proofs.Common.{rules, text_limit, IsHistoryRefusal-whole, IsExplainAnswer}
-use Rattle.cli_judge.specs.Answers.{IsHistoryRefusal}
-use Rattle.cli_outcome.proofs.ReadText.{IsRun-read}
+use Rattle.cli_explain.proofs.Common.{rules, text_limit, IsHistoryRefusal-whole, IsExplainAnswer, IsHistoryRefusal, IsRun-read}
 use Rattle.cli_explain.proofs.OutcomeLemmas.{IsExplainAnswer-whole}
 use Rattle.cli_explain.proofs.explained.run_explain.Goals as goal
 

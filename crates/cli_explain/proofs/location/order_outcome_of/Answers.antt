@@ -1,7 +1,4 @@
-use Rattle.std.proofs.Common.{Bool, Some, subst, sym}
-use Rattle.cli_outcome.specs.Outcomes.{IsTextOutcome}
-use Rattle.cli_judge.specs.Answers.{IsHistoryRefusal}
-use Rattle.cli_explain.specs.LocationAnswers.{IsFoundAnswer}
+use Rattle.cli_explain.proofs.Common.{Bool, Some, subst, sym, IsTextOutcome, IsHistoryRefusal, IsFoundAnswer}
 use Rattle.cli_explain.proofs.location.order_outcome_of.Goals as goal
 
 pub returns : goal.returns

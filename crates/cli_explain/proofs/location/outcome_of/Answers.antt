@@ -1,16 +1,7 @@
-use Rattle.std.proofs.Common.{◌≡◌, ℕ, List, Some, Result, Ok, Err, IfOk, MatchResult, String, Global, string_bytes, subst, sym}
-use Rattle.events.specs.HistoryView.{HistoryView}
+use Rattle.cli_explain.proofs.Common.{◌≡◌, ℕ, List, Some, Result, Ok, Err, IfOk, MatchResult, String, Global, string_bytes, subst, sym, HistoryView}
+use Rattle.cli_explain.proofs.Common.{location_data, Location, line, IsTextOutcome, Answer, CommandOutcome, Answered, Memory, compact_text}
+use Rattle.cli_explain.proofs.Common.{IsHistoryRefusal, IsTextOf, answer_of_location, IsLocateAnswer}
 use Rattle.explain_locate.specs.Locations.{IsLocated}
-use Rattle.explain_locate.specs.Reports.{location_data}
-use Rattle.explain_locate.specs.declared.location.Location.{Location}
-use Rattle.cli_outcome.specs.Lines.{line}
-use Rattle.cli_outcome.specs.Outcomes.{IsTextOutcome}
-use Rattle.cli_outcome.specs.declared.outcome.Answer.{Answer}
-use Rattle.cli_outcome.specs.declared.outcome.CommandOutcome.{CommandOutcome}
-use Rattle.cli_outcome.specs.declared.outcome.CommandOutcome.TheVariants.{Answered, Memory}
-use Rattle.serde_json.specs.Written.{compact_text}
-use Rattle.cli_judge.specs.Answers.{IsHistoryRefusal, IsTextOf}
-use Rattle.cli_explain.specs.LocationAnswers.{answer_of_location, IsLocateAnswer}
 use Rattle.cli_explain.proofs.location.outcome_of.Goals as goal
 
 -- a location that is answered with the line of its report is an outcome of the text

@@ -1,16 +1,8 @@
-use Rattle.std.proofs.Common.{◌≡◌, ℕ, Bool, List, Option, None, Some, option_map, refl, Result, Ok, Err, IfOk, MatchResult, String, Global, string_bytes, is_some, subst, sym}
-use Rattle.events.specs.HistoryView.{HistoryView}
+use Rattle.cli_explain.proofs.Common.{◌≡◌, ℕ, Bool, List, Option, None, Some, option_map, refl, Result, Ok, Err, IfOk, MatchResult, String, Global}
+use Rattle.cli_explain.proofs.Common.{string_bytes, subst, sym, HistoryView, found_data, Location, line, IsTextOutcome, Answer, CommandOutcome}
+use Rattle.cli_explain.proofs.Common.{Answered, Memory, compact_text, IsHistoryRefusal, IsTextOf, answer_of_location, IsFoundAnswer}
+use Rattle.std.proofs.Common.{is_some}
 use Rattle.explain_locate.specs.FirstOrders.{IsOrdered, order_of}
-use Rattle.explain_locate.specs.Reports.{found_data}
-use Rattle.explain_locate.specs.declared.location.Location.{Location}
-use Rattle.cli_outcome.specs.Lines.{line}
-use Rattle.cli_outcome.specs.Outcomes.{IsTextOutcome}
-use Rattle.cli_outcome.specs.declared.outcome.Answer.{Answer}
-use Rattle.cli_outcome.specs.declared.outcome.CommandOutcome.{CommandOutcome}
-use Rattle.cli_outcome.specs.declared.outcome.CommandOutcome.TheVariants.{Answered, Memory}
-use Rattle.serde_json.specs.Written.{compact_text}
-use Rattle.cli_judge.specs.Answers.{IsHistoryRefusal, IsTextOf}
-use Rattle.cli_explain.specs.LocationAnswers.{answer_of_location, IsFoundAnswer}
 use Rattle.cli_explain.proofs.location.outcome_of_ordered.Goals as goal
 
 -- there is a value if there is one that it is made of

@@ -1,9 +1,5 @@
-use Rattle.std.proofs.Common.{ℕ, Bool, List, Some, sym, subst}
-use Rattle.cli_outcome.specs.Outcomes.{IsTextOutcome}
-use Rattle.cli_outcome.specs.declared.outcome.CommandOutcome.{CommandOutcome}
-use Rattle.cli_outcome.specs.declared.outcome.CommandOutcome.TheVariants.{Answered, Noted, Refused, Memory, Words, Failed}
-use Rattle.cli_judge.specs.Answers.{IsHistoryRefusal}
-use Rattle.cli_explain.specs.LocationAnswers.{IsFoundAnswer, IsLocateAnswerWith, IsLocateOrderAnswer}
+use Rattle.cli_explain.proofs.Common.{ℕ, Bool, List, Some, sym, subst, IsTextOutcome, CommandOutcome, Answered, Noted, Refused, Memory, Words, Failed}
+use Rattle.cli_explain.proofs.Common.{IsHistoryRefusal, IsFoundAnswer, IsLocateAnswerWith, IsLocateOrderAnswer}
 use Rattle.cli_explain.proofs.location.outcome_with.Goals as goal
 
 -- an answer that says whether it has an order is one with whatever is found

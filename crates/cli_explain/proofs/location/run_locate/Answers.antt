@@ -1,9 +1,4 @@
-use Rattle.std.proofs.Common.{rules}
-use Rattle.history_text.specs.Limits.{text_limit}
-use Rattle.cli_judge.specs.Answers.{IsHistoryRefusal}
-use Rattle.cli_explain.specs.LocationAnswers.{IsLocateAnswerWith}
-use Rattle.cli_outcome.proofs.ReadText.{IsRun-read}
-use Rattle.cli_judge.proofs.WholeHistories.{IsHistoryRefusal-whole}
+use Rattle.cli_explain.proofs.Common.{rules, text_limit, IsHistoryRefusal, IsLocateAnswerWith, IsRun-read, IsHistoryRefusal-whole}
 use Rattle.cli_explain.proofs.WholeLocations.{IsLocateAnswerWith-whole}
 use Rattle.cli_explain.proofs.location.run_locate.Goals as goal
 

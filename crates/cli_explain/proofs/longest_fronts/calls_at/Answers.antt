@@ -1,5 +1,5 @@
-use Rattle.cli_explain.proofs.Common.{◌≡◌, ℕ, ◌+◌, ◌<◌, List, [], ◌∷◌, ◌++◌, length, take, Option, sym, ap, ◌∙◌, append-nil, Vec, Global}
-use Rattle.cli_explain.proofs.Common.{cons_option, slice_index_or, slice_get, take_more, take_all, filter_map-append, Operation, calls_at}
+use Rattle.cli_explain.proofs.Common.{◌≡◌, ℕ, ◌+◌, ◌<◌, List, [], ◌∷◌, ◌++◌, length, take, Option, sym, ap, ◌∙◌, append-nil, Vec, Global, cons_option}
+use Rattle.cli_explain.proofs.Common.{slice_index_or, slice_get, take_more, take_all, filter_map-append, Operation, calls_at}
 use Rattle.cli_explain.proofs.longest_fronts.calls_at.Goals.{in-Some+in_ok-push, in_default}
 use Rattle.cli_explain.proofs.longest_fronts.calls_at.Goals as goal
 

@@ -1,5 +1,5 @@
-use Rattle.cli_explain.proofs.Common.{ℕ, List, ◌++◌, ◌≡◌, string_bytes, ap, ap₂, ◌∙◌, subst, HistoryView, Operation, Reason, Contents}
-use Rattle.cli_explain.proofs.Common.{IsLinearizable, AreOriginLines, AreHistoryLines, rows}
+use Rattle.cli_explain.proofs.Common.{ℕ, List, ◌++◌, ◌≡◌, string_bytes, ap, ap₂, ◌∙◌, subst, HistoryView, Operation, Reason, Contents, IsLinearizable}
+use Rattle.cli_explain.proofs.Common.{AreOriginLines, AreHistoryLines, rows}
 use Rattle.cli_explain.proofs.LineLemmas.{few_from}
 use Rattle.cli_explain.proofs.reports.few_lines.Goals as goal
 

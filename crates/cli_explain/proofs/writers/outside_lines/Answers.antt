@@ -1,5 +1,5 @@
-use Rattle.cli_explain.proofs.Common.{◌≡◌, ℕ, List, string_bytes, ◌∙◌, IfOk-weaker, Event, Operation, HistoryView, operations, Contents}
-use Rattle.cli_explain.proofs.Common.{origin_lines, AreOriginLines}
+use Rattle.cli_explain.proofs.Common.{◌≡◌, ℕ, List, string_bytes, ◌∙◌, IfOk-weaker, Event, Operation, HistoryView, operations, Contents, origin_lines}
+use Rattle.cli_explain.proofs.Common.{AreOriginLines}
 use Rattle.explain_reads_from.specs.External.{AreExternal}
 use Rattle.cli_explain.proofs.writers.outside_lines.Goals as goal
 
