@@ -1,14 +1,13 @@
 -- One call of a cache, at the lossy map and as it is recorded, at the map. From the lossy map to the map the map keeps at least the values
 -- of the lossy map. From the map to the lossy map the lossy map can lose keys so that it has exactly the values that are not fresh.
-use Rattle.certificate.proofs.Common.{◌≡◌, ℕ, ◌<◌, ◌≤◌, Bool, cond, Option, Some, None, inl, inr, refl, sym, ap, ◌∙◌, subst, ⊎_elim}
-use Rattle.std.proofs.Common.{◌==◌, is_some}
+use Rattle.certificate.proofs.Common.{◌≡◌, ℕ, ◌<◌, ◌≤◌, Bool, cond, Option, Some, None, inl, inr, refl, sym, ap, ◌∙◌, subst, ⊎_elim, ◌==◌, is_some}
 use Rattle.certificate.proofs.Common.{◌⊎◌, All, cases_Bool, eq-eqb, ne_eqb, eqb-true, eqb-false, Call, Get, Insert, Remove, Scan, Replace, Reply}
 use Rattle.certificate.proofs.Common.{low_key, Contents, IsRising, value_at, within, after_reply, IsLegalReply, left, recorded_call, recorded_reply}
 use Rattle.certificate.proofs.Common.{CallBelow, ReplyBelow}
-use Rattle.events.specs.declared.event.Reply.TheVariants as replies
 use Rattle.certificate.proofs.CacheValueLemmas.{next_reply, LegalAt, IsPoint, AtMost, goes, shown, comes, shown_below, left_fresh}
 use Rattle.certificate.proofs.CacheMapLemmas.{value_at-own_reply, value_at-other_reply, value_at-scan_reply, left_rises, left_as, same_within}
 use Rattle.certificate.proofs.CacheMapLemmas.{value_at-within, value_below}
+use Rattle.events.specs.declared.event.Reply.TheVariants as replies
 
 -- each value of the one is a value of the other
 abbrev pub IsWithin : Contents → Contents → Type 0

@@ -1,15 +1,10 @@
 -- Recorded events of a cache: their places, and their calls by number.
-use Rattle.certificate.proofs.Common.{◌≡◌, ℕ, zero, suc, ◌+◌, ◌-◌, ◌<◌, ◌≤◌, nat_lt, Bool, true, false, cond, List, [], ◌∷◌, ◌++◌, length}
-use Rattle.std.proofs.Common.{◌==◌}
-use Rattle.certificate.proofs.Common.{Option, Some, None, refl, sym, ap, ◌∙◌, subst, ⊎_elim, arith, All, Contains, slice_get, ⊤, false≢true}
-use Rattle.certificate.proofs.Common.{cases_lt, lt-ltb, le-ltb, none-some, same_Some, slice_get_within, All-nil, All-cons, Call, Get, Remove, Event}
-use Rattle.certificate.proofs.Common.{Invoke, Answer, Operation, Response, HistoryView, response_from, operation_of, operations_from, operations}
-use Rattle.certificate.proofs.Common.{is_before, precedes, All-at, AreRecordedAs, MissesKey, IsHelperOf, IsRecordOf, recorded_event, last_after}
-use Rattle.certificate.proofs.Common.{recording_of}
-use Rattle.std.specs.Prelude.{IfSome}
-use Rattle.std.proofs.lemmas.List.{length-append}
-use Rattle.events.specs.Events.{is_invocation}
-use Rattle.events.proofs.Lists.{slice_get-append_left, place_of-Contains}
+use Rattle.certificate.proofs.Common.{◌≡◌, ℕ, zero, suc, ◌+◌, ◌-◌, ◌<◌, ◌≤◌, nat_lt, Bool, true, false, cond, List, [], ◌∷◌, ◌++◌, length, ◌==◌}
+use Rattle.certificate.proofs.Common.{Option, Some, None, refl, sym, ap, ◌∙◌, subst, ⊎_elim, arith, All, Contains, slice_get, ⊤, false≢true, cases_lt}
+use Rattle.certificate.proofs.Common.{lt-ltb, le-ltb, none-some, same_Some, slice_get_within, All-nil, All-cons, Call, Get, Remove, Event, Invoke}
+use Rattle.certificate.proofs.Common.{Answer, Operation, Response, HistoryView, response_from, operation_of, operations_from, operations, is_before}
+use Rattle.certificate.proofs.Common.{precedes, All-at, AreRecordedAs, MissesKey, IsHelperOf, IsRecordOf, recorded_event, last_after, recording_of}
+use Rattle.certificate.proofs.Common.{IfSome, length-append, is_invocation, slice_get-append_left, place_of-Contains}
 use Rattle.certificate.proofs.CacheRecordingLemmas.{Owns, HasTimes, SameResponse, IsBlock, AreBlocks, blocks_of, AreSmall, AreInTurn}
 
 -- ---- the places to which those of recorded events belong

@@ -1,15 +1,14 @@
 -- Calls of a cache at pairs: at the lossy map, and at the map that is called as it is recorded.
-use Rattle.certificate.proofs.Common.{◌≡◌, ℕ, ◌<◌, ◌≤◌, nat_lt, nat_le, ◌&&◌, Bool, true, false, cond, [], ◌∷◌, ◌++◌, filter, Option, Some}
-use Rattle.certificate.proofs.Common.{None, inl, inr, refl, sym, ap, ◌∙◌, ⊎_elim, arith, All, ne_eqb, lt-ltb, le-ltb, cases_lt, eqb-true}
-use Rattle.certificate.proofs.Common.{le-leb, leb-true, and_parts, and_from, none-some, same_Some, All-head, All-tail, AllPairs-filter, Call, Get}
-use Rattle.certificate.proofs.Common.{Insert, Remove, Scan, Replace, Reply, low_key, Contents, IsRising, value_at, within, is_just, after}
-use Rattle.certificate.proofs.Common.{after_reply, left}
-use Rattle.events.specs.declared.event.Reply.TheVariants as replies
-use Rattle.std.proofs.Common.{eq-eqb, ◌==◌, is_some}
-use Rattle.map_object.specs.MapObject.{below, above, put}
+use Rattle.certificate.proofs.Common.{◌≡◌, ℕ, ◌<◌, ◌≤◌, nat_lt, nat_le, ◌&&◌, Bool, true, false, cond, [], ◌∷◌, ◌++◌, filter, Option, Some, None, inl}
+use Rattle.certificate.proofs.Common.{inr, refl, sym, ap, ◌∙◌, ⊎_elim, arith, All, ne_eqb, lt-ltb, le-ltb, cases_lt, eqb-true, le-leb, leb-true}
+use Rattle.certificate.proofs.Common.{and_parts, and_from, none-some, same_Some, All-head, All-tail, AllPairs-filter, Call, Get, Insert, Remove, Scan}
+use Rattle.certificate.proofs.Common.{Replace, Reply, low_key, Contents, IsRising, value_at, within, is_just, after, after_reply, left, ◌==◌, is_some}
+use Rattle.certificate.proofs.Common.{below, above, put}
+use Rattle.std.proofs.Common.{eq-eqb}
 use Rattle.map_object.proofs.MapLemmas.{IsRising-insert, IsRising-remove}
 use Rattle.map_object.proofs.ValueLemmas.{same_pairs}
 use Rattle.certificate.proofs.CacheValueLemmas.{next, next_reply, IsPoint, AtMost}
+use Rattle.events.specs.declared.event.Reply.TheVariants as replies
 
 -- ---- values at keys
 

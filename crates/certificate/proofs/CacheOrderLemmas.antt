@@ -1,6 +1,5 @@
 -- Orders of a cache's calls: those of the lossy map are orders of the recorded calls, and back.
-use Rattle.certificate.proofs.Common.{◌≡◌, ℕ, ◌<◌, nat_lt, Bool, true, false, cond, List, [], ◌∷◌, length, Option, Some, None, IsTrue}
-use Rattle.std.proofs.Common.{◌==◌, is_some}
+use Rattle.certificate.proofs.Common.{◌≡◌, ℕ, ◌<◌, nat_lt, Bool, true, false, cond, List, [], ◌∷◌, length, Option, Some, None, IsTrue, ◌==◌, is_some}
 use Rattle.certificate.proofs.Common.{inl, inr, refl, sym, ap, ◌∙◌, subst, ⊎_elim, arith, ◌⊎◌, ◌≢◌, All, AllPairs, Contains, slice_get}
 use Rattle.certificate.proofs.Common.{range_with_len, false≢true, eqb-true, none-some, same_Some, slice_get_within, All-nil, All-cons, All-head}
 use Rattle.certificate.proofs.Common.{All-tail, All-contains, All-weaker, AllPairs-cons, AllPairs-filter, Operation, Response, operations}
@@ -8,13 +7,10 @@ use Rattle.certificate.proofs.Common.{is_completed, precedes, Contents, IsRising
 use Rattle.certificate.proofs.Common.{AllPairs-tail, Contains-nil, Contains-first, Contains-later, Contains-cases, All-from_contains, All-at}
 use Rattle.certificate.proofs.Common.{slice_get-below, some_at, IsStrictlyIncreasing-range, AreRelatedAs, AllPairs-filter_map}
 use Rattle.certificate.proofs.Common.{AllPairs-from_filter_map, AllPairs-weaker, IsLossyOrder, AreRecordedAs, IsRecordOf, NoneFoundWhereOther}
-use Rattle.std.proofs.lemmas.List.Elements.{All-append, Contains-append_left, Contains-append_right}
-use Rattle.std.proofs.lemmas.List.Kept.{AllPairs-from_increasing}
-use Rattle.events.specs.Precedence.{NonePrecedesItself}
+use Rattle.certificate.proofs.Common.{All-append, Contains-append_left, Contains-append_right, AllPairs-from_increasing, NonePrecedesItself}
+use Rattle.certificate.proofs.Common.{AllPairs-append, AreAllKeys, AreBelow, EvictedKeysAreNoLostWrites, LostWritesAreRefuted}
+use Rattle.certificate.proofs.Common.{RecordedCachesAreLossyMaps}
 use Rattle.events.proofs.TimeLemmas.{NonePrecedesItself-operations}
-use Rattle.events.proofs.Lists.{AllPairs-append}
-use Rattle.certificate.specs.CacheValues.{AreAllKeys, AreBelow}
-use Rattle.certificate.specs.CacheLaws.{EvictedKeysAreNoLostWrites, LostWritesAreRefuted, RecordedCachesAreLossyMaps}
 use Rattle.certificate.proofs.CacheValueLemmas.{AtMost, shown}
 use Rattle.certificate.proofs.CacheMapLemmas.{value_below}
 use Rattle.certificate.proofs.CacheRunLemmas.{helpers_of, is_helper_of, helper_of, among_helpers, expand, collapse, run_go, run_come}

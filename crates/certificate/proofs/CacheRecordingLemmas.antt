@@ -1,15 +1,15 @@
 -- What is recorded of a history of a cache, call by call.
-use Rattle.certificate.proofs.Common.{◌≡◌, ℕ, suc, ◌+◌, ◌<◌, ◌&&◌, nat_le, not, Bool, true, false, cond, List, [], ◌∷◌, ◌++◌, length, Option}
-use Rattle.certificate.proofs.Common.{Some, None, IsTrue, refl, sym, ap, ◌∙◌, subst, ⊎_elim, arith, ◌≢◌, All, Contains, ⊤, false≢true}
-use Rattle.certificate.proofs.Common.{cases_Bool, eqb-true, eqb-false, ne_eqb, eq-eqb, and_parts, and_from, le-leb, leb-true, none-some, same_Some}
-use Rattle.certificate.proofs.Common.{All-nil, All-cons, All-head, All-tail, All-weaker, Call, Get, Insert, Remove, Scan, Replace, Reply, Event}
-use Rattle.certificate.proofs.Common.{Invoke, Answer, Operation, Response, process_of, events_of, events_alternate, response_from, operation_of}
-use Rattle.certificate.proofs.Common.{operations_from, value_at, Contains-nil, Contains-cases, Contains-first, Contains-later, Contains-filter}
-use Rattle.certificate.proofs.Common.{Contains-from_filter, recorded_call, recorded_reply, AreRecordedAs, MissesKey, IsHelperOf, recorded_invocation}
-use Rattle.certificate.proofs.Common.{recorded_answer, is_missed, missed_keys, helper, answer_to_come, recorded_event, last_after, recorded_events}
+use Rattle.certificate.proofs.Common.{◌≡◌, ℕ, suc, ◌+◌, ◌<◌, ◌&&◌, nat_le, not, Bool, true, false, cond, List, [], ◌∷◌, ◌++◌, length, Option, Some}
+use Rattle.certificate.proofs.Common.{None, IsTrue, refl, sym, ap, ◌∙◌, subst, ⊎_elim, arith, ◌≢◌, All, Contains, ⊤, false≢true, cases_Bool, eqb-true}
+use Rattle.certificate.proofs.Common.{eqb-false, ne_eqb, eq-eqb, and_parts, and_from, le-leb, leb-true, none-some, same_Some, All-nil, All-cons}
+use Rattle.certificate.proofs.Common.{All-head, All-tail, All-weaker, Call, Get, Insert, Remove, Scan, Replace, Reply, Event, Invoke, Answer}
+use Rattle.certificate.proofs.Common.{Operation, Response, process_of, events_of, events_alternate, response_from, operation_of, operations_from}
+use Rattle.certificate.proofs.Common.{value_at, Contains-nil, Contains-cases, Contains-first, Contains-later, Contains-filter, Contains-from_filter}
+use Rattle.certificate.proofs.Common.{recorded_call, recorded_reply, AreRecordedAs, MissesKey, IsHelperOf, recorded_invocation, recorded_answer}
+use Rattle.certificate.proofs.Common.{is_missed, missed_keys, helper, answer_to_come, recorded_event, last_after, recorded_events, ◌==◌, is_some}
+use Rattle.certificate.proofs.Common.{length-map}
+use Rattle.std.proofs.Common.{map}
 use Rattle.events.specs.declared.event.Reply.TheVariants as replies
-use Rattle.std.proofs.Common.{map, ◌==◌, is_some}
-use Rattle.std.proofs.lemmas.List.{length-map}
 
 -- ---- events that are not the answer to a process: they can be skipped when its answer is looked for
 

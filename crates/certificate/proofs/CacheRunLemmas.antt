@@ -1,22 +1,17 @@
 -- Calls of a cache in turn: if they are legal at the lossy map, the recorded ones are legal at the map, and the other way round.
-use Rattle.certificate.proofs.Common.{◌≡◌, ℕ, ◌<◌, ◌≤◌, ◌&&◌, Bool, true, false, cond, List, [], ◌∷◌, ◌++◌, length, filter, Option, Some, None}
-use Rattle.std.proofs.Common.{◌==◌}
+use Rattle.certificate.proofs.Common.{◌≡◌, ℕ, ◌<◌, ◌≤◌, ◌&&◌, Bool, true, false, cond, List, [], ◌∷◌, ◌++◌, length, filter, Option, Some, None, ◌==◌}
 use Rattle.certificate.proofs.Common.{inl, inr, refl, sym, ap, ◌∙◌, subst, ⊎_elim, arith, ◌⊎◌, ◌≢◌, All, Contains, slice_get, range_with_len}
 use Rattle.certificate.proofs.Common.{cases_lt, and_parts, and_from, eq-eqb, eqb-true, none-some, same_Some, slice_get_within, length-range_with_len}
-use Rattle.certificate.proofs.Common.{get_or-range_with_len, All-head, All-tail, Call, Get, Insert, Remove, Scan, Replace, Reply, Operation}
-use Rattle.certificate.proofs.Common.{Response, low_key, Contents, IsRising, value_at, within, after, after_reply, IsLegalReply, after_call}
-use Rattle.certificate.proofs.Common.{IsLegalCall, IsLegal, calls_at, Contains-nil, Contains-cases, Contains-filter, Contains-from_filter}
-use Rattle.certificate.proofs.Common.{Contains-range, All-from_contains, All-at, slice_get-below, left, IsLossyLegal, recorded_call, recorded_reply}
-use Rattle.certificate.proofs.Common.{AreRecordedAs, MissesKey, IsHelperOf, IsRecordOf, PutsWithin, CallBelow, ReplyBelow, ResponseBelow}
-use Rattle.certificate.proofs.Common.{NoneFoundWhereOther}
-use Rattle.events.specs.declared.event.Reply.TheVariants as replies
-use Rattle.orders.specs.Orders.{after_calls}
-use Rattle.orders.proofs.OrderLemmas.{calls_at-append, IsLegal-append}
-use Rattle.events.proofs.Lists.{Contains-at}
-use Rattle.certificate.specs.CacheRecords.{IsAnswered}
+use Rattle.certificate.proofs.Common.{get_or-range_with_len, All-head, All-tail, Call, Get, Insert, Remove, Scan, Replace, Reply, Operation, Response}
+use Rattle.certificate.proofs.Common.{low_key, Contents, IsRising, value_at, within, after, after_reply, IsLegalReply, after_call, IsLegalCall}
+use Rattle.certificate.proofs.Common.{IsLegal, calls_at, Contains-nil, Contains-cases, Contains-filter, Contains-from_filter, Contains-range}
+use Rattle.certificate.proofs.Common.{All-from_contains, All-at, slice_get-below, left, IsLossyLegal, recorded_call, recorded_reply, AreRecordedAs}
+use Rattle.certificate.proofs.Common.{MissesKey, IsHelperOf, IsRecordOf, PutsWithin, CallBelow, ReplyBelow, ResponseBelow, NoneFoundWhereOther}
+use Rattle.certificate.proofs.Common.{after_calls, calls_at-append, IsLegal-append, Contains-at, IsAnswered}
 use Rattle.certificate.proofs.CacheValueLemmas.{AtMost, shown, shown_below}
 use Rattle.certificate.proofs.CacheMapLemmas.{left_rises, left_most, reply_rises, value_at-within, value_at-own, value_at-other}
 use Rattle.certificate.proofs.CacheCallLemmas.{IsWithin, AtMost-trans, by_key, go, Shows, come, keeps_fresh}
+use Rattle.events.specs.declared.event.Reply.TheVariants as replies
 
 -- ---- the reply of a response; a pending call reports as little as one that is answered `done`
 

@@ -1,21 +1,13 @@
 -- What is recorded of a history of a cache is well formed.
-use Rattle.certificate.proofs.Common.{◌≡◌, ℕ, ◌-◌, ◌<◌, ◌&&◌, nat_lt, nat_le, not, Bool, true, false, cond, List, [], ◌∷◌, ◌++◌, Option, Some}
-use Rattle.std.proofs.Common.{◌==◌}
+use Rattle.certificate.proofs.Common.{◌≡◌, ℕ, ◌-◌, ◌<◌, ◌&&◌, nat_lt, nat_le, not, Bool, true, false, cond, List, [], ◌∷◌, ◌++◌, Option, Some, ◌==◌}
 use Rattle.certificate.proofs.Common.{None, IsTrue, refl, sym, ap, ◌∙◌, subst, ⊎_elim, arith, ◌≢◌, All, AllPairs, false≢true, cases_Bool, cases_lt}
 use Rattle.certificate.proofs.Common.{eqb-true, eqb-false, ne_eqb, eq-eqb, and_parts, All-nil, All-cons, All-head, All-tail, All-contains}
 use Rattle.certificate.proofs.Common.{AllPairs-filter, AllPairs-nil, AllPairs-head, AllPairs-tail, Call, Get, Reply, Event, Invoke, Answer}
 use Rattle.certificate.proofs.Common.{process_of, events_of, events_alternate, HistoryView, recorded_reply, missed_keys, is_missed, helper}
-use Rattle.certificate.proofs.Common.{answer_to_come, recorded_invocation, recorded_answer, last_after, recorded_events, recording_of}
-use Rattle.std.specs.Prelude.{◌/◌, ◌%◌}
-use Rattle.std.specs.List.{list_all}
-use Rattle.std.proofs.lemmas.Bool.{ltb-true}
-use Rattle.std.proofs.lemmas.List.Elements.{filter-append}
-use Rattle.events.specs.Lists.{has_number}
-use Rattle.events.proofs.NumberLemmas.{has_number-Contains}
-use Rattle.events.specs.Events.{IsWellFormed}
+use Rattle.certificate.proofs.Common.{answer_to_come, recorded_invocation, recorded_answer, last_after, recorded_events, recording_of, ◌/◌, ◌%◌}
+use Rattle.certificate.proofs.Common.{list_all, ltb-true, filter-append, has_number, has_number-Contains, IsWellFormed, is_small, pair_count}
+use Rattle.certificate.proofs.Common.{HistoriesOfCachesHaveRecordings}
 use Rattle.events.specs.Limits.{pair_limit}
-use Rattle.events.specs.Histories.{is_small, pair_count}
-use Rattle.certificate.specs.CacheLaws.{HistoriesOfCachesHaveRecordings}
 use Rattle.certificate.proofs.CacheRecordingLemmas.{call_of, keys_of, invokes, answers, invocation_is, helper_above, helper_differs, AreSmall}
 use Rattle.certificate.proofs.CacheListLemmas.{recording_is}
 

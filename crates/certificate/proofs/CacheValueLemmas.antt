@@ -1,11 +1,10 @@
 -- What a call of a cache leaves of the value at its key: at the lossy map, and as it is recorded at the map.
-use Rattle.certificate.proofs.Common.{◌≡◌, ℕ, ◌<◌, ◌≤◌, nat_lt, Bool, true, false, cond, Option, Some, None, IsTrue, inl, inr, refl, sym, ap}
-use Rattle.std.proofs.Common.{◌==◌}
+use Rattle.certificate.proofs.Common.{◌≡◌, ℕ, ◌<◌, ◌≤◌, nat_lt, Bool, true, false, cond, Option, Some, None, IsTrue, inl, inr, refl, sym, ap, ◌==◌}
 use Rattle.certificate.proofs.Common.{◌∙◌, ⊎_elim, arith, ◌⊎◌, ⊤, ne_eqb, lt-ltb, le-ltb, cases_Bool, cases_lt, false≢true, none-some, same_Some}
 use Rattle.certificate.proofs.Common.{Call, Get, Insert, Remove, Scan, Replace, Reply, is_just, is_none_or_other, value_reply, IsAllOrPartOf}
 use Rattle.certificate.proofs.Common.{recorded_call, recorded_reply, CallBelow, ReplyBelow}
-use Rattle.events.specs.declared.event.Reply.TheVariants as replies
 use Rattle.std.specs.Prelude.{not}
+use Rattle.events.specs.declared.event.Reply.TheVariants as replies
 
 -- the value after a call
 abbrev pub next : Call → Option ℕ → Option ℕ

@@ -1,17 +1,13 @@
 -- A replace answered `other`, then a get answered `found`: the recording is linearizable, the history is not over the lossy map.
-use Rattle.certificate.proofs.Common.{◌≡◌, ℕ, zero, suc, ◌+◌, ◌<◌, Bool, true, false, cond, List, [], ◌∷◌, inr, refl, sym, subst, ⊎_elim}
-use Rattle.std.proofs.Common.{◌==◌}
-use Rattle.certificate.proofs.Common.{arith, ◌≢◌, All, AllPairs, Contains, slice_get, range_with_len, cases_Bool, false≢true, All-nil, All-cons}
+use Rattle.certificate.proofs.Common.{◌≡◌, ℕ, zero, suc, ◌+◌, ◌<◌, Bool, true, false, cond, List, [], ◌∷◌, inr, refl, sym, subst, ⊎_elim, ◌==◌, arith}
+use Rattle.certificate.proofs.Common.{◌≢◌, All, AllPairs, Contains, slice_get, range_with_len, cases_Bool, false≢true, All-nil, All-cons}
 use Rattle.certificate.proofs.Common.{All-contains, AllPairs-cons, length-range_with_len, get_or-range_with_len, Get, Replace, Operation, operations}
 use Rattle.certificate.proofs.Common.{precedes, after, IsLegalReply, calls_at, IsOrder, IsCompletedAt, AllPairs-nil, Contains-first, Contains-later}
 use Rattle.certificate.proofs.Common.{Contains-range, AreRelatedAs, AllPairs-from_filter_map, IsStrictlyIncreasing-range, left, IsLossyLegal}
-use Rattle.certificate.proofs.Common.{IsLossyOrder, PutsWithin, CallBelow, ResponseBelow}
-use Rattle.events.specs.declared.event.Reply.TheVariants as replies
-use Rattle.events.specs.Histories.{IsHistory}
-use Rattle.orders.proofs.OrderLemmas.{IsCompletedAt-below}
-use Rattle.events.proofs.RisingLemmas.{rising_unique}
+use Rattle.certificate.proofs.Common.{IsLossyOrder, PutsWithin, CallBelow, ResponseBelow, IsHistory, IsCompletedAt-below, rising_unique}
 use Rattle.certificate.specs.FoundAfterOther.{found_after_other, recorded_found_after_other, FoundAfterOtherIsMissed}
 use Rattle.certificate.proofs.CacheTurnLemmas.{have_recordings}
+use Rattle.events.specs.declared.event.Reply.TheVariants as replies
 
 abbrev calls : List Operation
 calls = operations found_after_other.events

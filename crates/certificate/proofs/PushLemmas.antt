@@ -3,9 +3,8 @@ use Rattle.certificate.proofs.Common.{◌≡◌, ℕ, ◌<◌, ◌≤◌, true, 
 use Rattle.certificate.proofs.Common.{arith, ◌≢◌, ◌⊎◌, max, map, slice_get, Any, Contains, lt-ltb, ltb-true, false≢true, false_from_ne_true}
 use Rattle.certificate.proofs.Common.{get_or_default, All-push, slice_get_within, Operation, greatest, is_before, precedes, Contents, IsLegalCall}
 use Rattle.certificate.proofs.Common.{after_calls, calls_at, IsLegalOrder, PrecedesSome, Any-first, Any-later, IsLegal-append, calls_at-push}
-use Rattle.certificate.proofs.Common.{greatest_bound}
+use Rattle.certificate.proofs.Common.{greatest_bound, Response}
 use Rattle.std.proofs.lemmas.List.Quantifiers.{all_pairs_push}
-use Rattle.events.specs.declared.operation.Response.{Response}
 
 -- a legal order goes on with a new call that precedes none of its calls and is legal after them
 pub IsLegalOrder-push : (start : Contents) (calls : List Operation) (order : List ℕ) (n : ℕ) (a : Operation)

@@ -1,10 +1,8 @@
 -- What partial answers report, by the value at the key.
-use Rattle.certificate.proofs.Common.{◌≡◌, ℕ, not, Option, Some, None, IsTrue, inr, refl, ⊎_elim, Call, Get, Insert, Remove, Scan, Replace}
-use Rattle.certificate.proofs.Common.{Contents, value_at, is_just, value_reply, reply_to, is_none_or_other, after_reply-answer}
-use Rattle.std.proofs.Common.{◌↔◌, is_some}
-use Rattle.map_object.specs.MapObject.{is_value, misses}
+use Rattle.certificate.proofs.Common.{◌≡◌, ℕ, not, Option, Some, None, IsTrue, inr, refl, ⊎_elim, Call, Get, Insert, Remove, Scan, Replace, Contents}
+use Rattle.certificate.proofs.Common.{value_at, is_just, value_reply, reply_to, is_none_or_other, after_reply-answer, ◌↔◌, is_some, is_value, misses}
+use Rattle.certificate.proofs.Common.{AnswersDoCalls, PartialAnswers}
 use Rattle.certificate.specs.Finds.{FindsValue, MissesValue}
-use Rattle.certificate.specs.PartialLaws.{AnswersDoCalls, PartialAnswers}
 
 pub answers_do : AnswersDoCalls
 answers_do m call reply legal answered = after_reply-answer m call reply answered

@@ -1,20 +1,16 @@
 -- Complete answers in the place of partial ones of them: the orders are the same.
-use Rattle.certificate.proofs.Common.{◌≡◌, ℕ, suc, zero, ◌+◌, ◌<◌, true, false, Bool, cond, List, [], ◌∷◌, length, Option, Some, None, inl}
-use Rattle.certificate.proofs.Common.{inr, refl, sym, ap, ◌∙◌, subst, ⊎_elim, arith, IsTrue, ◌≢◌, slice_get, All, AllPairs, Contains}
-use Rattle.certificate.proofs.Common.{ne_eqb, eqb-true, eqb-false, All-head, All-tail, All-contains, none-some, same_Some, Call, Reply, Operation}
-use Rattle.certificate.proofs.Common.{Response, is_completed, is_before, precedes, Contents, reply_to, IsAllOrPartOf, after_reply-answer, after_call}
+use Rattle.certificate.proofs.Common.{◌≡◌, ℕ, suc, zero, ◌+◌, ◌<◌, true, false, Bool, cond, List, [], ◌∷◌, length, Option, Some, None, inl, inr, refl}
+use Rattle.certificate.proofs.Common.{sym, ap, ◌∙◌, subst, ⊎_elim, arith, IsTrue, ◌≢◌, slice_get, All, AllPairs, Contains, ne_eqb, eqb-true}
+use Rattle.certificate.proofs.Common.{eqb-false, All-head, All-tail, All-contains, none-some, same_Some, Call, Reply, Operation, Response}
+use Rattle.certificate.proofs.Common.{is_completed, is_before, precedes, Contents, reply_to, IsAllOrPartOf, after_reply-answer, after_call}
 use Rattle.certificate.proofs.Common.{IsLegalCall, IsLegal, calls_at, IsCompletedAt, IsOrder, AllPairs-head, AllPairs-tail, Contains-nil}
 use Rattle.certificate.proofs.Common.{Contains-first, Contains-later, Contains-cases, slice_get-below, some_at, AreRelatedAs, AllPairs-filter_map}
-use Rattle.certificate.proofs.Common.{AllPairs-from_filter_map, AllPairs-weaker}
-use Rattle.events.specs.declared.event.Reply.TheVariants as replies
-use Rattle.std.proofs.Common.{eq-eqb, ◌==◌, is_some}
-use Rattle.std.specs.List.{AllZip}
-use Rattle.std.proofs.lemmas.List.Elements.{length_all_zip}
-use Rattle.map_object.proofs.TellLemmas.{reply_to_answers, reply_to_told, tells_all, tells_answers, whole_from_tells}
-use Rattle.orders.specs.Orders.{KeepsPrecedence}
+use Rattle.certificate.proofs.Common.{AllPairs-from_filter_map, AllPairs-weaker, ◌==◌, is_some, AllZip, length_all_zip, reply_to_answers}
+use Rattle.certificate.proofs.Common.{reply_to_told, tells_all, tells_answers, whole_from_tells, KeepsPrecedence, OrdersAreThoseOfToldCalls}
+use Rattle.std.proofs.Common.{eq-eqb}
 use Rattle.events.proofs.ZipLemmas.{zip_left, zip_right}
 use Rattle.certificate.specs.Tellings.{IsToldAs, IsToldCall, AreToldCalls}
-use Rattle.certificate.specs.PartialLaws.{OrdersAreThoseOfToldCalls}
+use Rattle.events.specs.declared.event.Reply.TheVariants as replies
 
 -- a whole answer comes at the same event
 before_told : (call : Call) (r t : Option Response) (place : ℕ) → IsToldAs call r t → is_before t place ≡ is_before r place

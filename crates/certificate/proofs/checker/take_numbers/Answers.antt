@@ -1,6 +1,5 @@
-use Rattle.certificate.proofs.Common.{subst, arith, take_all, slice_get-get_or, IsRefusedFor, IsPrefixOf}
+use Rattle.certificate.proofs.Common.{subst, arith, take_all, slice_get-get_or, IsRefusedFor, IsPrefixOf, operations}
 use Rattle.std.proofs.lemmas.Result.{err_from_is_err_and}
-use Rattle.events.specs.Operations.{operations}
 use Rattle.certificate.proofs.FaultLemmas.{refused_order}
 use Rattle.certificate.proofs.checker.take_numbers.Goals.{In_err-take}
 use Rattle.certificate.proofs.checker.take_numbers.Goals as goal
