@@ -1,16 +1,9 @@
 -- Laws of filters and of mapped lists that std has not.
-use Rattle.std.proofs.Common.{◌≡◌, Bool, true, false, ◌&&◌, cond, List, [], ◌∷◌, get_or, filter, map, Option, Some, None, refl, sym, ap}
-use Rattle.std.proofs.Common.{◌∙◌, subst, ⊎_elim}
-use Rattle.std.proofs.Common.{arith}
-use Rattle.std.specs.Prelude.{AllPairs, Contains, filter_map}
-use Rattle.std.specs.List.{cons_option}
-use Rattle.std.proofs.lemmas.Bool.{false≢true}
-use Rattle.std.proofs.lemmas.List.Elements.{All-map, All-contains, Contains-get_or, filter_agree}
-use Rattle.std.proofs.lemmas.List.Kept.{AllPairs-cons}
-use Rattle.std.proofs.lemmas.Option.{none-some, same_Some}
+use Rattle.events.proofs.Common.{◌≡◌, Bool, true, false, ◌&&◌, cond, List, [], ◌∷◌, get_or, filter, map, Option, Some, None, refl, sym, ap, ◌∙◌}
+use Rattle.events.proofs.Common.{subst, ⊎_elim, arith, AllPairs, Contains, filter_map, cons_option, false≢true, All-map, All-contains}
+use Rattle.events.proofs.Common.{Contains-get_or, filter_agree, AllPairs-cons, none-some, same_Some}
 use Rattle.events.proofs.Lists.{AllPairs-nil, AllPairs-head, AllPairs-tail, Contains-first, Contains-later, Contains-nil, Contains-cases}
-use Rattle.events.proofs.Lists.{All-from_contains}
-use Rattle.events.proofs.Lists.{filter_none}
+use Rattle.events.proofs.Lists.{All-from_contains, filter_none}
 pub use Rattle.events.proofs.Lists.{Contains-filter, Contains-from_filter, AllPairs-at}
 
 -- a filter of a list whose first element is there or not

@@ -2,8 +2,7 @@
 use Rattle.events.specs.declared.fault.HistoryFault.TheVariants as faults
 use Rattle.events.proofs.Common.{◌≡◌, ℕ, List, [], ◌∷◌, ◌++◌, Option, Some, None, sym, ap, ◌∙◌, refl, subst, inl, inr, ⊎_elim, ◌⊎◌, same_Some, Event}
 use Rattle.events.proofs.Common.{HistoryFault, IsStart, AreHistoryEvents, pair_fault_after, fault_after, IsFirstFaultOf, IsFirstPairFault}
-use Rattle.events.proofs.Common.{IsFirstEventFault, IsFirstFault, IsRefusedFor, IsRefusedAfter, IsPairRefusedAfter}
-use Rattle.events.specs.HistoryView.{HistoryView}
+use Rattle.events.proofs.Common.{IsFirstEventFault, IsFirstFault, IsRefusedFor, IsRefusedAfter, IsPairRefusedAfter, HistoryView}
 use Rattle.events.specs.Laws.{HasOneFirstFault, FaultyIsNoHistory}
 use Rattle.events.proofs.HistoryLemmas.{AreHistoryEvents-next}
 use Rattle.events.proofs.StartLemmas.{IsStart-next}

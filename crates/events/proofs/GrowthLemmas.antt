@@ -1,10 +1,8 @@
 -- A log grows by an event that is stamped higher than all others: so does the history.
-use Rattle.std.proofs.Common.{◌≡◌, ℕ, zero, suc, ◌<◌, ◌≤◌, true, false, List, [], ◌∷◌, ◌++◌, map, arith, refl, sym, ap, ◌∙◌, append_assoc}
-use Rattle.std.proofs.Common.{subst}
-use Rattle.std.specs.Prelude.{nat_le, if◌then◌else◌, Some, slice_get, slice_set, flat_map}
-use Rattle.std.proofs.lemmas.Bool.{le-leb, lt-leb}
-use Rattle.std.proofs.lemmas.Option.{none-some, same_Some}
-use Rattle.events.specs.Logs.{Stamped, placed, by_stamp, history_of_logs}
+use Rattle.events.proofs.Common.{◌≡◌, ℕ, zero, suc, ◌<◌, ◌≤◌, true, false, List, [], ◌∷◌, ◌++◌, map, arith, refl, sym, ap, ◌∙◌, append_assoc, subst}
+use Rattle.events.proofs.Common.{nat_le, if◌then◌else◌, slice_get, slice_set, flat_map, le-leb, lt-leb, none-some, same_Some, Stamped, placed}
+use Rattle.events.proofs.Common.{by_stamp, history_of_logs}
+use Rattle.std.specs.Prelude.{Some}
 
 -- each event is stamped lower
 abbrev pub AreBelow : ℕ → List Stamped → Type 0

@@ -3,9 +3,8 @@ use Rattle.events.specs.declared.fault.HistoryFault.TheVariants as faults
 use Rattle.events.proofs.Common.{◌≡◌, ℕ, ◌+◌, ◌<◌, ◌≤◌, Bool, true, false, not, ◌&&◌, ◌||◌, ◌==◌, cond, List, [], ◌∷◌, ◌++◌, length, Some, None}
 use Rattle.events.proofs.Common.{IsTrue, refl, sym, ◌∙◌, arith, subst, eqb-true, eq-eqb, leb-false, append-nil, filter-append, list_all-append}
 use Rattle.events.proofs.Common.{sum_by-append, nat_tests, and_parts, Event, Invoke, Answer, HistoryFault, call_limit, process_of, is_invocation}
-use Rattle.events.proofs.Common.{events_of, events_alternate, IsWellFormed, is_shaped, is_small, call_count, AreHistoryEvents, ends_waiting, has_open_call}
-use Rattle.events.proofs.Common.{is_out_of_turn, is_call_too_many, event_fault, fault_after}
-use Rattle.std.specs.List.{list_all}
+use Rattle.events.proofs.Common.{events_of, events_alternate, IsWellFormed, is_shaped, is_small, call_count, AreHistoryEvents, ends_waiting}
+use Rattle.events.proofs.Common.{has_open_call, is_out_of_turn, is_call_too_many, event_fault, fault_after, list_all}
 
 -- a process's events, with one event more
 events_of-push : (p : ℕ) (before : List Event) (e : Event)

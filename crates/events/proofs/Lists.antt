@@ -1,18 +1,11 @@
 -- Laws of lists that std has not.
-use Rattle.std.proofs.Common.{◌≡◌, ℕ, zero, suc, ◌<◌, ◌≤◌, Bool, true, false, List, [], ◌∷◌, ◌++◌, length, get_or, take, refl, sym, ap, ◌∙◌}
-use Rattle.std.proofs.Common.{subst, inl, inr}
-use Rattle.std.proofs.Common.{⊎_elim, arith}
-use Rattle.std.specs.Prelude.{◌≢◌, ◌⊎◌, Some, slice_get, All, Any, AllPairs, Contains, filter}
-use Rattle.std.specs.List.{range_with_len}
+use Rattle.events.proofs.Common.{◌≡◌, ℕ, zero, suc, ◌<◌, ◌≤◌, Bool, true, false, List, [], ◌∷◌, ◌++◌, length, get_or, take, refl, sym, ap, ◌∙◌, subst}
+use Rattle.events.proofs.Common.{inl, inr, ⊎_elim, arith, ◌≢◌, ◌⊎◌, slice_get, All, Any, AllPairs, Contains, range_with_len, All-weaker, All-nil}
+use Rattle.events.proofs.Common.{All-head, All-tail, All-append, All-cons, Contains-get_or, All-contains, Contains-append_left, Contains-append_right}
+use Rattle.events.proofs.Common.{Contains-append_cases, AllPairs-cons, cond_both, length-range_with_len, get_or-range_with_len, length-take}
+use Rattle.events.proofs.Common.{length-append, none-some, same_Some, slice_get-get_or, get_or_from_slice_get, slice_get_within}
+use Rattle.std.specs.Prelude.{Some, filter}
 use Rattle.std.proofs.Math.Nat.{zero-add}
-use Rattle.std.proofs.lemmas.List.Elements.{All-weaker, All-nil, All-head, All-tail, All-append, All-cons, Contains-get_or, All-contains}
-use Rattle.std.proofs.lemmas.List.Elements.{Contains-append_left}
-use Rattle.std.proofs.lemmas.List.Elements.{Contains-append_right, Contains-append_cases}
-use Rattle.std.proofs.lemmas.List.Kept.{AllPairs-cons}
-use Rattle.std.proofs.lemmas.Bool.{cond_both}
-use Rattle.std.proofs.lemmas.List.FromFn.{length-range_with_len, get_or-range_with_len}
-use Rattle.std.proofs.lemmas.List.{length-take, length-append}
-use Rattle.std.proofs.lemmas.Option.{none-some, same_Some, slice_get-get_or, get_or_from_slice_get, slice_get_within}
 
 -- there are no pairs in the empty list
 pub AllPairs-nil : {X : Type 0} (R : X → X → Type 0) → AllPairs R []

@@ -1,11 +1,6 @@
 -- Events that are put by rising stamp: what a filter keeps of them, and what is counted of them.
-use Rattle.std.proofs.Common.{◌≡◌, ℕ, ◌+◌, ◌≤◌, Bool, true, false, cond, List, [], ◌∷◌, filter, refl, sym, ap, ◌∙◌}
-use Rattle.std.proofs.Common.{arith}
-use Rattle.std.specs.Prelude.{nat_le, if◌then◌else◌, sum_by}
-use Rattle.std.specs.List.{list_all}
-use Rattle.std.proofs.lemmas.Bool.{leb-true, le-leb, and_parts}
-use Rattle.std.proofs.lemmas.List.Sums.{sum_by-cons}
-use Rattle.events.specs.Logs.{Stamped, placed, by_stamp}
+use Rattle.events.proofs.Common.{◌≡◌, ℕ, ◌+◌, ◌≤◌, Bool, true, false, cond, List, [], ◌∷◌, filter, refl, sym, ap, ◌∙◌, arith, nat_le, if◌then◌else◌}
+use Rattle.events.proofs.Common.{sum_by, list_all, leb-true, le-leb, and_parts, sum_by-cons, Stamped, placed, by_stamp}
 use Rattle.events.proofs.SortLemmas.{rises, by_stamp_rises}
 
 rises-lower : (low k : ℕ) (es : List Stamped) → low ≤ k → rises k es → rises low es

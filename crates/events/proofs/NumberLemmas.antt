@@ -1,12 +1,9 @@
 -- Laws of numbers in lists: the least, the greatest, whether one is there.
-use Rattle.std.proofs.Common.{◌≡◌, ℕ, zero, suc, ◌+◌, ◌<◌, ◌≤◌, Bool, true, false, List, Some, None, [], ◌∷◌, ◌++◌, length, get_or, take}
-use Rattle.std.proofs.Common.{Option, refl, sym, ap, ◌∙◌, not, ◌&&◌}
-use Rattle.std.proofs.Common.{subst, ⊎_elim, arith, map, ◌==◌}
-use Rattle.std.specs.Prelude.{min, max, ◌==◌, ◌||◌, map, slice_get, IsSomeAnd, Contains}
-use Rattle.std.specs.Ordering.{nat_cmp, is_lt}
-use Rattle.std.proofs.lemmas.Bool.{eq-eqb, eqb-true, or_cases, or_left, or_right, false≢true, cases_lt, lt-ltb, le-ltb, ne_eqb, cases_order}
-use Rattle.std.proofs.lemmas.List.{map_more, length-map, length-take}
-use Rattle.std.proofs.lemmas.List.Folds.{list_any-append}
+use Rattle.events.proofs.Common.{◌≡◌, ℕ, zero, suc, ◌+◌, ◌<◌, ◌≤◌, Bool, true, false, List, Some, None, [], ◌∷◌, ◌++◌, length, get_or, take, Option}
+use Rattle.events.proofs.Common.{refl, sym, ap, ◌∙◌, not, ◌&&◌, subst, ⊎_elim, arith, map, ◌==◌, min, max, ◌||◌, slice_get, IsSomeAnd, Contains}
+use Rattle.events.proofs.Common.{nat_cmp, is_lt, eq-eqb, eqb-true, or_cases, or_left, or_right, false≢true, cases_lt, lt-ltb, le-ltb, ne_eqb}
+use Rattle.events.proofs.Common.{cases_order, map_more, length-map, length-take, list_any-append}
+use Rattle.std.specs.Prelude.{◌==◌, map}
 use Rattle.events.specs.Lists.{least, greatest, has_number}
 use Rattle.events.proofs.Lists.{Contains-first, Contains-later, Contains-nil, Contains-cases}
 

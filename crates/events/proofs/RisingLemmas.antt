@@ -1,11 +1,7 @@
 -- Laws of rising lists of numbers.
-use Rattle.std.proofs.Common.{◌≡◌, ℕ, ◌+◌, ◌<◌, List, [], ◌∷◌, refl, sym, ap, ◌∙◌, subst, ⊎_elim, arith}
-use Rattle.std.specs.Prelude.{◌↔◌, All, AllPairs, Contains}
-use Rattle.std.specs.List.{range_with_len}
-use Rattle.std.specs.List.Sorted.{IsStrictlyIncreasing}
-use Rattle.std.proofs.lemmas.List.FromFn.{length-range_with_len, get_or-range_with_len}
-use Rattle.std.proofs.lemmas.List.Elements.{All-contains}
-use Rattle.std.proofs.lemmas.List.Kept.{AllPairs-from_increasing}
+use Rattle.events.proofs.Common.{◌≡◌, ℕ, ◌+◌, ◌<◌, List, [], ◌∷◌, refl, sym, ap, ◌∙◌, subst, ⊎_elim, arith, ◌↔◌, All, AllPairs, Contains}
+use Rattle.events.proofs.Common.{range_with_len, IsStrictlyIncreasing, length-range_with_len, get_or-range_with_len, All-contains}
+use Rattle.events.proofs.Common.{AllPairs-from_increasing}
 use Rattle.events.proofs.Lists.{AllPairs-head, AllPairs-tail, Contains-first, Contains-later, Contains-nil, Contains-cases}
 
 -- the first of two lists that rise and have the same members is the same

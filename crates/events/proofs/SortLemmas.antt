@@ -1,14 +1,8 @@
 -- A stable sort by stamps gives the events by rising stamp.
-use Rattle.std.proofs.Common.{◌≡◌, ℕ, suc, ◌<◌, ◌≤◌, ◌==◌, Bool, true, false, cond, not, ◌&&◌, List, [], ◌∷◌, length, get_or, filter, refl}
-use Rattle.std.proofs.Common.{sym, ap, subst, ◌∙◌}
-use Rattle.std.proofs.Common.{⊎_elim, arith}
-use Rattle.std.specs.Prelude.{nat_le, if◌then◌else◌}
-use Rattle.std.specs.List.Sorted.{IsNonDecreasingBy, IsSortedByKey, IsStableByKey}
-use Rattle.std.specs.Ordering.{nat_cmp, is_lt}
-use Rattle.std.proofs.lemmas.Bool.{leb-true, leb-false, eq-eqb, ne_eqb, eqb-true, cases_order}
-use Rattle.std.proofs.lemmas.List.Elements.{filter_agree}
-use Rattle.std.proofs.lemmas.List.Sorted.{IsNonDecreasingBy-from_sort}
-use Rattle.events.specs.Logs.{Stamped, placed, by_stamp}
+use Rattle.events.proofs.Common.{◌≡◌, ℕ, suc, ◌<◌, ◌≤◌, ◌==◌, Bool, true, false, cond, not, ◌&&◌, List, [], ◌∷◌, length, get_or, filter, refl, sym}
+use Rattle.events.proofs.Common.{ap, subst, ◌∙◌, ⊎_elim, arith, nat_le, if◌then◌else◌, IsNonDecreasingBy, IsSortedByKey, IsStableByKey, nat_cmp}
+use Rattle.events.proofs.Common.{is_lt, leb-true, leb-false, eq-eqb, ne_eqb, eqb-true, cases_order, filter_agree, IsNonDecreasingBy-from_sort}
+use Rattle.events.proofs.Common.{Stamped, placed, by_stamp}
 use Rattle.events.proofs.NumberLemmas.{tie_is_same}
 
 -- no stamp is lower than the one before it, nor is the first lower than this

@@ -1,9 +1,9 @@
 -- The pairs that a history starts with, taken one after another.
 use Rattle.events.proofs.Common.{◌≡◌, ℕ, ◌-◌, ◌<◌, true, false, nat_lt, nat_le, List, [], ◌∷◌, ◌++◌, length, get_or, Some, None, refl, sym, ap, ◌∙◌}
-use Rattle.events.proofs.Lists.{AllPairs-across}
 use Rattle.events.proofs.Common.{arith, inl, inr, ltb-true, All, slice_get, cases_lt, lt-ltb, le-ltb, nat_tests, get_or_from_slice_get}
-use Rattle.events.proofs.Common.{slice_get_within, AllPass-from_list_all, length-append, All-head, All-tail, All-weaker, list_all_at}
-use Rattle.events.proofs.Common.{start_limit, KeysRise, IsStart, is_above, pair_fault_after}
+use Rattle.events.proofs.Common.{slice_get_within, AllPass-from_list_all, length-append, All-head, All-tail, All-weaker, list_all_at, start_limit}
+use Rattle.events.proofs.Common.{KeysRise, IsStart, is_above, pair_fault_after}
+use Rattle.events.proofs.Lists.{AllPairs-across}
 use Rattle.std.proofs.lemmas.List.Quantifiers.{all_pairs_push}
 
 -- a key above all others is above them

@@ -1,9 +1,8 @@
 -- When the calls of a history are invoked and answered.
 use Rattle.events.proofs.Common.{◌≡◌, ℕ, suc, ◌<◌, ◌≤◌, Bool, true, false, cond, ◌==◌, List, [], ◌∷◌, Option, Some, None, refl, ⊎_elim, arith}
-use Rattle.events.proofs.Lists.{AllPairs-nil, AllPairs-at}
 use Rattle.events.proofs.Common.{slice_get, IfSome, All, AllPairs, le-ltb, cases_order, IfSome_then, All-nil, All-cons, All-weaker, Event, Invoke}
-use Rattle.events.proofs.Common.{Answer, Operation, Response, response_from, operation_of, operations_from, operations}
-use Rattle.std.proofs.lemmas.List.Kept.{AllPairs-cons}
+use Rattle.events.proofs.Common.{Answer, Operation, Response, response_from, operation_of, operations_from, operations, AllPairs-cons}
+use Rattle.events.proofs.Lists.{AllPairs-nil, AllPairs-at}
 use Rattle.events.specs.Precedence.{is_before, precedes, NonePrecedesItself}
 
 -- a response that is looked for from a place on is there or later

@@ -1,12 +1,8 @@
-use Rattle.std.proofs.Common.{◌≡◌, List, IfOk, map, sym, ap, ◌∙◌, subst, rules}
-use Rattle.std.proofs.lemmas.List.Sorted.{answers_always}
-use Rattle.events.specs.declared.event.Event.{Event}
-use Rattle.events.specs.HistoryView.{HistoryView}
-use Rattle.events.specs.Histories.{AreHistoryEvents}
-use Rattle.events.specs.Logs.{events_by_stamp}
+use Rattle.events.proofs.Common.{◌≡◌, List, IfOk, map, sym, ap, ◌∙◌, subst, rules, answers_always, Event, HistoryView, AreHistoryEvents}
+use Rattle.events.proofs.Common.{events_by_stamp}
 use Rattle.events.proofs.SortLemmas.{sorted_is}
-use Rattle.events.proofs.stamped.history_by_stamp.Goals as goal
 use Rattle.events.proofs.stamped.history_by_stamp.Goals.{In_ok-events}
+use Rattle.events.proofs.stamped.history_by_stamp.Goals as goal
 
 -- the sorted events, without their stamps
 same : (c : In_ok-events) → c.in_ok-events.events.items ≡ events_by_stamp c.args.stamped.items
