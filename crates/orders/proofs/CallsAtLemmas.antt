@@ -1,11 +1,6 @@
 -- The calls with some numbers.
-use Rattle.std.proofs.Common.{◌≡◌, ℕ, zero, suc, ◌<◌, List, Some, [], ◌∷◌, length, refl, sym, ap, ◌∙◌, arith}
-use Rattle.std.specs.Prelude.{slice_get, All}
-use Rattle.std.proofs.lemmas.List.Elements.{All-head, All-tail}
-use Rattle.std.proofs.lemmas.Option.{none-some, same_Some, slice_get_within}
-use Rattle.events.specs.declared.operation.Operation.{Operation}
-use Rattle.orders.specs.Orders.{calls_at}
-use Rattle.events.proofs.NumberLemmas.{slice_get-below}
+use Rattle.orders.proofs.Common.{◌≡◌, ℕ, zero, suc, ◌<◌, List, Some, [], ◌∷◌, length, refl, sym, ap, ◌∙◌, arith, slice_get, All, All-head, All-tail}
+use Rattle.orders.proofs.Common.{none-some, same_Some, slice_get_within, Operation, calls_at, slice_get-below}
 
 -- at each place of some numbers is the call of that number
 pub slice_get-calls_at : (calls : List Operation) (numbers : List ℕ) (i n : ℕ) → All (λ n. n < length calls) numbers

@@ -1,12 +1,6 @@
 -- The legal lists of calls are those that the object does in turn, and what they lead to is one list of pairs.
-use Rattle.std.proofs.Common.{◌≡◌, List, [], ◌∷◌, Option, Some, None, inr, refl, sym, subst, ◌∙◌}
-use Rattle.events.specs.declared.event.Call.{Call}
-use Rattle.events.specs.declared.operation.Operation.{Operation}
-use Rattle.events.specs.declared.operation.Response.{Response}
-use Rattle.map_object.specs.MapObject.{Contents, reply_to}
-use Rattle.map_object.proofs.TellLemmas.{reply_to_answers, after_reply-answer, tells_all}
-use Rattle.orders.specs.Orders.{after_call, after_calls, IsLegalCall, IsLegal}
-use Rattle.orders.specs.Leads.{DoesCall, Leads}
+use Rattle.orders.proofs.Common.{◌≡◌, List, [], ◌∷◌, Option, Some, None, inr, refl, sym, subst, ◌∙◌, Call, Operation, Response, Contents, reply_to}
+use Rattle.orders.proofs.Common.{reply_to_answers, after_reply-answer, tells_all, after_call, after_calls, IsLegalCall, IsLegal, DoesCall, Leads}
 
 -- one call: legal, with the pairs after it, is to be done
 pub DoesCall-from_legal : (m : Contents) (call : Call) (response : Option Response) → IsLegalCall m call response

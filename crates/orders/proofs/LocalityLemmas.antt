@@ -1,10 +1,10 @@
 -- An order of all calls gives each segment an order, so a segment without order refutes the history.
 use Rattle.orders.proofs.Common.{◌≡◌, ℕ, ◌<◌, false, List, length, get_or, filter, sym, ap, ap₂, ◌∙◌, subst, ◌≢◌, slice_get, slice_index, All}
-use Rattle.orders.proofs.CallsAtLemmas.{length-calls_at}
 use Rattle.orders.proofs.Common.{Contains, All-filter, All-contains, Contains-get_or, AllPairs-filter, Operation, has_number, precedes, Contents}
 use Rattle.orders.proofs.Common.{within, calls_at, IsLegalOrder, IsCompletedAt, IsOrder, IsLinearizable, SegmentView, IsSegment, AreSegments}
 use Rattle.orders.proofs.Common.{All-from_contains, has_number-Contains, has_number-from_Contains, Contains-map, Contains-filter}
 use Rattle.orders.proofs.Common.{Contains-from_filter, AreRelatedAs, AllPairs-filter_map, AllPairs-from_filter_map}
+use Rattle.orders.proofs.CallsAtLemmas.{length-calls_at}
 use Rattle.orders.specs.SegmentOrders.{IsOrderOf, HasNoOrder}
 use Rattle.orders.proofs.PlaceLemmas.{at_places, place_of, places_of, All-at_places, IsLegalOrder-numbers, IsLegalOrder-places, IsCompletedAt-number}
 use Rattle.orders.proofs.PlaceLemmas.{IsCompletedAt-place, Contains-place}

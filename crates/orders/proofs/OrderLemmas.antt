@@ -1,14 +1,7 @@
 -- Laws of legal lists of calls and of orders.
-use Rattle.std.proofs.Common.{◌≡◌, ℕ, ◌+◌, ◌<◌, List, Some, [], ◌∷◌, ◌++◌, length, get_or, take, refl, ap, ◌∙◌}
-use Rattle.std.specs.Prelude.{slice_get, IsTrue}
-use Rattle.std.specs.List.{cons_option}
-use Rattle.std.proofs.lemmas.List.{take_more}
-use Rattle.std.proofs.lemmas.List.Elements.{filter_map-append}
-use Rattle.events.specs.declared.operation.Operation.{Operation}
-use Rattle.events.specs.Precedence.{is_completed}
-use Rattle.map_object.specs.MapObject.{Contents}
-use Rattle.orders.specs.Orders.{after_call, after_calls, IsLegal, calls_at, IsCompletedAt}
-use Rattle.events.proofs.NumberLemmas.{IsSomeAnd-within}
+use Rattle.orders.proofs.Common.{◌≡◌, ℕ, ◌+◌, ◌<◌, List, Some, [], ◌∷◌, ◌++◌, length, get_or, take, refl, ap, ◌∙◌, slice_get, IsTrue, cons_option}
+use Rattle.orders.proofs.Common.{take_more, filter_map-append, Operation, is_completed, Contents, after_call, after_calls, IsLegal, calls_at}
+use Rattle.orders.proofs.Common.{IsCompletedAt, IsSomeAnd-within}
 
 -- the pairs after two lists of calls are the pairs after the second, from those after the first
 pub after_calls-append : (m : Contents) (xs ys : List Operation) → after_calls m (xs ++ ys) ≡ after_calls (after_calls m xs) ys

@@ -1,19 +1,11 @@
 -- Some calls by number: an order of them by place is one by number, and back.
-use Rattle.std.proofs.Common.{◌≡◌, ℕ, zero, suc, ◌<◌, List, [], ◌∷◌, length, get_or, map, refl, sym, ap, ◌∙◌, subst, ⊎_elim, arith}
-use Rattle.std.specs.Prelude.{◌≢◌, slice_get, slice_index, IsTrue, IsSomeAnd, All, Contains}
-use Rattle.std.specs.List.Sorted.{IsStrictlyIncreasing}
-use Rattle.std.proofs.lemmas.Bool.{cases_order, cases_eq}
-use Rattle.std.proofs.lemmas.List.{get_or_default}
-use Rattle.std.proofs.lemmas.List.Elements.{All-nil, All-cons, All-head, All-tail, All-map, All-contains, Contains-get_or}
-use Rattle.std.proofs.lemmas.List.Kept.{AllPairs-from_increasing}
-use Rattle.events.specs.declared.operation.Operation.{Operation}
-use Rattle.events.specs.Precedence.{is_completed}
-use Rattle.map_object.specs.MapObject.{Contents}
-use Rattle.orders.specs.Orders.{KeepsPrecedence, IsLegal, calls_at, IsLegalOrder, IsCompletedAt}
-use Rattle.events.proofs.Lists.{All-from_contains}
-use Rattle.events.proofs.NumberLemmas.{slice_get-below}
+use Rattle.orders.proofs.Common.{◌≡◌, ℕ, zero, suc, ◌<◌, List, [], ◌∷◌, length, get_or, refl, sym, ap, ◌∙◌, subst, ⊎_elim, arith, ◌≢◌, slice_get}
+use Rattle.orders.proofs.Common.{slice_index, IsTrue, IsSomeAnd, All, Contains, IsStrictlyIncreasing, cases_order, cases_eq, get_or_default, All-nil}
+use Rattle.orders.proofs.Common.{All-cons, All-head, All-tail, All-map, All-contains, Contains-get_or, AllPairs-from_increasing, Operation}
+use Rattle.orders.proofs.Common.{is_completed, Contents, KeepsPrecedence, IsLegal, calls_at, IsLegalOrder, IsCompletedAt, All-from_contains}
+use Rattle.orders.proofs.Common.{slice_get-below, AllPairs-weaker, AllPairs-map, AllPairs-from_map, Contains-from_map}
+use Rattle.std.proofs.Common.{map}
 use Rattle.orders.proofs.OrderLemmas.{IsCompletedAt-below}
-use Rattle.events.proofs.FilterLemmas.{AllPairs-weaker, AllPairs-map, AllPairs-from_map, Contains-from_map}
 use Rattle.orders.proofs.CallsAtLemmas.{length-calls_at}
 
 -- the numbers at some places

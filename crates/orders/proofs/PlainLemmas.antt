@@ -1,26 +1,14 @@
 -- Histories with neither starting pairs nor a replace, and with complete answers only, have the
 -- orders that their calls have without either.
 use Rattle.events.specs.declared.event.Reply.TheVariants as replies
-use Rattle.std.proofs.Common.{◌≡◌, ℕ, suc, ◌==◌, Bool, true, false, cond, List, [], ◌∷◌, Option, Some, None, inl, inr, refl, sym, subst, ◌∙◌}
-use Rattle.std.specs.Prelude.{All, slice_get, ⊤}
-use Rattle.std.specs.List.{list_all}
-use Rattle.std.proofs.lemmas.Bool.{and_parts, not-true}
-use Rattle.std.proofs.lemmas.List.Elements.{All-nil, All-cons, All-head, All-tail, All-contains}
-use Rattle.events.specs.declared.event.Call.{Call}
-use Rattle.events.specs.declared.event.Call.TheVariants.{Get, Insert, Remove, Scan, Replace}
-use Rattle.events.specs.declared.event.Event.{Event}
-use Rattle.events.specs.declared.event.Event.TheVariants.{Invoke, Answer}
-use Rattle.events.specs.declared.event.Reply.{Reply}
-use Rattle.events.specs.declared.operation.Operation.{Operation}
-use Rattle.events.specs.declared.operation.Response.{Response}
+use Rattle.orders.proofs.Common.{◌≡◌, ℕ, suc, ◌==◌, Bool, true, false, cond, List, [], ◌∷◌, Option, Some, None, inl, inr, refl, sym, subst, ◌∙◌, All}
+use Rattle.orders.proofs.Common.{slice_get, ⊤, list_all, and_parts, not-true, All-nil, All-cons, All-head, All-tail, All-contains, Call, Get, Insert}
+use Rattle.orders.proofs.Common.{Remove, Scan, Replace, Event, Invoke, Answer, Reply, Operation, Response, response_from, operation_of}
+use Rattle.orders.proofs.Common.{operations_from, operations, Contents, reply_to, after, after_reply, IsAllOrPartOf, after_reply-answer, tells_all}
+use Rattle.orders.proofs.Common.{tells_answers, whole_from_tells, All-from_contains, Contains-at, Contains-from_filter_map, after_call, IsLegalCall}
+use Rattle.orders.proofs.Common.{IsLegal, calls_at, IsOrder}
 use Rattle.events.specs.PlainHistories.{is_replace, is_plain_event, has_no_pairs}
-use Rattle.events.specs.Operations.{response_from, operation_of, operations_from, operations}
 use Rattle.events.specs.Told.{is_complete}
-use Rattle.map_object.specs.MapObject.{Contents, reply_to, after, after_reply, IsAllOrPartOf}
-use Rattle.map_object.proofs.TellLemmas.{after_reply-answer, tells_all, tells_answers, whole_from_tells}
-use Rattle.events.proofs.Lists.{All-from_contains, Contains-at}
-use Rattle.events.proofs.FilterLemmas.{Contains-from_filter_map}
-use Rattle.orders.specs.Orders.{after_call, IsLegalCall, IsLegal, calls_at, IsOrder}
 use Rattle.orders.specs.PlainOrders.{DoesPlain, DoesPlainCall, AreDonePlainly, IsPlainOrder}
 use Rattle.orders.specs.Laws.{PlainHistoriesHavePlainOrders}
 

@@ -2,12 +2,10 @@
 use Rattle.events.specs.declared.event.Reply.TheVariants as replies
 use Rattle.orders.proofs.Common.{◌≡◌, ℕ, ◌<◌, ◌≤◌, Bool, true, false, ◌==◌, ◌&&◌, nat_le, nat_lt, cond, [], ◌∷◌, ◌++◌, Some, None, Option, get_or}
 use Rattle.orders.proofs.Common.{refl, sym, ap, ◌∙◌, inl, inr, ⊎_elim, arith, ◌⊎◌, ◌↔◌, All, false≢true, and_parts, and_from, and_left, and_right}
-use Rattle.orders.proofs.Common.{leb-true, le-leb, lt-leb, lt-ltb, le-ltb, eqb-true, cases_Bool, append-nil, filter-append, filter_passes, Call}
-use Rattle.orders.proofs.Common.{Get, Insert, Remove, Scan, Replace, Contents, value_at, below, above, within, put, is_just, value_reply, reply_to}
-use Rattle.orders.proofs.Common.{after, after_reply, after_call, IsLegalCall, low_key, high_key, may_change, filter_comm, filter_implied}
-use Rattle.orders.proofs.Common.{filter_excluded}
-use Rattle.events.specs.declared.event.Reply.{Reply}
-use Rattle.events.specs.declared.operation.Response.{Response}
+use Rattle.orders.proofs.Common.{leb-true, le-leb, lt-leb, lt-ltb, le-ltb, eqb-true, cases_Bool, append-nil, filter-append, filter_passes, Call, Get}
+use Rattle.orders.proofs.Common.{Insert, Remove, Scan, Replace, Contents, value_at, below, above, within, put, is_just, value_reply, reply_to, after}
+use Rattle.orders.proofs.Common.{after_reply, after_call, IsLegalCall, low_key, high_key, may_change, filter_comm, filter_implied, filter_excluded}
+use Rattle.orders.proofs.Common.{Reply, Response}
 
 -- whether a key is from low to high
 abbrev pub in_range : ℕ → ℕ → ℕ → Bool

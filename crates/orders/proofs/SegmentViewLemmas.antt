@@ -1,16 +1,12 @@
 -- What holds of the calls that some numbers name.
 use Rattle.orders.proofs.Common.{◌≡◌, ℕ, zero, suc, ◌<◌, ◌≤◌, true, false, List, [], ◌∷◌, length, Option, Some, None, arith, ◌≢◌, map, slice_get}
-use Rattle.orders.proofs.CallsAtLemmas.{length-calls_at, number_at}
 use Rattle.orders.proofs.Common.{IfSome, All, AllPairs, cons_option, list_all, and_parts, leb-true, AllPairs-from_increasing, AllPairs-filter}
-use Rattle.orders.proofs.Common.{All-nil, All-cons, All-head, All-tail, All-contains, All-weaker, Call, Get, Insert, Remove, Scan, Replace}
-use Rattle.orders.proofs.Common.{Operation, least, greatest, Contents, within, operation_of, operations_from, operations, precedes, low_key}
-use Rattle.orders.proofs.Common.{high_key, calls_at, segment_of, NamesKeysWithin, IsSegmentView, All-from_contains, length-distinct_below}
-use Rattle.orders.proofs.Common.{AllPairs-at, AllPairs-from_at, greatest_bound, least_bound, AllPairs-weaker}
-use Rattle.orders.proofs.Common.{length-operations_le}
-use Rattle.std.specs.List.Sorted.{IsStrictlyIncreasing}
+use Rattle.orders.proofs.Common.{All-nil, All-cons, All-head, All-tail, All-contains, All-weaker, Call, Get, Insert, Remove, Scan, Replace, Operation}
+use Rattle.orders.proofs.Common.{least, greatest, Contents, within, operation_of, operations_from, operations, precedes, low_key, high_key, calls_at}
+use Rattle.orders.proofs.Common.{segment_of, NamesKeysWithin, IsSegmentView, All-from_contains, length-distinct_below, AllPairs-at, AllPairs-from_at}
+use Rattle.orders.proofs.Common.{greatest_bound, least_bound, AllPairs-weaker, length-operations_le, IsStrictlyIncreasing, Event, Invoke, Answer}
+use Rattle.orders.proofs.CallsAtLemmas.{length-calls_at, number_at}
 use Rattle.std.proofs.lemmas.List.Sums.{length-filter, count_by-le-length}
-use Rattle.events.specs.declared.event.Event.{Event}
-use Rattle.events.specs.declared.event.Event.TheVariants.{Invoke, Answer}
 use Rattle.events.specs.Histories.{has_range, is_shaped, AreHistoryEvents, IsHistory}
 use Rattle.events.specs.HistoryView.{HistoryView}
 use Rattle.events.specs.Starts.{IsStart}

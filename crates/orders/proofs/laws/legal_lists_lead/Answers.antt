@@ -1,6 +1,4 @@
-use Rattle.std.proofs.Common.{subst, sym}
-use Rattle.map_object.specs.MapObject.{Contents}
-use Rattle.orders.specs.Leads.{Leads}
+use Rattle.orders.proofs.Common.{subst, sym, Contents, Leads}
 use Rattle.orders.proofs.LegalLemmas.{Leads-from_legal, legal_from_Leads}
 use Rattle.orders.proofs.laws.legal_lists_lead.Goals as goal
 
