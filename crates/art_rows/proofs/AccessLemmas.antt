@@ -1,50 +1,29 @@
 -- Every access of every procedure is in the table.
-use Rattle.std.proofs.Common.{◌≡◌, ℕ, ◌+◌, ◌-◌, ◌*◌, ◌/◌, ◌%◌, ◌<◌, ◌≤◌, List, [], ◌∷◌, ◌++◌, length, refl, subst, sym, arith, Bool}
-use Rattle.std.proofs.Common.{true, false}
-use Rattle.std.specs.Prelude.{min, ◌==◌, ◌&&◌, nat_lt, nat_le, slice_index, Option, Some, None, filter, if◌then◌else◌}
-use Rattle.std.proofs.lemmas.List.{length-append}
-use Rattle.std.proofs.lemmas.Bool.{false≢true, ltb-true}
-use Rattle.events.specs.declared.event.Call.{Call}
-use Rattle.events.specs.declared.event.Call.TheVariants.{Get, Insert, Remove, Scan, Replace}
-use Rattle.events.specs.declared.event.Reply.{Reply}
-use Rattle.events.specs.declared.event.Reply.TheVariants as reply
-use Rattle.art_rows.specs.declared.variant.Variant.{Variant}
-use Rattle.art_rows.specs.declared.table.Shape.{Shape}
-use Rattle.art_rows.specs.declared.table.Kind.{Kind}
-use Rattle.art_rows.specs.declared.table.Kind.TheVariants.{Four, Sixteen, FortyEight, Full}
-use Rattle.art_rows.specs.declared.table.Child.{Child}
-use Rattle.art_rows.specs.declared.table.Child.TheVariants.{Empty, Row as ChildRow, Leaf}
-use Rattle.art_rows.specs.Table.{capacity, rows_of, table_words, root_base, claims_of, info_at, keys_at, more_keys_at, index_at, count_at}
-use Rattle.art_rows.specs.Table.{child_at}
-use Rattle.art_rows.specs.Words.{is_locked, is_obsolete, locked_word, keys4_of, keys16_of, count_of, place_of, new_place}
-use Rattle.art_rows.specs.Words.{entries_of}
+use Rattle.art_rows.proofs.Common.{◌≡◌, ℕ, ◌+◌, ◌-◌, ◌*◌, ◌/◌, ◌%◌, ◌<◌, ◌≤◌, List, [], ◌∷◌, ◌++◌, length, refl, subst, sym, arith, Bool, true, false}
+use Rattle.art_rows.proofs.Common.{min, ◌==◌, ◌&&◌, nat_lt, nat_le, Option, Some, None, filter, if◌then◌else◌, length-append, false≢true, ltb-true}
+use Rattle.art_rows.proofs.Common.{Call, Get, Insert, Remove, Scan, Replace, Reply, Variant, Shape, Kind, Four, Sixteen, FortyEight, Full, Child}
+use Rattle.art_rows.proofs.Common.{Empty, Leaf, capacity, rows_of, table_words, root_base, claims_of, info_at, keys_at, more_keys_at, index_at}
+use Rattle.art_rows.proofs.Common.{count_at, child_at, is_locked, is_obsolete, locked_word, keys4_of, keys16_of, count_of, place_of, new_place}
+use Rattle.art_rows.proofs.Common.{entries_of, Answers, Part, from_start, ◌>>=◌, ◌>>◌, give, start_again, load, exchange, numbers, numbers_down}
+use Rattle.art_rows.proofs.Common.{Setting, Row, Place, is_insert, locks, key_of, leaves_out_check, takes_unchecked, releases_early, lock_point}
+use Rattle.art_rows.proofs.Common.{lock_again, lock, unlock, unlock_obsolete, unlock_all, wait, check, check_of, take_row, Found, Has, Lacks}
+use Rattle.art_rows.proofs.Common.{load_child, find_child, find_among, find_indexed, find_in, find, byte_at, is_full, claim, row_of, path_differs_at}
+use Rattle.art_rows.proofs.Common.{root_row, Walked, with_leaf, has_row, with_row, can_lie, bytes_of, enter, walk_child, walk_slot, walk_place}
+use Rattle.art_rows.proofs.Common.{walk_keys, walk_entry, walk_index, walk_in, walk_bytes, At, walk_from, scan, pair_limit, procedure, act, word_of}
+use Rattle.art_rows.proofs.Common.{StaysInTable, AnswersFewPairs, overwriting, keys_differ_at, Under, pair, pair_in, copy_child, make_room, put_in}
+use Rattle.art_rows.proofs.Common.{put, store_index, spread_entry, spread_index, fill, grow, insert_in, insert_beside, next_kind}
+use Rattle.std.specs.Prelude.{slice_index}
+use Rattle.art_rows.specs.declared.table.Child.TheVariants.{Row as ChildRow}
 use Rattle.art_rows.proofs.ByteLemmas.{key_byte-small, keys4-few, place-within, entries-most, keys16-few}
 use Rattle.art_rows.proofs.WriterLemmas.{new_place-most}
-use Rattle.art_rows.specs.Steps.{Answers, Part, from_start, ◌>>=◌, ◌>>◌, give, start_again, load, exchange, numbers, numbers_down}
-use Rattle.art_rows.specs.Rows.{Setting, Row, Place, is_insert, locks, key_of, leaves_out_check, takes_unchecked, releases_early}
-use Rattle.art_rows.specs.Rows.{lock_point, lock_again, lock}
-use Rattle.art_rows.specs.Rows.{unlock, unlock_obsolete, unlock_all, wait, check, check_of, take_row, Found, Has, Lacks, load_child}
-use Rattle.art_rows.specs.Rows.{find_child, find_among}
-use Rattle.art_rows.specs.Rows.{find_indexed, find_in, find, byte_at, is_full, claim, row_of, path_differs_at, root_row}
+use Rattle.art_rows.proofs.TableLemmas.{Inside, IsSmall, Stays, Within, Any, give-within, again-within, answer-within, bind-within, then-within}
+use Rattle.art_rows.proofs.TableLemmas.{if-within, load-within, load_at-within, exchange-within, add-within, store-within, store_at-within}
+use Rattle.art_rows.proofs.TableLemmas.{first_at-within, recursive-within, repeat-within, Each, each-within, over-within, numbers-each}
+use Rattle.art_rows.proofs.TableLemmas.{numbers_down-each, IsIn, IsGood, child_of-good, base_of-fits}
+use Rattle.art_rows.proofs.TurnLemmas.{answers-asks, answers-same}
+use Rattle.events.specs.declared.event.Reply.TheVariants as reply
 use Rattle.art_rows.specs.Coupled as coupled
 use Rattle.art_rows.specs.Optimistic as optimistic
-use Rattle.art_rows.specs.Scan.{Walked, with_leaf, has_row, with_row, can_lie, bytes_of, enter, walk_child, walk_slot, walk_place}
-use Rattle.art_rows.specs.Scan.{walk_keys, walk_entry}
-use Rattle.art_rows.specs.Scan.{walk_index, walk_in, walk_bytes, At, walk_from, scan}
-use Rattle.events.specs.Limits.{pair_limit}
-use Rattle.art_rows.specs.Act.{procedure, act}
-use Rattle.art_rows.specs.Fits.{word_of, StaysInTable, AnswersFewPairs}
-use Rattle.art_rows.specs.Updates.{overwriting, keys_differ_at, Under, pair, pair_in, copy_child, make_room, put_in, put, store_index}
-use Rattle.art_rows.specs.Updates.{spread_entry}
-use Rattle.art_rows.specs.Updates.{spread_index, fill, grow, insert_in, insert_beside, next_kind}
-use Rattle.art_rows.proofs.TableLemmas.{Inside, IsSmall, Stays, Within, Any, give-within, again-within, answer-within, bind-within}
-use Rattle.art_rows.proofs.TableLemmas.{then-within, if-within}
-use Rattle.art_rows.proofs.TableLemmas.{load-within, load_at-within, exchange-within, add-within, store-within, store_at-within}
-use Rattle.art_rows.proofs.TableLemmas.{first_at-within}
-use Rattle.art_rows.proofs.TableLemmas.{recursive-within, repeat-within, Each, each-within, over-within, numbers-each, numbers_down-each}
-use Rattle.art_rows.proofs.TableLemmas.{IsIn, IsGood}
-use Rattle.art_rows.proofs.TableLemmas.{child_of-good, base_of-fits}
-use Rattle.art_rows.proofs.TurnLemmas.{answers-asks, answers-same}
 
 pub in-base : {s : Shape} {base : ℕ} {kind : Kind} → IsIn s base kind → Inside s base
 in-base {kind = Four} h = omega (arith, h.begins, h.fits)

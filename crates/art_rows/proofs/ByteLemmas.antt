@@ -1,9 +1,8 @@
 -- Bytes of words and of keys, and places among them, are small.
-use Rattle.std.proofs.Common.{◌≡◌, ℕ, zero, suc, ◌+◌, ◌/◌, ◌%◌, ◌<◌, ◌≤◌, ◌==◌, List, [], ◌∷◌, length, length-take, slice_index, map}
-use Rattle.std.proofs.Common.{Option, Some, None, option_map}
-use Rattle.std.proofs.Common.{Bool, true, false, refl, sym, ap, ◌∙◌, arith, nat_le, eqb-true, if◌then◌else◌}
-use Rattle.std.proofs.lemmas.Option.{same_Some, none-some}
-use Rattle.art_rows.specs.Words.{key_bytes, low_bytes, keys4_of, keys16_of, place_of, entry_of, entries_of}
+use Rattle.art_rows.proofs.Common.{◌≡◌, ℕ, zero, suc, ◌+◌, ◌/◌, ◌%◌, ◌<◌, ◌≤◌, List, [], ◌∷◌, length, slice_index, map, option_map, Bool, true, false}
+use Rattle.art_rows.proofs.Common.{refl, sym, ap, ◌∙◌, arith, eqb-true, same_Some, none-some, key_bytes, low_bytes, keys4_of, keys16_of, place_of}
+use Rattle.art_rows.proofs.Common.{entry_of, entries_of}
+use Rattle.std.proofs.Common.{◌==◌, length-take, Option, Some, None, nat_le, if◌then◌else◌}
 use Rattle.art_rows.proofs.WriterLemmas.{length-low_bytes}
 
 pub key_byte-small : (key i : ℕ) → slice_index (key_bytes key) i < 256

@@ -1,13 +1,9 @@
 -- Bytes at places of words, and the first place in which lists of bytes differ.
-use Rattle.std.proofs.Common.{◌≡◌, ℕ, zero, suc, ◌+◌, ◌*◌, ◌/◌, ◌%◌, ◌^◌, ◌<◌, ◌≤◌, List, [], ◌∷◌, length, slice_index}
-use Rattle.std.proofs.Common.{Option, Some, None, option_map, Bool, true, false, refl, sym, ap, subst, ⊎_elim, ◌∙◌, ◌==◌, if◌then◌else◌, arith}
-use Rattle.std.proofs.Math.Nat.{div-one}
-use Rattle.std.proofs.lemmas.Bool.{cases_lt}
+use Rattle.art_rows.proofs.Common.{◌≡◌, ℕ, zero, suc, ◌+◌, ◌*◌, ◌/◌, ◌%◌, ◌^◌, ◌<◌, ◌≤◌, List, [], ◌∷◌, length, slice_index, option_map, Bool, true}
+use Rattle.art_rows.proofs.Common.{false, refl, sym, ap, subst, ⊎_elim, ◌∙◌, arith, div-one, cases_lt, get_or_past, shr-shr, Kind, low_bytes}
+use Rattle.art_rows.proofs.Common.{key_bytes, kind_code, info_of, first_difference}
+use Rattle.std.proofs.Common.{Option, Some, None, ◌==◌, if◌then◌else◌}
 use Rattle.std.proofs.lemmas.Bool.Decides.{nat_tests}
-use Rattle.std.proofs.lemmas.List.{get_or_past}
-use Rattle.std.proofs.lemmas.Nat.{shr-shr}
-use Rattle.art_rows.specs.declared.table.Kind.{Kind}
-use Rattle.art_rows.specs.Words.{low_bytes, key_bytes, kind_code, info_of, first_difference}
 use Rattle.art_rows.proofs.WriterLemmas.{length-low_bytes}
 
 -- a byte of a word, by a shift

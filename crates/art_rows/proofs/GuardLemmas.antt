@@ -1,41 +1,23 @@
 -- Each procedure keeps and delays, and so each recursive one is its own body.
-use Rattle.std.proofs.Common.{◌≡◌, ℕ, suc, ◌-◌, ◌*◌, ◌/◌, ◌%◌, List, [], ◌∷◌, ◌++◌, refl}
-use Rattle.std.specs.Prelude.{if◌then◌else◌, ◌==◌, nat_lt, nat_le, slice_index, Option, Some, None, filter}
-use Rattle.events.specs.declared.event.Call.{Call}
-use Rattle.events.specs.declared.event.Call.TheVariants.{Get, Insert, Remove, Scan, Replace}
-use Rattle.events.specs.declared.event.Reply.{Reply}
+use Rattle.art_rows.proofs.Common.{◌≡◌, ℕ, suc, ◌-◌, ◌*◌, ◌/◌, ◌%◌, List, [], ◌∷◌, ◌++◌, refl, if◌then◌else◌, ◌==◌, nat_lt, nat_le, Option, Some}
+use Rattle.art_rows.proofs.Common.{None, filter, Call, Get, Insert, Remove, Scan, Replace, Reply, Shape, Kind, Four, Sixteen, FortyEight, Full}
+use Rattle.art_rows.proofs.Common.{rows_of, index_at, child_at, Child, Empty, Leaf, is_locked, is_obsolete, locked_word, place_of, entries_of}
+use Rattle.art_rows.proofs.Common.{child_of, Variant, procedure, act, Answers, from_start, Rest, Part, ◌>>=◌, ◌>>◌, give, start_again, answer, load}
+use Rattle.art_rows.proofs.Common.{store, exchange, numbers, numbers_down, Setting, Row, Place, is_insert, locks, key_of, leaves_out_check}
+use Rattle.art_rows.proofs.Common.{takes_unchecked, releases_early, lock_point, lock_again, lock, unlock, unlock_obsolete, unlock_all, wait, check}
+use Rattle.art_rows.proofs.Common.{check_of, take_row, Found, Has, Lacks, load_child, find_child, find_among, find_indexed, find_in, find, is_full}
+use Rattle.art_rows.proofs.Common.{claim, row_of, path_differs_at, overwriting, Under, pair, pair_in, copy_child, make_room, put_in, put, store_index}
+use Rattle.art_rows.proofs.Common.{spread_entry, spread_index, fill, grow, insert_in, insert_beside, keys_differ_at, Walked, enter, walk_child}
+use Rattle.art_rows.proofs.Common.{walk_slot, walk_place, walk_keys, walk_entry, walk_index, walk_in, walk_bytes, At, walk_from, bytes_of, scan}
+use Rattle.std.specs.Prelude.{slice_index}
+use Rattle.art_rows.specs.declared.table.Child.TheVariants.{Row as ChildRow}
+use Rattle.art_rows.proofs.RecursionLemmas.{Keeps, Delays, Delays-keeps, Delays-more, recursive-body, recursive-keeps, more_guarded, recursive-delays}
+use Rattle.art_rows.proofs.RecursionLemmas.{give-keeps, again-keeps, bind-keeps, bind-delays, then-keeps, if-keeps, if-delays, load-delays}
+use Rattle.art_rows.proofs.RecursionLemmas.{load_at-delays, exchange-delays, add-delays, store-delays, store_at-delays, first_at-delays, each-keeps}
+use Rattle.art_rows.proofs.RecursionLemmas.{over-keeps, repeat-delays, repeat-body}
 use Rattle.events.specs.declared.event.Reply.TheVariants as reply
-use Rattle.art_rows.specs.declared.table.Shape.{Shape}
-use Rattle.art_rows.specs.declared.table.Kind.{Kind}
-use Rattle.art_rows.specs.declared.table.Kind.TheVariants.{Four, Sixteen, FortyEight, Full}
-use Rattle.art_rows.specs.Table.{rows_of, index_at, child_at}
-use Rattle.art_rows.specs.declared.table.Child.{Child}
-use Rattle.art_rows.specs.declared.table.Child.TheVariants.{Empty, Row as ChildRow, Leaf}
-use Rattle.art_rows.specs.Words.{is_locked, is_obsolete, locked_word, place_of, entries_of, child_of}
-use Rattle.art_rows.specs.declared.variant.Variant.{Variant}
-use Rattle.art_rows.specs.Act.{procedure, act}
-use Rattle.art_rows.specs.Steps.{Answers, from_start, Rest, Part, ◌>>=◌, ◌>>◌, give, start_again, answer, load, store, exchange, numbers}
-use Rattle.art_rows.specs.Steps.{numbers_down}
-use Rattle.art_rows.specs.Rows.{Setting, Row, Place, is_insert, locks, key_of, leaves_out_check, takes_unchecked, releases_early}
-use Rattle.art_rows.specs.Rows.{lock_point, lock_again, lock}
-use Rattle.art_rows.specs.Rows.{unlock, unlock_obsolete, unlock_all, wait, check, check_of, take_row, Found, Has, Lacks, load_child}
-use Rattle.art_rows.specs.Rows.{find_child, find_among}
-use Rattle.art_rows.specs.Rows.{find_indexed, find_in, find, is_full, claim, row_of, path_differs_at}
-use Rattle.art_rows.specs.Updates.{overwriting, Under, pair, pair_in, copy_child, make_room, put_in, put, store_index, spread_entry}
-use Rattle.art_rows.specs.Updates.{spread_index, fill, grow}
-use Rattle.art_rows.specs.Updates.{insert_in, insert_beside, keys_differ_at}
 use Rattle.art_rows.specs.Coupled as coupled
 use Rattle.art_rows.specs.Optimistic as optimistic
-use Rattle.art_rows.specs.Scan.{Walked, enter, walk_child, walk_slot, walk_place, walk_keys, walk_entry, walk_index, walk_in, walk_bytes}
-use Rattle.art_rows.specs.Scan.{At, walk_from}
-use Rattle.art_rows.specs.Scan.{bytes_of, scan}
-use Rattle.art_rows.proofs.RecursionLemmas.{Keeps, Delays, Delays-keeps, Delays-more, recursive-body, recursive-keeps, more_guarded}
-use Rattle.art_rows.proofs.RecursionLemmas.{recursive-delays}
-use Rattle.art_rows.proofs.RecursionLemmas.{give-keeps, again-keeps, bind-keeps, bind-delays, then-keeps, if-keeps, if-delays, load-delays}
-use Rattle.art_rows.proofs.RecursionLemmas.{load_at-delays}
-use Rattle.art_rows.proofs.RecursionLemmas.{exchange-delays, add-delays, store-delays, store_at-delays, first_at-delays, each-keeps}
-use Rattle.art_rows.proofs.RecursionLemmas.{over-keeps, repeat-delays}
-use Rattle.art_rows.proofs.RecursionLemmas.{repeat-body}
 
 pub answer-keeps : {A : Type 0} (n : ℕ) (r : Reply) → Keeps {A = A} n (answer r) (answer r)
 answer-keeps n r = record { rest = λ again again' after after' sa sb. record { at = λ got h. refl } }

@@ -1,11 +1,7 @@
 -- Numbers of the kinds of rows: how many words a row has, where its children begin, which word counts its claims; the kind at a base.
-use Rattle.std.proofs.Common.{◌≡◌, ℕ, ◌<◌, ◌≤◌, Bool, true, false, Option, Some, if◌then◌else◌, refl, sym, ap, ◌∙◌, arith}
-use Rattle.std.proofs.lemmas.Option.{none-some, same_Some}
-use Rattle.art_rows.specs.declared.table.Shape.{Shape}
-use Rattle.art_rows.specs.declared.table.Kind.{Kind}
-use Rattle.art_rows.specs.declared.table.Kind.TheVariants.{Four, Sixteen, FortyEight, Full}
-use Rattle.art_rows.specs.Table.{row_words, claims_of, first_child, is_base_of, kind_at}
-use Rattle.art_rows.specs.Words.{kind_code}
+use Rattle.art_rows.proofs.Common.{◌≡◌, ℕ, ◌<◌, ◌≤◌, Bool, true, false, refl, sym, ap, ◌∙◌, arith, none-some, same_Some, Shape, Kind, Four, Sixteen}
+use Rattle.art_rows.proofs.Common.{FortyEight, Full, row_words, claims_of, first_child, is_base_of, kind_at, kind_code}
+use Rattle.std.proofs.Common.{Option, Some, if◌then◌else◌}
 
 pub some-words : (kind : Kind) → 0 < row_words kind
 some-words Four = omega arith

@@ -1,3 +1,4 @@
+mod Common
 pub mod ReaderLemmas
 pub mod WriterLemmas
 pub mod KindLemmas

@@ -1,8 +1,7 @@
 -- The places of bytes in a word.
-use Rattle.std.proofs.Common.{◌≡◌, ℕ, zero, suc, ◌+◌, ◌-◌, ◌/◌, ◌%◌, List, [], ◌∷◌, ◌++◌, length, take, ◌≤◌, refl, ap, ◌∙◌, Bool, true}
-use Rattle.std.proofs.Common.{false, arith}
-use Rattle.std.specs.Prelude.{◌==◌, nat_le, if◌then◌else◌, Option, Some, None, option_map}
-use Rattle.art_rows.specs.Words.{low_bytes, place_of, count_of, keys16_of}
+use Rattle.art_rows.proofs.Common.{◌≡◌, ℕ, zero, suc, ◌+◌, ◌-◌, ◌/◌, ◌%◌, List, [], ◌∷◌, ◌++◌, length, take, ◌≤◌, refl, ap, ◌∙◌, Bool, true, false}
+use Rattle.art_rows.proofs.Common.{arith, ◌==◌, nat_le, if◌then◌else◌, Option, Some, None, low_bytes, place_of, count_of, keys16_of}
+use Rattle.std.specs.Prelude.{option_map}
 
 pub place_nowhere : (x n w : ℕ) → n ≡ 0 → place_of x (low_bytes n w) ≡ None
 place_nowhere x zero w h = refl

@@ -1,11 +1,8 @@
 -- A recursive part is its own body: the lists of words got are long enough for the calls that it
 -- makes of itself.
-use Rattle.std.proofs.Common.{◌≡◌, ℕ, zero, suc, ◌<◌, ◌≤◌, List, [], ◌∷◌, length, refl, ap, arith, Bool, true, false}
-use Rattle.std.specs.Prelude.{if◌then◌else◌, Option}
-use Rattle.art_rows.specs.declared.access.Access.{Access}
-use Rattle.art_rows.specs.declared.access.Point.{Point}
-use Rattle.art_rows.specs.Steps.{Rest, Part, ◌>>=◌, ◌>>◌, give, start_again, access, load, load_at, store, store_at, exchange, add, marked}
-use Rattle.art_rows.specs.Steps.{first_at, calls_of, recursive, repeat, each, over}
+use Rattle.art_rows.proofs.Common.{◌≡◌, ℕ, zero, suc, ◌<◌, ◌≤◌, List, [], ◌∷◌, length, refl, ap, arith, Bool, true, false, if◌then◌else◌, Option}
+use Rattle.art_rows.proofs.Common.{Access, Point, Rest, Part, ◌>>=◌, ◌>>◌, give, start_again, access, load, load_at, store, store_at, exchange, add}
+use Rattle.art_rows.proofs.Common.{marked, first_at, calls_of, recursive, repeat, each, over}
 
 -- two rests agree on all lists shorter than n
 pub record Same (n : ℕ) (r r' : Rest) : Type 0 where

@@ -1,24 +1,12 @@
 -- Every access is in the table, whatever words were got.
-use Rattle.std.proofs.Common.{◌≡◌, ℕ, zero, suc, ◌+◌, ◌-◌, ◌/◌, ◌%◌, ◌<◌, ◌≤◌, List, [], ◌∷◌, length, refl, ap, subst, arith, Bool, true}
-use Rattle.std.proofs.Common.{false}
-use Rattle.std.specs.Prelude.{min, ◌==◌, Option, Some, None, if◌then◌else◌}
-use Rattle.events.specs.declared.event.Reply.{Reply}
+use Rattle.art_rows.proofs.Common.{◌≡◌, ℕ, zero, suc, ◌+◌, ◌-◌, ◌/◌, ◌%◌, ◌<◌, ◌≤◌, List, [], ◌∷◌, length, refl, ap, subst, arith, Bool, true, false}
+use Rattle.art_rows.proofs.Common.{min, ◌==◌, Option, Some, None, if◌then◌else◌, Reply, pair_limit, Shape, Kind, Four, Sixteen, FortyEight, Full}
+use Rattle.art_rows.proofs.Common.{Child, Empty, Leaf, row_words, rows_of, table_words, base_of, is_base_of, kind_at, child_of, row_child, Access}
+use Rattle.art_rows.proofs.Common.{Point, Turn, Asks, Answers, Rest, Part, ◌>>=◌, ◌>>◌, give, start_again, answer, access, load, load_at, store}
+use Rattle.art_rows.proofs.Common.{store_at, exchange, add, marked, first_at, calls_of, recursive, repeat, each, over, numbers, numbers_down, word_of}
 use Rattle.events.specs.Histories.{pair_count}
-use Rattle.events.specs.Limits.{pair_limit}
-use Rattle.art_rows.specs.declared.table.Shape.{Shape}
-use Rattle.art_rows.specs.declared.table.Kind.{Kind}
-use Rattle.art_rows.specs.declared.table.Kind.TheVariants.{Four, Sixteen, FortyEight, Full}
-use Rattle.art_rows.specs.declared.table.Child.{Child}
-use Rattle.art_rows.specs.declared.table.Child.TheVariants.{Empty, Row as ChildRow, Leaf}
-use Rattle.art_rows.specs.Table.{row_words, rows_of, table_words, base_of, is_base_of, kind_at}
-use Rattle.art_rows.specs.Words.{child_of, row_child}
+use Rattle.art_rows.specs.declared.table.Child.TheVariants.{Row as ChildRow}
 use Rattle.art_rows.proofs.KindLemmas.{kind_at-is_base}
-use Rattle.art_rows.specs.declared.access.Access.{Access}
-use Rattle.art_rows.specs.declared.access.Point.{Point}
-use Rattle.art_rows.specs.Steps.{Turn, Asks, Answers, Rest, Part, ◌>>=◌, ◌>>◌, give, start_again, answer, access, load, load_at, store}
-use Rattle.art_rows.specs.Steps.{store_at, exchange}
-use Rattle.art_rows.specs.Steps.{add, marked, first_at, calls_of, recursive, repeat, each, over, numbers, numbers_down}
-use Rattle.art_rows.specs.Fits.{word_of}
 use Rattle.art_rows.proofs.TurnLemmas.{asks-answers, answers-asks, asks-same, answers-same}
 
 -- a word of the table that is not the clock

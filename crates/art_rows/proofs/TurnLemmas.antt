@@ -1,12 +1,7 @@
 -- What one turn of a call says of another that is the same: which access it asks for, and whether it asks at all.
-use Rattle.std.specs.Prelude.{◌≡◌, ℕ, Option, Some}
-use Rattle.std.proofs.Common.{ap}
-use Rattle.std.proofs.lemmas.Option.{none-some, same_Some}
-use Rattle.events.specs.declared.event.Reply.{Reply}
-use Rattle.art_rows.specs.declared.access.Access.{Access}
+use Rattle.art_rows.proofs.Common.{Option, Some, ap, none-some, same_Some, Reply, Access, Point, Turn, Asks, Answers, access_of, reply_of}
+use Rattle.std.specs.Prelude.{◌≡◌, ℕ}
 use Rattle.art_rows.specs.declared.access.Access.TheVariants.{Load, Store, Exchange, Add}
-use Rattle.art_rows.specs.declared.access.Point.{Point}
-use Rattle.art_rows.specs.Steps.{Turn, Asks, Answers, access_of, reply_of}
 
 pub asks-answers : {a : Access} {m : Option Point} {r : Reply} → Asks a m ≡ Answers r → ⊥
 asks-answers e = cc

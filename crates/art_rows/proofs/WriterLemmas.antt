@@ -1,14 +1,8 @@
 -- Words with a byte put in.
-use Rattle.std.proofs.Common.{◌≡◌, ℕ, zero, suc, ◌+◌, ◌-◌, ◌*◌, ◌/◌, ◌%◌, ◌^◌, ◌<◌, ◌≤◌, List, [], ◌∷◌, ◌++◌, length, take, drop, map, set}
-use Rattle.std.proofs.Common.{refl, ap, sym}
-use Rattle.std.proofs.Common.{subst, ◌∙◌, ⊎_elim, Bool, true, false, arith}
-use Rattle.std.specs.Prelude.{min, nat_le, nat_lt, if◌then◌else◌}
-use Rattle.std.proofs.Math.Nat.{pow-suc, pow-le-pow_right}
-use Rattle.std.proofs.lemmas.Nat.{div_below}
-use Rattle.std.proofs.lemmas.Bool.{cases_lt, lt-ltb, le-ltb, le-leb, leb-true}
-use Rattle.std.proofs.lemmas.List.{append-nil, length-take}
-use Rattle.art_rows.specs.Words.{packed, low_bytes, new_place, with_key, count_of, entry_of, keys4_of, keys16_of, keys4_word, keys16_word}
-use Rattle.art_rows.specs.Words.{more_keys16_word}
+use Rattle.art_rows.proofs.Common.{◌≡◌, ℕ, zero, suc, ◌+◌, ◌-◌, ◌*◌, ◌/◌, ◌%◌, ◌^◌, ◌<◌, ◌≤◌, List, [], ◌∷◌, ◌++◌, length, take, drop, map, set, refl}
+use Rattle.art_rows.proofs.Common.{ap, sym, subst, ◌∙◌, ⊎_elim, Bool, true, false, arith, min, nat_le, nat_lt, if◌then◌else◌, pow-suc}
+use Rattle.art_rows.proofs.Common.{pow-le-pow_right, div_below, cases_lt, lt-ltb, le-ltb, le-leb, leb-true, append-nil, length-take, packed}
+use Rattle.art_rows.proofs.Common.{low_bytes, new_place, with_key, count_of, entry_of, keys4_of, keys16_of, keys4_word, keys16_word, more_keys16_word}
 use Rattle.art_rows.proofs.ReaderLemmas.{bytes_of, take_bytes, most_of}
 
 -- One byte more.

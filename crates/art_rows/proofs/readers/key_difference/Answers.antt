@@ -1,5 +1,4 @@
-use Rattle.std.proofs.Common.{◌∙◌, sym, arith}
-use Rattle.art_rows.specs.Words.{key_bytes}
+use Rattle.art_rows.proofs.Common.{◌∙◌, sym, arith, key_bytes}
 use Rattle.art_rows.proofs.BytePlaces.{same_more}
 use Rattle.art_rows.proofs.readers.key_difference.Goals as goal
 

@@ -1,5 +1,4 @@
-use Rattle.std.proofs.Common.{◌/◌, ◌∙◌, sym, ap, arith}
-use Rattle.art_rows.specs.Words.{place_of}
+use Rattle.art_rows.proofs.Common.{◌/◌, ◌∙◌, sym, ap, arith, place_of}
 use Rattle.art_rows.proofs.WriterLemmas.{keys4_from}
 use Rattle.art_rows.proofs.readers.key_place.Goals as goal
 

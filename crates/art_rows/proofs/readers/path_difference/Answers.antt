@@ -1,5 +1,4 @@
-use Rattle.std.proofs.Common.{sym, arith}
-use Rattle.art_rows.specs.Words.{info_of, key_bytes}
+use Rattle.art_rows.proofs.Common.{sym, arith, info_of, key_bytes}
 use Rattle.art_rows.proofs.BytePlaces.{length-path, difference_at, difference_none}
 use Rattle.art_rows.proofs.readers.path_difference.Goals as goal
 

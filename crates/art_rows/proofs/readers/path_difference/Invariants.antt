@@ -1,5 +1,4 @@
-use Rattle.std.proofs.Common.{◌≡◌, ℕ, ◌<◌, slice_index}
-use Rattle.art_rows.specs.Words.{info_of, key_bytes}
+use Rattle.art_rows.proofs.Common.{◌≡◌, ℕ, ◌<◌, slice_index, info_of, key_bytes}
 use Rattle.art_rows.proofs.readers.path_difference.Given as goal
 
 -- the bytes that were compared are the same

@@ -1,6 +1,5 @@
-use Rattle.std.proofs.Common.{ℕ, ◌+◌, ◌-◌, ◌*◌, ap, ◌∙◌, arith}
+use Rattle.art_rows.proofs.Common.{ℕ, ◌+◌, ◌-◌, ◌*◌, ap, ◌∙◌, arith, packed, low_bytes}
 use Rattle.art_rows.proofs.WriterLemmas.{byte_fits, second_few, second_many, second_put, second_kept, put_in}
-use Rattle.art_rows.specs.Words.{packed, low_bytes}
 use Rattle.art_rows.proofs.writers.more_keys16_with.Goals as goal
 
 pub overflow_mul-result : goal.overflow_mul-result
