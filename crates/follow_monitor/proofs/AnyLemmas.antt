@@ -1,7 +1,7 @@
 -- Some item of a list, and what loops collect.
-use Rattle.follow_monitor.proofs.Common.{◌≡◌, ℕ, ◌+◌, ◌<◌, ◌≤◌, List, [], ◌∷◌, ◌++◌, length, get_or, take, map, sym, ap, ◌∙◌, subst, inl, inr, ⊎_elim, ◌⊎◌}
-use Rattle.follow_monitor.proofs.Common.{◌↔◌, Any, Contains, get_or_default, take_all, take_more, Contains-append_left, Contains-push, Contains-push_cases}
-use Rattle.follow_monitor.proofs.Common.{Contains-nil, Contains-from_map, Contains-map, AreAdded, AreAddedOf}
+use Rattle.follow_monitor.proofs.Common.{◌≡◌, ℕ, ◌+◌, ◌<◌, ◌≤◌, List, [], ◌∷◌, ◌++◌, length, get_or, take, map, sym, ap, ◌∙◌, subst, inl, inr, ⊎_elim}
+use Rattle.follow_monitor.proofs.Common.{◌⊎◌, ◌↔◌, Any, Contains, get_or_default, take_all, take_more, Contains-append_left, Contains-push}
+use Rattle.follow_monitor.proofs.Common.{Contains-push_cases, Contains-nil, Contains-from_map, Contains-map, AreAdded, AreAddedOf}
 
 -- some item, by an item that is in the list
 pub any_in : {X : Type 0} (P : X → Type 0) (xs : List X) → Any P xs → (x : X) × Contains xs x × P x

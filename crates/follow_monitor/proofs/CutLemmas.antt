@@ -1,24 +1,14 @@
 -- An order of the calls of a whole, cut to the calls of its first events.
 use Rattle.events.specs.declared.event.Reply.TheVariants as replies
-use Rattle.std.proofs.Common.{◌≡◌, ℕ, ◌<◌, ◌≤◌, Bool, true, false, cond, List, [], ◌∷◌, length, Option, Some, None, refl, sym, ap, ◌∙◌}
-use Rattle.std.proofs.Common.{subst, ⊎_elim, inr, IsTrue, arith}
-use Rattle.std.specs.Prelude.{◌≢◌, ◌⊎◌, slice_get, is_some, IsSomeAnd, All, AllPairs, Contains}
-use Rattle.std.proofs.lemmas.Bool.{lt-ltb, false≢true}
-use Rattle.std.proofs.lemmas.Option.{none-some, slice_get_within}
-use Rattle.std.proofs.lemmas.List.Kept.{AllPairs-cons}
-use Rattle.std.proofs.lemmas.List.Elements.{All-nil, All-cons, All-head, All-tail, All-contains}
-use Rattle.events.specs.declared.event.Call.{Call}
-use Rattle.events.specs.declared.event.Reply.{Reply}
-use Rattle.events.specs.declared.operation.Operation.{Operation}
-use Rattle.events.specs.declared.operation.Response.{Response}
-use Rattle.events.specs.Precedence.{is_completed, is_before, precedes}
-use Rattle.map_object.specs.MapObject.{Contents, after, after_reply}
-use Rattle.orders.specs.Orders.{after_call, IsLegalCall, IsLegal, calls_at, KeepsPrecedence, IsCompletedAt, IsOrder}
-use Rattle.events.proofs.Lists.{AllPairs-nil, AllPairs-head, AllPairs-tail, Contains-first, Contains-later, Contains-nil, Contains-cases}
-use Rattle.events.proofs.Lists.{All-from_contains}
-use Rattle.events.proofs.NumberLemmas.{slice_get-below, some_at}
-use Rattle.events.proofs.FilterLemmas.{AreRelatedAs, AllPairs-from_filter_map, AllPairs-filter_map, AllPairs-weaker}
-use Rattle.events.proofs.ExtensionLemmas.{IsExtendedResponse, IsExtended}
+use Rattle.follow_monitor.proofs.Common.{◌≡◌, ℕ, ◌<◌, ◌≤◌, Bool, true, false, cond, List, [], ◌∷◌, length, Option, Some, None, refl, sym, ap, ◌∙◌}
+use Rattle.follow_monitor.proofs.Common.{subst, ⊎_elim, inr, IsTrue, arith, ◌⊎◌, slice_get, IsSomeAnd, All, AllPairs, Contains, lt-ltb, false≢true}
+use Rattle.follow_monitor.proofs.Common.{none-some, slice_get_within, AllPairs-cons, All-nil, All-cons, All-head, All-tail, All-contains, Call, Reply}
+use Rattle.follow_monitor.proofs.Common.{Operation, Response, is_completed, is_before, precedes, Contents, after, after_reply, after_call}
+use Rattle.follow_monitor.proofs.Common.{IsLegalCall, IsLegal, calls_at, KeepsPrecedence, IsCompletedAt, IsOrder, AllPairs-nil, AllPairs-head}
+use Rattle.follow_monitor.proofs.Common.{AllPairs-tail, Contains-first, Contains-later, Contains-nil, Contains-cases, All-from_contains}
+use Rattle.follow_monitor.proofs.Common.{slice_get-below, some_at, AreRelatedAs, AllPairs-from_filter_map, AllPairs-filter_map, AllPairs-weaker}
+use Rattle.follow_monitor.proofs.Common.{IsExtendedResponse, IsExtended}
+use Rattle.std.specs.Prelude.{◌≢◌, is_some}
 
 -- whether a reply is `refused`
 abbrev pub is_refused : Reply → Bool

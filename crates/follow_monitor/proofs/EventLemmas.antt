@@ -1,21 +1,11 @@
 -- Each response is that of one call, and there are at most as many as invocations.
-use Rattle.std.proofs.Common.{◌≡◌, ℕ, zero, suc, ◌+◌, ◌*◌, ◌≤◌, Bool, true, false, not, ◌&&◌, ◌||◌, cond, ◌==◌, List, [], ◌∷◌, length, Some}
-use Rattle.std.proofs.Common.{refl, sym}
-use Rattle.std.proofs.Common.{ap, subst, inl, inr, ⊎_elim, arith, eqb-true, eq-eqb, ◌++◌, ◌∙◌}
-use Rattle.std.specs.Prelude.{◌⊎◌, slice_get, IsSomeAnd, Contains}
+use Rattle.follow_monitor.proofs.Common.{◌≡◌, ℕ, zero, suc, ◌+◌, ◌*◌, ◌≤◌, Bool, true, false, not, ◌&&◌, ◌||◌, cond, ◌==◌, List, [], ◌∷◌, length}
+use Rattle.follow_monitor.proofs.Common.{Some, refl, sym, ap, subst, inl, inr, ⊎_elim, arith, ◌++◌, ◌∙◌, ◌⊎◌, slice_get, IsSomeAnd, Contains}
+use Rattle.follow_monitor.proofs.Common.{false≢true, or_cases, and_parts, none-some, sum_by-cons, length-append, Event, Call, Invoke, Answer, Reply}
+use Rattle.follow_monitor.proofs.Common.{is_invocation, events_of, events_alternate, IsWellFormed, call_count, response_from, operations_from}
+use Rattle.follow_monitor.proofs.Common.{Contains-first, Contains-later, Contains-split, Contains-around}
+use Rattle.std.proofs.Common.{eqb-true, eq-eqb}
 use Rattle.std.proofs.Math.Nat.{zero-add}
-use Rattle.std.proofs.lemmas.Bool.{false≢true, or_cases, and_parts}
-use Rattle.std.proofs.lemmas.Option.{none-some}
-use Rattle.std.proofs.lemmas.List.Sums.{sum_by-cons}
-use Rattle.std.proofs.lemmas.List.{length-append}
-use Rattle.events.specs.declared.event.Event.{Event}
-use Rattle.events.specs.declared.event.Call.{Call}
-use Rattle.events.specs.declared.event.Event.TheVariants.{Invoke, Answer}
-use Rattle.events.specs.declared.event.Reply.{Reply}
-use Rattle.events.specs.Events.{is_invocation, events_of, events_alternate, IsWellFormed}
-use Rattle.events.specs.Histories.{call_count}
-use Rattle.events.specs.Operations.{response_from, operations_from}
-use Rattle.events.proofs.Lists.{Contains-first, Contains-later, Contains-split, Contains-around}
 
 -- a call of a list that starts at a place is answered at this place
 abbrev IsAnsweredAt : ℕ → List Event → ℕ → Type 0

@@ -1,9 +1,9 @@
 -- A monitor goes on after an event.
-use Rattle.follow_monitor.proofs.Common.{◌≡◌, ◌≢◌, ℕ, ◌+◌, ◌-◌, ◌^◌, ◌<◌, ◌≤◌, ◌==◌, ◌++◌, ◌∷◌, [], List, Some, None, true, cond, refl, sym, ap, ◌∙◌, subst}
-use Rattle.follow_monitor.proofs.Common.{arith, All, false≢true, length_push, Call, Event, Invoke, Answer, Reply, Operation, IsWellFormed, has_open_call}
-use Rattle.follow_monitor.proofs.Common.{low_key, high_key, operations, IsWellFormed-push, Put, Contents, InvocationsKeepOrders, operations-invoke, GoesOn}
-use Rattle.follow_monitor.proofs.Common.{KeptPartsDecide, begun, is_reported, IsCounted, IsStateOf, PartsView, kept_parts, MonitorView, known_call}
-use Rattle.follow_monitor.proofs.Common.{IsFollowing, AreRecentPuts, OpenCall}
+use Rattle.follow_monitor.proofs.Common.{◌≡◌, ◌≢◌, ℕ, ◌+◌, ◌-◌, ◌^◌, ◌<◌, ◌≤◌, ◌==◌, ◌++◌, ◌∷◌, [], List, Some, None, true, cond, refl, sym, ap, ◌∙◌}
+use Rattle.follow_monitor.proofs.Common.{subst, arith, All, false≢true, length_push, Call, Event, Invoke, Answer, Reply, Operation, IsWellFormed}
+use Rattle.follow_monitor.proofs.Common.{has_open_call, low_key, high_key, operations, IsWellFormed-push, Put, Contents, InvocationsKeepOrders}
+use Rattle.follow_monitor.proofs.Common.{operations-invoke, GoesOn, KeptPartsDecide, begun, is_reported, IsCounted, IsStateOf, PartsView, kept_parts}
+use Rattle.follow_monitor.proofs.Common.{MonitorView, known_call, IsFollowing, AreRecentPuts, OpenCall}
 use Rattle.follow_monitor.proofs.CallLemmas.{well_formed_on}
 use Rattle.follow_monitor.proofs.FaultLemmas.{waits, idles}
 use Rattle.follow_monitor.proofs.JudgeLemmas.{AreAround, around, is_call}

@@ -1,14 +1,13 @@
 -- The answer of an open call: it is the answer of the call's number, and if there is no order with it, the events go wrong there.
-use Rattle.follow_monitor.proofs.Common.{◌≡◌, ◌≢◌, ℕ, ◌+◌, ◌<◌, ◌≤◌, List, [], ◌∷◌, ◌++◌, length, map, take, Option, Some, None, refl, sym, ap, ◌∙◌, subst}
-use Rattle.follow_monitor.proofs.Common.{arith, All, AllPairs, Any, Contains, slice_get, IsSomeAnd, option_map, eq-eqb, ne_eqb, length_push, take_at}
-use Rattle.follow_monitor.proofs.Common.{All-contains, All-head, All-weaker, slice_get-map, Call, Get, Insert, Remove, Scan, Replace, Event, Answer, Reply}
-use Rattle.follow_monitor.proofs.Common.{Operation, Response, low_key, high_key, operations, inv_rises, AllPairs-across, AllPairs-back, AllPairs-head}
-use Rattle.follow_monitor.proofs.Common.{Contains-split, Contains-map, Contents, IsRising, IsLinearizable, IsAnswerOf, GoesWrongAt, PrefixesHaveOrders}
-use Rattle.follow_monitor.proofs.Common.{answered_at, completed_at, HasForm, OrdersAreKeyedOrders, KeptPart, GoesOn, KeptPartsDecide, KeptPast, IsDead}
-use Rattle.follow_monitor.proofs.Common.{covered, begun, is_reported, reported, IsKeptBeside, pasts_of, EndedPart, MayReply, event_limit, answer_fault}
-use Rattle.follow_monitor.proofs.Common.{MonitorView, known_call, IsCallOf, IsFollowing, OpenCall}
+use Rattle.follow_monitor.proofs.Common.{◌≡◌, ◌≢◌, ℕ, ◌+◌, ◌<◌, ◌≤◌, List, [], ◌∷◌, ◌++◌, length, map, take, Option, Some, None, refl, sym, ap, ◌∙◌}
+use Rattle.follow_monitor.proofs.Common.{subst, arith, All, AllPairs, Any, Contains, slice_get, IsSomeAnd, option_map, eq-eqb, ne_eqb, length_push}
+use Rattle.follow_monitor.proofs.Common.{take_at, All-contains, All-head, All-weaker, slice_get-map, Call, Get, Insert, Remove, Scan, Replace, Event}
+use Rattle.follow_monitor.proofs.Common.{Answer, Reply, Operation, Response, low_key, high_key, operations, inv_rises, AllPairs-across, AllPairs-back}
+use Rattle.follow_monitor.proofs.Common.{AllPairs-head, Contains-split, Contains-map, Contents, IsRising, IsLinearizable, IsAnswerOf, GoesWrongAt}
+use Rattle.follow_monitor.proofs.Common.{PrefixesHaveOrders, answered_at, completed_at, HasForm, OrdersAreKeyedOrders, KeptPart, GoesOn}
+use Rattle.follow_monitor.proofs.Common.{KeptPartsDecide, KeptPast, IsDead, covered, begun, is_reported, reported, IsKeptBeside, pasts_of, EndedPart}
+use Rattle.follow_monitor.proofs.Common.{MayReply, event_limit, answer_fault, MonitorView, known_call, IsCallOf, IsFollowing, OpenCall, map_fixed}
 use Rattle.std.proofs.Common.{append_assoc}
-use Rattle.std.proofs.lemmas.List.Folds.{map_fixed}
 use mathlib.Core.List.{map-append}
 use Rattle.follow_monitor.proofs.CallLemmas.{open_call, answered_calls, with_answer}
 use Rattle.follow_monitor.proofs.FaultLemmas.{waits, fine_answer}

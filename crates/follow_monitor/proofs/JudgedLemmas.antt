@@ -1,17 +1,13 @@
 -- What the parts make of an answer, for the events.
-use Rattle.follow_monitor.proofs.Common.{◌≡◌, ℕ, suc, ◌<◌, ◌==◌, true, false, List, [], ◌∷◌, ◌++◌, length, map, Some, None, cond, refl, sym, ap, ◌∙◌, subst}
-use Rattle.follow_monitor.proofs.Common.{⊎_elim, All, AllZip, All-head, Event, Answer, Reply, Call, Operation, Response, may_change, operations}
-use Rattle.follow_monitor.proofs.Common.{OrdersAreKeyedOrders, answered, KeptPast, IsWithRead, GoesOn, KeptPartsDecide, Put, Contents, IsLinearizable}
-use Rattle.follow_monitor.proofs.Common.{IsDead, AreDoubtful, covered, begun, is_reported, IsCounted, IsEndedBy, IsKeptBeside, IsStateOf, pasts_of}
-use Rattle.follow_monitor.proofs.Common.{response_at, PartsView, kept_parts, EndedPart, PrefixesHaveOrders, GoesWrongAt, IsAnswerOf, IsLostPart, IsPendingIn}
-use Rattle.follow_monitor.proofs.Common.{MayReply, event_limit, IsFollowing, IsLossAt, MonitorView, known_call, AreAllPuts, put_limit, AreRecentPuts}
-use Rattle.follow_monitor.proofs.Common.{ArePutsOf, BecomeWithAnswer, OpenCall}
+use Rattle.follow_monitor.proofs.Common.{◌≡◌, ℕ, suc, ◌<◌, ◌==◌, true, false, List, [], ◌∷◌, ◌++◌, length, map, Some, None, cond, refl, sym, ap, ◌∙◌}
+use Rattle.follow_monitor.proofs.Common.{subst, ⊎_elim, All, AllZip, All-head, Event, Answer, Reply, Call, Operation, Response, may_change}
+use Rattle.follow_monitor.proofs.Common.{operations, OrdersAreKeyedOrders, answered, KeptPast, IsWithRead, GoesOn, KeptPartsDecide, Put, Contents}
+use Rattle.follow_monitor.proofs.Common.{IsLinearizable, IsDead, AreDoubtful, covered, begun, is_reported, IsCounted, IsEndedBy, IsKeptBeside}
+use Rattle.follow_monitor.proofs.Common.{IsStateOf, pasts_of, response_at, PartsView, kept_parts, EndedPart, PrefixesHaveOrders, GoesWrongAt}
+use Rattle.follow_monitor.proofs.Common.{IsAnswerOf, IsLostPart, IsPendingIn, MayReply, event_limit, IsFollowing, IsLossAt, MonitorView, known_call}
+use Rattle.follow_monitor.proofs.Common.{AreAllPuts, put_limit, AreRecentPuts, ArePutsOf, BecomeWithAnswer, OpenCall, HasPasts, IsReached}
+use Rattle.follow_monitor.proofs.Common.{KeptPastsAreReached, Violation, kept_of, Past, IsKeptWith, IsLost, IsOfAnswer, IsSpent}
 use Rattle.std.specs.Prelude.{◌≢◌}
-use Rattle.follow_part_laws.specs.Reached.{HasPasts, IsReached, KeptPastsAreReached}
-use Rattle.follow_monitor.specs.declared.loss.Violation.{Violation}
-use Rattle.follow_cuts.specs.PartCuts.{kept_of}
-use Rattle.follow_cuts.specs.declared.past.Past.{Past}
-use Rattle.follow_monitor.specs.Outcomes.{IsKeptWith, IsLost, IsOfAnswer, IsSpent}
 use Rattle.follow_monitor.proofs.CallLemmas.{well_formed_on}
 use Rattle.follow_monitor.proofs.FollowLemmas.{around_it, calls_then, state_before, answer_taken}
 use Rattle.follow_monitor.proofs.JudgeLemmas.{is_call, accepted, answers, none_with_part, none_without_form, goes_wrong}

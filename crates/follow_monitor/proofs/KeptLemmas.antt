@@ -1,7 +1,5 @@
 -- What a monitor keeps is what contracts see of it (`same_with`), also while its parts are taken out.
-use Rattle.follow_monitor.proofs.Common.{◌≡◌, Option, Some, sym, ap, ◌∙◌, PartsView, MonitorView}
-use Rattle.follow_monitor.specs.MonitorView.{parts_of}
-use Rattle.follow_monitor.specs.declared.monitor.Kept.{Kept}
+use Rattle.follow_monitor.proofs.Common.{◌≡◌, Option, Some, sym, ap, ◌∙◌, PartsView, MonitorView, parts_of, Kept}
 
 -- what contracts see of it with these parts
 abbrev pub seen_with : PartsView → Kept → MonitorView

@@ -1,14 +1,9 @@
 -- What goes wrong on its own has no order: the only past of a part has only calls of the events, and is sorted.
-use Rattle.follow_monitor.proofs.Common.{◌≡◌, List, [], ◌∷◌, map, Some, subst, All, Contains, All-contains, All-head, none-some, same_Some, All-from_contains}
-use Rattle.follow_monitor.proofs.Common.{Operation, keyed, Keys, ArePasts, IsOwn, first_of, kept_of, Past, covered, pasts_of, IsOwnPartOf}
-use Rattle.follow_monitor.proofs.Common.{OwnPartsHaveNoOrder, Put}
+use Rattle.follow_monitor.proofs.Common.{◌≡◌, List, [], ◌∷◌, map, Some, subst, All, Contains, All-contains, All-head, none-some, same_Some}
+use Rattle.follow_monitor.proofs.Common.{All-from_contains, Operation, keyed, Keys, ArePasts, IsOwn, first_of, kept_of, Past, covered, pasts_of}
+use Rattle.follow_monitor.proofs.Common.{IsOwnPartOf, OwnPartsHaveNoOrder, Put, Event, operations, precedes, NonePrecedesItself-operations, IsDead}
 use Rattle.std.specs.Prelude.{false}
-use Rattle.events.specs.declared.event.Event.{Event}
-use Rattle.events.specs.Operations.{operations}
-use Rattle.events.specs.Precedence.{precedes}
-use Rattle.events.proofs.TimeLemmas.{NonePrecedesItself-operations}
 use Rattle.follow_key_laws.specs.Choices.{Choice}
-use Rattle.follow_pasts.specs.Pasts.{IsDead}
 use Rattle.follow_monitor.specs.OwnParts.{KeyCore, part_of, puts_but}
 
 -- one past that is kept, and dead

@@ -1,9 +1,9 @@
 -- What is said of the keys of pasts.
-use Rattle.follow_monitor.proofs.Common.{◌≡◌, ℕ, ◌+◌, ◌<◌, ◌≤◌, List, [], ◌∷◌, ◌++◌, length, get_or, take, map, Option, None, refl, sym, ap, ◌∙◌, subst}
-use Rattle.follow_monitor.proofs.Common.{inl, inr, ⊎_elim, ◌⊎◌, ◌↔◌, All, AllPairs, Any, Contains, map_push, take_more, All-push, All-weaker}
-use Rattle.follow_monitor.proofs.Common.{AllPairs-from_map, Contains-from_map, Contains-map, Call, Operation, low_key, high_key, Contents, value_at, FoundAt}
-use Rattle.follow_monitor.proofs.Common.{KeptPast, found_at, kept_of, Past, AreKeyLosses, HasKey, IsKeyLoss, IsNamed, IsOwnKey}
-use Rattle.follow_monitor.proofs.Common.{IsOriginIn, AreSpansOf, IsSpanAt, IsSpanIn, IsSpanOf, Names, span_of, KeyViolation, Origin, Put}
+use Rattle.follow_monitor.proofs.Common.{◌≡◌, ℕ, ◌+◌, ◌<◌, ◌≤◌, List, [], ◌∷◌, ◌++◌, length, get_or, take, map, Option, None, refl, sym, ap, ◌∙◌}
+use Rattle.follow_monitor.proofs.Common.{subst, inl, inr, ⊎_elim, ◌⊎◌, ◌↔◌, All, AllPairs, Any, Contains, map_push, take_more, All-push, All-weaker}
+use Rattle.follow_monitor.proofs.Common.{AllPairs-from_map, Contains-from_map, Contains-map, Call, Operation, low_key, high_key, Contents, value_at}
+use Rattle.follow_monitor.proofs.Common.{FoundAt, KeptPast, found_at, kept_of, Past, AreKeyLosses, HasKey, IsKeyLoss, IsNamed, IsOwnKey, IsOriginIn}
+use Rattle.follow_monitor.proofs.Common.{AreSpansOf, IsSpanAt, IsSpanIn, IsSpanOf, Names, span_of, KeyViolation, Origin, Put}
 use Rattle.follow_monitor.proofs.AnyLemmas.{any_in, any_of, any_one, any_weaker, one_any}
 
 -- ---- the invocations of the calls that have a key

@@ -1,7 +1,7 @@
 -- Maps that are made of pairs.
-use Rattle.follow_monitor.proofs.Common.{◌≡◌, ℕ, ◌+◌, ◌-◌, ◌<◌, ◌≤◌, ◌==◌, cond, ◌∷◌, length, get_or, drop, Option, Some, None, sym, ap, ◌∙◌, subst, ⊎_elim}
+use Rattle.follow_monitor.proofs.Common.{◌≡◌, ℕ, ◌+◌, ◌-◌, ◌<◌, ◌≤◌, ◌==◌, cond, ◌∷◌, length, get_or, drop, Option, Some, None, sym, ap, ◌∙◌, subst}
+use Rattle.follow_monitor.proofs.Common.{⊎_elim, arith, cases_Bool, eqb-true, eqb-false, drop_more, Insert, Contents, after, put, value_at}
 use Rattle.std.specs.Prelude.{◌≢◌}
-use Rattle.follow_monitor.proofs.Common.{arith, cases_Bool, eqb-true, eqb-false, drop_more, Insert, Contents, after, put, value_at}
 use Rattle.call_effects.proofs.ValueLemmas.{IsOut, in_or_out, value_left}
 use Rattle.explain_shrink.proofs.AgreeLemmas.{put_value}
 

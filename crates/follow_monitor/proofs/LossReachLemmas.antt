@@ -1,26 +1,15 @@
 -- What is said of keys may be so, since the pasts of a part of the state are reached (`kept_pasts_are_reached`).
-use Rattle.follow_monitor.proofs.Common.{◌≡◌, ℕ, ◌≤◌, Bool, true, ◌==◌, not, List, ◌∷◌, filter, map, Option, Some, None, sym, ◌∙◌, subst}
-use Rattle.follow_monitor.proofs.Common.{inl, inr, refl, ⊎_elim, arith, ◌⊎◌, is_some, nat_le, All, Any, Contains, and_from, and_parts}
-use Rattle.follow_monitor.proofs.Common.{eq-eqb, le-leb, All-contains, Contains-append_right}
-use Rattle.follow_monitor.proofs.Common.{Contains-from_map, Contains-map, All-from_contains, Contains-first, Call, Get}
-use Rattle.follow_monitor.proofs.Common.{Insert, Remove, Scan, Replace, Operation, Response, low_key, high_key, may_change, Contents, IsRising}
-use Rattle.follow_monitor.proofs.Common.{concerns_key, keyed, Keys, KeptPast, IsPast, KeptPart, IsOwn, IsKeptFirst, first_of, covered, IsKeptBeside}
-use Rattle.follow_monitor.proofs.Common.{pasts_of}
-use Rattle.follow_monitor.proofs.Common.{HasKey, IsKeyLoss, IsLastPut, IsNamed, IsOnlyKey, IsOriginIn, IsPutBy, ReportsOther, MayHave}
-use Rattle.follow_monitor.proofs.Common.{ValuesAreReached, KeyViolation, Origin, Put}
-use Rattle.std.proofs.Common.{eqb-true, ◌&&◌}
-use Rattle.std.proofs.lemmas.Bool.{leb-true}
-use Rattle.events.proofs.Lists.{Contains-filter, Contains-from_filter}
-use Rattle.explain_shrink.specs.Tells.{put_by}
-use Rattle.explain_reads_from.specs.External.{is_put}
-use Rattle.explain_reads_from.specs.Writers.{is_undone}
-use Rattle.call_effects.proofs.SetLemmas.{same_call}
-use Rattle.follow_key_laws.specs.Left.{HasKeysIn}
+use Rattle.follow_monitor.proofs.Common.{◌≡◌, ℕ, ◌≤◌, Bool, true, ◌==◌, not, List, ◌∷◌, filter, map, Option, Some, None, sym, ◌∙◌, subst, inl, inr}
+use Rattle.follow_monitor.proofs.Common.{refl, ⊎_elim, arith, ◌⊎◌, is_some, nat_le, All, Any, Contains, and_from, and_parts, eq-eqb, le-leb}
+use Rattle.follow_monitor.proofs.Common.{All-contains, Contains-append_right, Contains-from_map, Contains-map, All-from_contains, Contains-first}
+use Rattle.follow_monitor.proofs.Common.{Call, Get, Insert, Remove, Scan, Replace, Operation, Response, low_key, high_key, may_change, Contents}
+use Rattle.follow_monitor.proofs.Common.{IsRising, concerns_key, keyed, Keys, KeptPast, IsPast, KeptPart, IsOwn, IsKeptFirst, first_of, covered}
+use Rattle.follow_monitor.proofs.Common.{IsKeptBeside, pasts_of, HasKey, IsKeyLoss, IsLastPut, IsNamed, IsOnlyKey, IsOriginIn, IsPutBy, ReportsOther}
+use Rattle.follow_monitor.proofs.Common.{MayHave, ValuesAreReached, KeyViolation, Origin, Put, ◌&&◌, leb-true, Contains-filter, Contains-from_filter}
+use Rattle.follow_monitor.proofs.Common.{put_by, is_put, is_undone, same_call, HasKeysIn, IsReached, EndedPart, IsPutOf}
+use Rattle.std.proofs.Common.{eqb-true}
 use Rattle.follow_part_laws.proofs.NextLemmas.{zip_there}
-use Rattle.follow_part_laws.specs.Reached.{IsReached}
 use Rattle.follow_part_laws.proofs.ReachLemmas.{kept_pasts_are_reached}
-use Rattle.follow_parts.specs.declared.state.EndedPart.{EndedPart}
-use Rattle.follow_monitor.specs.CallPuts.{IsPutOf}
 use Rattle.follow_monitor.proofs.AnyLemmas.{any_in, any_of}
 
 -- ---- keys of calls

@@ -1,16 +1,15 @@
 -- Nothing is missed in the pasts of a part that is kept: a get that begins and is answered is left in each of them, and the parts decide.
-use Rattle.follow_monitor.proofs.Common.{◌≡◌, ℕ, suc, ◌<◌, true, false, List, [], ◌∷◌, ◌++◌, map, length, Some, append-nil, refl, sym, ap, ◌∙◌, subst, arith}
+use Rattle.follow_monitor.proofs.Common.{◌≡◌, ℕ, suc, ◌<◌, true, false, List, [], ◌∷◌, ◌++◌, map, length, Some, append-nil, refl, sym, ap, ◌∙◌, subst}
+use Rattle.follow_monitor.proofs.Common.{arith, All, Contains, AllZip, eq-eqb, ne_eqb, append_assoc, length_push, All-nil, All-head, All-tail}
+use Rattle.follow_monitor.proofs.Common.{All-contains, All-from_contains, Get, Event, Answer, Invoke, Reply, Operation, IsWellFormed, has_open_call}
+use Rattle.follow_monitor.proofs.Common.{operations, IsWellFormed-push, Contents, IsRising, IsLinearizable, begun_at, answered_at, invoked_before}
+use Rattle.follow_monitor.proofs.Common.{operations-invoke, is_refusal, HasKeysIn, KeptPast, IsWithRead, KeptPart, AreKept, IsOwn, GoesOn, IsOpenCall}
+use Rattle.follow_monitor.proofs.Common.{read_after, NothingIsMissed, IsKeptFirst, first_of}
 use Rattle.follow_monitor.proofs.AnyLemmas.{any_from_map}
-use Rattle.follow_monitor.proofs.Common.{All, Contains, AllZip, eq-eqb, ne_eqb, append_assoc, length_push, All-nil, All-head, All-tail, All-contains}
-use Rattle.follow_monitor.proofs.Common.{All-from_contains, Get, Event, Answer, Invoke, Reply, Operation, IsWellFormed, has_open_call, operations}
-use Rattle.follow_monitor.proofs.Common.{IsWellFormed-push, Contents, IsRising, IsLinearizable, begun_at, answered_at, invoked_before, operations-invoke}
-use Rattle.follow_monitor.proofs.Common.{is_refusal, HasKeysIn, KeptPast, IsWithRead, KeptPart, AreKept, IsOwn, GoesOn, IsOpenCall, read_after}
-use Rattle.follow_monitor.proofs.Common.{NothingIsMissed}
 use Rattle.std.proofs.Common.{eqb-true}
 use Rattle.follow_part_laws.proofs.AnswerLemmas.{reads_are_answered}
 use Rattle.follow_part_laws.proofs.DecideLemmas.{kept_parts_decide}
 use Rattle.follow_part_laws.proofs.EventLemmas.{reads_begin}
-use Rattle.follow_part_laws.proofs.PartLemmas.{IsKeptFirst, first_of}
 use Rattle.follow_monitor.proofs.CallLemmas.{answered_calls}
 use Rattle.follow_monitor.proofs.OpenLemmas.{opened}
 

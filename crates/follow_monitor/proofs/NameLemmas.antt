@@ -1,13 +1,10 @@
 -- Keys that are named.
-use Rattle.follow_monitor.proofs.Common.{◌≡◌, ℕ, Bool, true, ◌==◌, List, [], ◌∷◌, map, Some, None, refl, sym, ap, ◌∙◌, inl, inr, ⊎_elim, ◌⊎◌, ◌↔◌, Any}
-use Rattle.std.proofs.Common.{◌&&◌}
-use Rattle.follow_monitor.proofs.Common.{Contains, dedup, and_parts, cases_Bool, eqb-true, Contains-dedup, Contains-from_dedup, same_Some, Any-first}
-use Rattle.follow_monitor.proofs.Common.{Any-later, Contains-nil, Operation, Response, low_key, high_key, Contents, value_at, kept_of, Past, IsNamed}
-use Rattle.follow_monitor.proofs.Common.{ReportsOther, pairs_in, reported_by, AreAdded, AreAddedOf, DiffersWithin, AreSpansOf, GivesDiffering, IsSpanIn}
-use Rattle.follow_monitor.proofs.Common.{ListsOther, Names, NamesIn}
+use Rattle.follow_monitor.proofs.Common.{◌≡◌, ℕ, Bool, true, ◌==◌, List, [], ◌∷◌, map, Some, None, refl, sym, ap, ◌∙◌, inl, inr, ⊎_elim, ◌⊎◌, ◌↔◌}
+use Rattle.follow_monitor.proofs.Common.{Any, ◌&&◌, Contains, dedup, and_parts, cases_Bool, eqb-true, Contains-dedup, Contains-from_dedup, same_Some}
+use Rattle.follow_monitor.proofs.Common.{Any-first, Any-later, Contains-nil, Operation, Response, low_key, high_key, Contents, value_at, kept_of}
+use Rattle.follow_monitor.proofs.Common.{Past, IsNamed, ReportsOther, pairs_in, reported_by, AreAdded, AreAddedOf, DiffersWithin, AreSpansOf}
+use Rattle.follow_monitor.proofs.Common.{GivesDiffering, IsSpanIn, ListsOther, Names, NamesIn, and_equiv, nat_eq_equiv, on_equiv, Reply}
 use Rattle.std.specs.Cmp.{IsEquivalence}
-use Rattle.std.proofs.lemmas.Cmp.{and_equiv, nat_eq_equiv, on_equiv}
-use Rattle.events.specs.declared.event.Reply.{Reply}
 use Rattle.follow_monitor.proofs.AnyLemmas.{any_from_map, any_in, any_map}
 
 -- whether the code finds two spans the same

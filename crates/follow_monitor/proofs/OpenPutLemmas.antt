@@ -1,14 +1,14 @@
 -- The puts of open calls.
-use Rattle.follow_monitor.proofs.Common.{◌≡◌, ℕ, ◌<◌, ◌≤◌, false, List, [], ◌∷◌, ◌++◌, get_or, Some, eqb, sym, ◌∙◌, subst, ⊎_elim, arith, ◌↔◌, IfOk, Result}
-use Rattle.follow_monitor.proofs.Common.{Ok, Err, All, AllPairs, Any, Contains, IsDistinct, nat_cmp, eqb-false, false≢true, ne_eqb, All-contains, All-cons}
-use Rattle.follow_monitor.proofs.Common.{All-nil, Contains-append_left, Contains-append_right, Contains-get_or, Contains-push_cases, Contains-permutation}
-use Rattle.follow_monitor.proofs.Common.{IsPermutation-sym, All-from_contains, AllPairs-across, AllPairs-append, AllPairs-front, Contains-first}
-use Rattle.follow_monitor.proofs.Common.{AllPairs-from_map, writes, begun, Put, IsOpenPut, ArePutsOfEntries, HaveOwnEvents, AreOpenPuts, known_call}
-use Rattle.follow_monitor.proofs.Common.{OpenCall}
+use Rattle.follow_monitor.proofs.Common.{◌≡◌, ℕ, ◌<◌, ◌≤◌, false, List, [], ◌∷◌, ◌++◌, get_or, Some, eqb, sym, ◌∙◌, subst, ⊎_elim, arith, ◌↔◌, IfOk}
+use Rattle.follow_monitor.proofs.Common.{Result, Ok, Err, All, AllPairs, Any, Contains, IsDistinct, nat_cmp, eqb-false, false≢true, ne_eqb}
+use Rattle.follow_monitor.proofs.Common.{All-contains, All-cons, All-nil, Contains-append_left, Contains-append_right, Contains-get_or}
+use Rattle.follow_monitor.proofs.Common.{Contains-push_cases, Contains-permutation, IsPermutation-sym, All-from_contains, AllPairs-across}
+use Rattle.follow_monitor.proofs.Common.{AllPairs-append, AllPairs-front, Contains-first, AllPairs-from_map, writes, begun, Put, IsOpenPut}
+use Rattle.follow_monitor.proofs.Common.{ArePutsOfEntries, HaveOwnEvents, AreOpenPuts, known_call, OpenCall, IsDistinct-IsPermutation}
+use Rattle.follow_monitor.proofs.Common.{IsDistinct-from_apart, apart_from_distinct, below_from_sorted}
 use Rattle.std.specs.Prelude.{◌≢◌}
 use Rattle.std.specs.List.Sorted.{IsPermutation, IsStrictlySortedBy}
 use Rattle.std.specs.Map.{keys_of}
-use Rattle.std.proofs.lemmas.Map.Keys.{IsDistinct-IsPermutation, IsDistinct-from_apart, apart_from_distinct, below_from_sorted}
 use Rattle.follow_monitor.proofs.PutLemmas.{one_put}
 
 abbrev IsOtherEvent : ℕ × OpenCall → ℕ × OpenCall → Type 0

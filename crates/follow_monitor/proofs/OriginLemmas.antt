@@ -1,13 +1,10 @@
 -- Who put a value that a key has in a past: the last put in a fold is the one after which none is.
 use Rattle.follow_monitor.proofs.Common.{◌≡◌, ℕ, Bool, true, false, ◌==◌, not, cond, List, [], ◌∷◌, ◌++◌, map, Option, Some, None, refl, ap, sym, ◌∙◌}
-use Rattle.follow_monitor.proofs.Common.{subst, inl, inr, ⊎_elim, ◌⊎◌, ◌↔◌, if◌then◌else◌, All, Any, Contains, list_any, and_from, and_parts, cases_Bool}
-use Rattle.follow_monitor.proofs.Common.{eq-eqb}
-use Rattle.follow_monitor.proofs.Common.{not-true, All-head, Contains-from_map, Contains-map, Operation, value_at, KeptPast, is_put_before, last_put}
-use Rattle.follow_monitor.proofs.Common.{origin_in}
-use Rattle.follow_monitor.proofs.Common.{put_in, IsLastPut, IsOriginIn, IsPutBefore, IsPutBy, Origin, Put}
-use Rattle.std.proofs.Common.{eqb-true, ◌&&◌}
-use Rattle.std.proofs.lemmas.List.Elements.{All-cons, All-nil, All-tail}
-use Rattle.std.proofs.lemmas.List.Folds.{Any-from_list_any, list_any-from_Any}
+use Rattle.follow_monitor.proofs.Common.{subst, inl, inr, ⊎_elim, ◌⊎◌, ◌↔◌, if◌then◌else◌, All, Any, Contains, list_any, and_from, and_parts}
+use Rattle.follow_monitor.proofs.Common.{cases_Bool, eq-eqb, not-true, All-head, Contains-from_map, Contains-map, Operation, value_at, KeptPast}
+use Rattle.follow_monitor.proofs.Common.{is_put_before, last_put, origin_in, put_in, IsLastPut, IsOriginIn, IsPutBefore, IsPutBy, Origin, Put, ◌&&◌}
+use Rattle.follow_monitor.proofs.Common.{All-cons, All-nil, All-tail, Any-from_list_any, list_any-from_Any}
+use Rattle.std.proofs.Common.{eqb-true}
 use Rattle.follow_monitor.proofs.AnyLemmas.{any_in, any_of, any_weaker}
 
 abbrev invoked_by : Put → Operation → Bool

@@ -1,29 +1,14 @@
 -- The first events of a history, and one invocation more.
-use Rattle.std.proofs.Common.{◌≡◌, ℕ, zero, ◌+◌, ◌<◌, ◌≤◌, List, [], ◌∷◌, ◌++◌, length, take, drop, refl, sym, ap, ◌∙◌, subst, arith, take-append-drop}
-use Rattle.std.proofs.Common.{Bool, true, false, suc, cond, ◌==◌, Some, None, IsTrue, ⊎_elim}
-use Rattle.std.specs.Prelude.{slice_get, IsSomeAnd, All}
-use Rattle.std.specs.List.{list_all}
-use Rattle.std.proofs.lemmas.Bool.{false≢true, and_parts}
-use Rattle.std.proofs.lemmas.Option.{none-some, slice_get_within, get_or_from_slice_get}
-use Rattle.std.proofs.lemmas.List.{take_more, length-append}
-use Rattle.std.proofs.lemmas.List.Elements.{All-head, All-tail, All-weaker, All-contains, filter-append}
-use Rattle.std.proofs.lemmas.List.Folds.{list_all-append}
-use Rattle.std.proofs.lemmas.List.Sums.{sum_by-append}
-use Rattle.events.proofs.Lists.{Contains-at, slice_get-append_left, place-push}
-use Rattle.events.proofs.NumberLemmas.{some_at}
-use Rattle.events.specs.declared.event.Call.{Call}
-use Rattle.events.specs.declared.event.Event.{Event}
-use Rattle.events.specs.declared.event.Event.TheVariants.{Invoke, Answer}
-use Rattle.events.specs.declared.operation.Operation.{Operation}
-use Rattle.events.specs.Events.{process_of, is_invocation, events_of, events_alternate}
-use Rattle.events.specs.Histories.{is_shaped, is_small, AreHistoryEvents}
-use Rattle.events.specs.Precedence.{is_completed}
-use Rattle.events.specs.Operations.{operations_from, operations}
-use Rattle.events.proofs.ExtensionLemmas.{extended_at}
+use Rattle.follow_monitor.proofs.Common.{◌≡◌, ℕ, zero, ◌+◌, ◌<◌, ◌≤◌, List, [], ◌∷◌, ◌++◌, length, take, drop, refl, sym, ap, ◌∙◌, subst, arith, Bool}
+use Rattle.follow_monitor.proofs.Common.{true, false, suc, cond, ◌==◌, Some, None, IsTrue, ⊎_elim, slice_get, IsSomeAnd, All, list_all, false≢true}
+use Rattle.follow_monitor.proofs.Common.{and_parts, none-some, slice_get_within, get_or_from_slice_get, take_more, length-append, All-head, All-tail}
+use Rattle.follow_monitor.proofs.Common.{All-weaker, All-contains, filter-append, list_all-append, sum_by-append, Contains-at, slice_get-append_left}
+use Rattle.follow_monitor.proofs.Common.{place-push, some_at, Call, Event, Invoke, Answer, Operation, process_of, is_invocation, events_of}
+use Rattle.follow_monitor.proofs.Common.{events_alternate, is_shaped, is_small, AreHistoryEvents, is_completed, operations_from, operations}
+use Rattle.follow_monitor.proofs.Common.{extended_at, inv-at_least, Contents, KeepsPrecedence, IsLegal, calls_at, IsCompletedAt, IsOrder}
+use Rattle.follow_monitor.proofs.Common.{IsLinearizable}
+use Rattle.std.proofs.Common.{take-append-drop}
 use Rattle.events.proofs.OperationLemmas.{operations_from-invoke}
-use Rattle.events.proofs.TimeLemmas.{inv-at_least}
-use Rattle.map_object.specs.MapObject.{Contents}
-use Rattle.orders.specs.Orders.{KeepsPrecedence, IsLegal, calls_at, IsCompletedAt, IsOrder, IsLinearizable}
 use Rattle.follow_monitor.proofs.CutLemmas.{kept, order_of_part}
 
 -- the further calls of the whole are invoked after its first events

@@ -1,17 +1,16 @@
 -- Which calls put values, as they are known from event to event.
-use Rattle.follow_monitor.proofs.Common.{◌≡◌, ℕ, zero, suc, ◌+◌, ◌-◌, ◌<◌, true, false, not, List, [], ◌∷◌, ◌++◌, length, take, Option, Some, None, refl}
-use Rattle.follow_monitor.proofs.Common.{sym, ap, ◌∙◌, subst, ⊎_elim, inl, inr, arith, ◌⊎◌, ◌&&◌, All, AllPairs, Contains, is_some, slice_get, and_parts}
-use Rattle.follow_monitor.proofs.Common.{eqb-true, false≢true, ltb-true, length-append, length-drop, length-take, take-append-drop, All-append, All-contains}
-use Rattle.follow_monitor.proofs.Common.{All-cons, All-nil, All-tail, Contains-append_cases, Contains-append_left, Contains-append_right, Contains-get_or}
-use Rattle.follow_monitor.proofs.Common.{none-some, same_Some, keep_last, Call, Event, Invoke, Answer, Reply, Operation, Response, IsWellFormed, low_key}
-use Rattle.follow_monitor.proofs.Common.{is_before, is_completed, operation_of, operations_from, operations, inv_rises, All-back, All-front}
-use Rattle.follow_monitor.proofs.Common.{All-from_contains, AllPairs-across, AllPairs-append, AllPairs-back, Contains-around, Contains-cases, Contains-first}
-use Rattle.follow_monitor.proofs.Common.{Contains-later, Contains-nil, completed_stays, same_call, is_undone, writes, begun, is_reported, IsPutOf, Put}
-use Rattle.follow_monitor.proofs.Common.{put_limit, IsAnsweredPut, AreLastPuts, AreRecentPuts, IsAnsweredBefore, BecomeWithAnswer, ArePutsOf, HaveOwnEvents}
-use Rattle.follow_monitor.proofs.Common.{AreAllPuts, known_call, IsOpenCall, IsCallOf, OpenCall}
+use Rattle.follow_monitor.proofs.Common.{◌≡◌, ℕ, zero, suc, ◌+◌, ◌-◌, ◌<◌, true, false, not, List, [], ◌∷◌, ◌++◌, length, take, Option, Some, None}
+use Rattle.follow_monitor.proofs.Common.{refl, sym, ap, ◌∙◌, subst, ⊎_elim, inl, inr, arith, ◌⊎◌, ◌&&◌, All, AllPairs, Contains, is_some, slice_get}
+use Rattle.follow_monitor.proofs.Common.{and_parts, eqb-true, false≢true, ltb-true, length-append, length-drop, length-take, take-append-drop}
+use Rattle.follow_monitor.proofs.Common.{All-append, All-contains, All-cons, All-nil, All-tail, Contains-append_cases, Contains-append_left}
+use Rattle.follow_monitor.proofs.Common.{Contains-append_right, Contains-get_or, none-some, same_Some, keep_last, Call, Event, Invoke, Answer, Reply}
+use Rattle.follow_monitor.proofs.Common.{Operation, Response, IsWellFormed, low_key, is_before, is_completed, operation_of, operations_from}
+use Rattle.follow_monitor.proofs.Common.{operations, inv_rises, All-back, All-front, All-from_contains, AllPairs-across, AllPairs-append}
+use Rattle.follow_monitor.proofs.Common.{AllPairs-back, Contains-around, Contains-cases, Contains-first, Contains-later, Contains-nil}
+use Rattle.follow_monitor.proofs.Common.{completed_stays, same_call, is_undone, writes, begun, is_reported, IsPutOf, Put, put_limit, IsAnsweredPut}
+use Rattle.follow_monitor.proofs.Common.{AreLastPuts, AreRecentPuts, IsAnsweredBefore, BecomeWithAnswer, ArePutsOf, HaveOwnEvents, AreAllPuts}
+use Rattle.follow_monitor.proofs.Common.{known_call, IsOpenCall, IsCallOf, OpenCall, put_by, is_put}
 use Rattle.std.specs.Prelude.{◌==◌}
-use Rattle.explain_shrink.specs.Tells.{put_by}
-use Rattle.explain_reads_from.specs.External.{is_put}
 
 -- ---- a call puts one pair
 

@@ -1,14 +1,10 @@
 -- What is said where a stream goes wrong may be so.
-use Rattle.follow_monitor.proofs.Common.{◌≡◌, ℕ, suc, true, List, [], ◌∷◌, ◌++◌, length, None, Some, sym, subst, All, Any, eq-eqb, All-append, All-weaker}
+use Rattle.follow_monitor.proofs.Common.{◌≡◌, ℕ, suc, true, List, [], ◌∷◌, ◌++◌, length, None, Some, sym, subst, All, Any, eq-eqb, All-append}
+use Rattle.follow_monitor.proofs.Common.{All-weaker, none-some, same_Some, All-from_contains, Call, Get, Insert, Remove, Scan, Replace, Answer}
+use Rattle.follow_monitor.proofs.Common.{Operation, operations, concerns_key, Event, Reply, Contents, IsRising, HasKeysIn, begun, covered, pasts_of}
+use Rattle.follow_monitor.proofs.Common.{IsPutOf, Put, DoubtsAreReached, LossesAreReached, MayBeSo, ArePutsOf, IsAnsweredPut, Violation, KeyViolation}
+use Rattle.follow_monitor.proofs.Common.{AreKeyLosses, key_of, ValuesAreReached, IsKeptWith, IsOfAnswer}
 use Rattle.follow_monitor.proofs.AnyLemmas.{any_of, any_weaker}
-use Rattle.follow_monitor.proofs.Common.{none-some, same_Some, All-from_contains, Call, Get, Insert, Remove, Scan, Replace, Answer, Operation, operations}
-use Rattle.follow_monitor.proofs.Common.{concerns_key, Event, Reply, Contents, IsRising, HasKeysIn, begun, covered, pasts_of, IsPutOf, Put}
-use Rattle.follow_monitor.proofs.Common.{DoubtsAreReached, LossesAreReached, MayBeSo, ArePutsOf, IsAnsweredPut}
-use Rattle.follow_monitor.specs.declared.loss.Violation.{Violation}
-use Rattle.follow_monitor.specs.declared.lost_keys.KeyViolation.{KeyViolation}
-use Rattle.follow_monitor.specs.KeyLosses.{AreKeyLosses, key_of}
-use Rattle.follow_monitor.specs.LossLaws.{ValuesAreReached}
-use Rattle.follow_monitor.specs.Outcomes.{IsKeptWith, IsOfAnswer}
 
 -- the only key of a call
 only_key : (call : Call) (key : ℕ) → key_of call ≡ Some key → concerns_key call key ≡ true

@@ -1,7 +1,7 @@
 -- A monitor before any event.
-use Rattle.follow_monitor.proofs.Common.{◌≡◌, ◌≢◌, ℕ, ◌<◌, ◌≤◌, false, List, [], refl, sym, ap, ◌∙◌, subst, All-nil, none-some, Invoke, Operation, low_key}
-use Rattle.follow_monitor.proofs.Common.{high_key, precedes, AllPairs-nil, Put, Contents, IsRising, IsLinearizable, IsStateOf, PartsView, known_call}
-use Rattle.follow_monitor.proofs.Common.{IsFollowing, put_limit, AreRecentPuts, OpenCall}
+use Rattle.follow_monitor.proofs.Common.{◌≡◌, ◌≢◌, ℕ, ◌<◌, ◌≤◌, false, List, [], refl, sym, ap, ◌∙◌, subst, All-nil, none-some, Invoke, Operation}
+use Rattle.follow_monitor.proofs.Common.{low_key, high_key, precedes, AllPairs-nil, Put, Contents, IsRising, IsLinearizable, IsStateOf, PartsView}
+use Rattle.follow_monitor.proofs.Common.{known_call, IsFollowing, put_limit, AreRecentPuts, OpenCall}
 use Rattle.follow_monitor.proofs.PutLemmas.{no_puts}
 
 none_ordered : (m : Contents) → IsLinearizable m []

@@ -1,12 +1,10 @@
 -- Who put the values that a key has in pasts.
 use Rattle.follow_monitor.proofs.Common.{◌≡◌, ℕ, ◌+◌, ◌-◌, ◌<◌, ◌≤◌, Bool, true, false, cond, ◌==◌, not, List, [], ◌∷◌, ◌++◌, length, get_or, take}
-use Rattle.std.proofs.Common.{◌&&◌}
+use Rattle.follow_monitor.proofs.Common.{◌&&◌, filter, map, Option, Some, None, refl, sym, ap, ◌∙◌, subst, ⊎_elim, arith, ◌↔◌, if◌then◌else◌}
+use Rattle.follow_monitor.proofs.Common.{AllPairs, Contains, list_any, cases_Bool, map_push, take_all, take_more, Contains-append_left, Contains-push}
+use Rattle.follow_monitor.proofs.Common.{Contains-push_cases, Contains-get_or, value_at, KeptPast, kept_of, Past, is_put_before, last_put, origin_in}
+use Rattle.follow_monitor.proofs.Common.{put_in, IsNotedOnce, Origin, Put, all_pairs_push}
 use Rattle.std.specs.Prelude.{◌≢◌}
-use Rattle.follow_monitor.proofs.Common.{filter, map, Option, Some, None, refl, sym, ap, ◌∙◌, subst, ⊎_elim, arith, ◌↔◌, if◌then◌else◌, AllPairs}
-use Rattle.follow_monitor.proofs.Common.{Contains, list_any, cases_Bool, map_push, take_all, take_more, Contains-append_left, Contains-push}
-use Rattle.follow_monitor.proofs.Common.{Contains-push_cases, Contains-get_or, value_at, KeptPast, kept_of, Past, is_put_before, last_put, origin_in, put_in}
-use Rattle.follow_monitor.proofs.Common.{IsNotedOnce, Origin, Put}
-use Rattle.std.proofs.lemmas.List.Quantifiers.{all_pairs_push}
 
 -- the last put of some and one more
 pub last_push : (past : KeptPast) (key value : ℕ) (last : Option ℕ) (front : List Put) (p : Put)

@@ -1,6 +1,6 @@
 -- What is sorted and deduplicated rises, and has the same keys.
-use Rattle.follow_monitor.proofs.Common.{dedup_is, AllPairs-from_increasing, Contains-dedup_nat, Contains-from_dedup, Contains-permutation, IsPermutation-sym}
-use Rattle.follow_monitor.proofs.Common.{IsStrictlyIncreasing-dedup}
+use Rattle.follow_monitor.proofs.Common.{dedup_is, AllPairs-from_increasing, Contains-dedup_nat, Contains-from_dedup, Contains-permutation}
+use Rattle.follow_monitor.proofs.Common.{IsPermutation-sym, IsStrictlyIncreasing-dedup}
 use Rattle.follow_monitor.proofs.named_keys.in_order.Goals as goal
 
 pub returns-clause-rising : goal.returns-clause-rising

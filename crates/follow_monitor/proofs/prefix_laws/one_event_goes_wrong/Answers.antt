@@ -1,11 +1,5 @@
-use Rattle.std.proofs.Common.{ℕ, ◌+◌, ◌<◌, ◌≤◌, List, ⊎_elim, subst, arith, take}
-use Rattle.std.proofs.lemmas.Bool.{cases_order}
-use Rattle.std.proofs.lemmas.List.{take-take}
-use Rattle.events.specs.declared.event.Event.{Event}
-use Rattle.events.specs.HistoryView.{HistoryView}
-use Rattle.events.specs.Operations.{operations}
-use Rattle.orders.specs.Orders.{IsLinearizable, IsLinearizableHistory}
-use Rattle.follow_monitor.specs.Prefixes.{prefix_of, GoesWrongAt}
+use Rattle.follow_monitor.proofs.Common.{ℕ, ◌+◌, ◌<◌, ◌≤◌, List, ⊎_elim, subst, arith, take, cases_order, take-take, Event, HistoryView, operations}
+use Rattle.follow_monitor.proofs.Common.{IsLinearizable, IsLinearizableHistory, prefix_of, GoesWrongAt}
 use Rattle.follow_monitor.proofs.PrefixLemmas.{prefix_has_order}
 use Rattle.follow_monitor.proofs.prefix_laws.one_event_goes_wrong.Goals as goal
 

@@ -1,13 +1,5 @@
-use Rattle.std.proofs.Common.{◌≡◌, ℕ, ◌+◌, List, Some, sym, subst, take}
-use Rattle.std.specs.Prelude.{slice_get}
-use Rattle.events.proofs.NumberLemmas.{slice_get-below}
-use Rattle.events.specs.declared.event.Event.{Event}
-use Rattle.events.specs.declared.event.Event.TheVariants.{Invoke, Answer}
-use Rattle.events.specs.HistoryView.{HistoryView}
-use Rattle.events.specs.Histories.{IsHistory}
-use Rattle.events.specs.Operations.{operations}
-use Rattle.orders.specs.Orders.{IsLinearizable, IsLinearizableHistory}
-use Rattle.follow_monitor.specs.Prefixes.{prefix_of, GoesWrongAt}
+use Rattle.follow_monitor.proofs.Common.{◌≡◌, ℕ, ◌+◌, List, Some, sym, subst, take, slice_get, slice_get-below, Event, Invoke, Answer, HistoryView}
+use Rattle.follow_monitor.proofs.Common.{IsHistory, operations, IsLinearizable, IsLinearizableHistory, prefix_of, GoesWrongAt}
 use Rattle.follow_monitor.proofs.EventLemmas.{answer_has_call}
 use Rattle.follow_monitor.proofs.PrefixLemmas.{invocation_keeps_order, take_with}
 use Rattle.follow_monitor.proofs.prefix_laws.orders_are_lost_at_answers.Goals as goal

@@ -1,14 +1,12 @@
 use Rattle.follow_monitor.proofs.Common.{◌≡◌, ℕ, ◌+◌, ◌<◌, ◌==◌, ◌++◌, ◌∷◌, [], List, None, Some, cond, sym, ap, ◌∙◌, subst, arith, Event, Invoke}
 use Rattle.follow_monitor.proofs.Common.{operations, Contents, event_limit, MonitorView, PartsView, Option, known_call, IsFollowing, OpenCall}
-use Rattle.std.proofs.Common.{is_some}
-use Rattle.follow_monitor.specs.MonitorView.{parts_of}
-use Rattle.follow_monitor.specs.declared.monitor.Kept.{Kept}
+use Rattle.follow_monitor.proofs.Common.{is_some, parts_of, Kept}
 use Rattle.follow_monitor.proofs.KeptLemmas.{seen_with, same_with}
 use Rattle.follow_monitor.proofs.FollowLemmas.{call_taken, call_more}
 use Rattle.follow_monitor.proofs.OpenLemmas.{at_process}
 use Rattle.follow_monitor.proofs.PutLemmas.{puts_invoked}
-use Rattle.follow_monitor.proofs.monitor.Monitor.begin.Goals as goal
 use Rattle.follow_monitor.proofs.monitor.Monitor.begin.Goals.{After-saturating_add-kept}
+use Rattle.follow_monitor.proofs.monitor.Monitor.begin.Goals as goal
 
 pub begin-requires-clause-room : goal.begin-requires-clause-room
 begin-requires-clause-room c =

@@ -1,15 +1,13 @@
-use Rattle.follow_monitor.proofs.Common.{◌≡◌, ℕ, ◌<◌, ◌==◌, ◌++◌, ◌∷◌, [], List, None, cond, sym, ap, ◌∙◌, subst, Event, Answer, Contents, begun, IsEndedBy}
-use Rattle.follow_monitor.proofs.Common.{response_at, AreAnswered, IsPartEndedBy, MayReply, event_limit, IsFollowing, IsLossAt, MonitorView, PartsView, Option, known_call}
-use Rattle.std.proofs.Common.{is_some}
-use Rattle.follow_monitor.specs.MonitorView.{parts_of}
-use Rattle.follow_monitor.specs.declared.monitor.Kept.{Kept}
+use Rattle.follow_monitor.proofs.Common.{◌≡◌, ℕ, ◌<◌, ◌==◌, ◌++◌, ◌∷◌, [], List, None, cond, sym, ap, ◌∙◌, subst, Event, Answer, Contents, begun}
+use Rattle.follow_monitor.proofs.Common.{IsEndedBy, response_at, AreAnswered, IsPartEndedBy, MayReply, event_limit, IsFollowing, IsLossAt}
+use Rattle.follow_monitor.proofs.Common.{MonitorView, PartsView, Option, known_call, is_some, parts_of, Kept}
 use Rattle.follow_monitor.proofs.KeptLemmas.{seen_with, same_with}
 use Rattle.follow_monitor.proofs.FollowLemmas.{seen_so, around_it, state_before}
 use Rattle.follow_monitor.proofs.JudgeLemmas.{accepted, is_shaped}
 use Rattle.follow_monitor.proofs.JudgedLemmas.{calls_before, calls_with, pending, goes_on, recent_then, known_then, is_lost, is_spent}
 use Rattle.follow_monitor.proofs.OpenLemmas.{at_process}
-use Rattle.follow_monitor.proofs.monitor.Monitor.judge.Goals as goal
 use Rattle.follow_monitor.proofs.monitor.Monitor.judge.Goals.{In-Going}
+use Rattle.follow_monitor.proofs.monitor.Monitor.judge.Goals as goal
 
 pub answer_parts-requires-clause-shaped : goal.answer_parts-requires-clause-shaped
 answer_parts-requires-clause-shaped c =
