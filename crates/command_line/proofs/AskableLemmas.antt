@@ -1,11 +1,8 @@
 -- What is asked for by a table fits a subcommand of it.
-use Rattle.std.proofs.Common.{◌≡◌, ◌∙◌, ℕ, suc, Bool, true, false, cond, refl, sym, ap, subst, arith, slice_index, List, [], ◌∷◌, Option}
-use Rattle.std.proofs.Common.{Some}
-use Rattle.std.specs.Str.{bytes_eq}
-use Rattle.std.proofs.lemmas.Option.{same_Some}
-use Rattle.clap.specs.Words.{Row, Text}
-use Rattle.command_line.specs.Requests.{AreCallsOf, AreFlagsOf, AreNumbersOf, AreWithinFrom, Asked, Asks, Fits, IsAskable, IsRequestOf, asked_of, flags_of, numbers_from}
-use Rattle.command_line.specs.Tables.{Flag, Usage, usage_named}
+use Rattle.command_line.proofs.Common.{◌≡◌, ◌∙◌, ℕ, suc, Bool, true, false, cond, refl, sym, ap, subst, arith, slice_index, List, [], ◌∷◌, Option}
+use Rattle.command_line.proofs.Common.{Some, bytes_eq, same_Some, Text, AreCallsOf, AreFlagsOf, AreNumbersOf, AreWithinFrom, Asked, Asks, Fits}
+use Rattle.command_line.proofs.Common.{IsAskable, IsRequestOf, asked_of, flags_of, numbers_from, Flag, Usage, usage_named}
+use Rattle.clap.specs.Words.{Row}
 use Rattle.command_line.specs.declared.asked.Request.{Request}
 use Rattle.command_line.proofs.TableLemmas.{same_swapped}
 

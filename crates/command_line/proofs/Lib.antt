@@ -1,3 +1,4 @@
+mod Common
 mod RowLemmas
 mod StopLemmas
 mod SubcommandLemmas

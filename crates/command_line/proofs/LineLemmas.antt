@@ -1,27 +1,15 @@
 -- `check`, `judge`, `locate`, `draw` and `drive` are uses of the program's table, and ask for their lines.
-use Rattle.std.proofs.Common.{◌≡◌, ◌∙◌, ◌++◌, append-nil, map, get_or, ℕ, refl, sym, ap, ap₂, inl, inr, arith, List, [], ◌∷◌, Option, Some}
-use Rattle.std.proofs.Common.{None, Bool, codes, false, subst, true, true≢false}
-use Rattle.std.specs.Option.{option_map_or}
-use Rattle.std.specs.Prelude.{IfSome}
-use Rattle.std.specs.Str.{bytes_eq}
+use Rattle.command_line.proofs.Common.{◌≡◌, ◌∙◌, ◌++◌, append-nil, map, get_or, ℕ, refl, sym, ap, ap₂, inl, inr, arith, List, [], ◌∷◌, Option, Some}
+use Rattle.command_line.proofs.Common.{None, Bool, codes, false, subst, true, true≢false, option_map_or, IfSome, bytes_eq, same_Some}
+use Rattle.command_line.proofs.Common.{bytes_eq-Decides, Text, around_limit, shown_limit, budget_default, budget_limit, rows16_default, rows16_limit}
+use Rattle.command_line.proofs.Common.{rows256_default, rows256_limit, rows4_default, rows4_limit, rows48_default, rows48_limit, steps_limit}
+use Rattle.command_line.proofs.Common.{workers_default, workers_limit, IsNumberWithin, number_of, bench_table, check_usage, draw_usage, drive_usage}
+use Rattle.command_line.proofs.Common.{judge_usage, locate_usage, number_flag, switch_flag, tree_flag, IsReadFrom, Flag, switch_text, AreOptionsOf}
+use Rattle.command_line.proofs.Common.{Given, Gives, IsUse, option_words, value_given}
 use Rattle.std.proofs.lemmas.List.Quantifiers.{position-Some}
-use Rattle.std.proofs.lemmas.Option.{same_Some}
-use Rattle.std.proofs.lemmas.Slice.Eq.{bytes_eq-Decides}
-use Rattle.clap.specs.Words.{Text}
-use Rattle.command_line.specs.Limits.{around_limit, shown_limit}
-use Rattle.command_line.specs.Limits.{budget_default, budget_limit, rows16_default, rows16_limit, rows256_default, rows256_limit}
-use Rattle.command_line.specs.Limits.{rows4_default, rows4_limit}
-use Rattle.command_line.specs.Limits.{rows48_default, rows48_limit, steps_limit, workers_default, workers_limit}
-use Rattle.command_line.specs.Lines.{ChecksNumbers, Draws, Drives, NamesTree, IsCheck, IsDraw, IsDrive, IsJudge, IsLocate}
-use Rattle.command_line.specs.Lines.{asked_by, switch_number, switch_words}
-use Rattle.command_line.specs.Lines.{option_words as words_of}
-use Rattle.command_line.specs.Numbers.{IsNumberWithin, number_of}
-use Rattle.command_line.specs.Program.{bench_table, check_usage, draw_usage, drive_usage, judge_usage, locate_usage, number_flag}
-use Rattle.command_line.specs.Program.{switch_flag, tree_flag}
-use Rattle.command_line.specs.Requests.{IsReadFrom}
-use Rattle.command_line.specs.Tables.{Flag, switch_text}
+use Rattle.command_line.specs.Lines.{ChecksNumbers, Draws, Drives, NamesTree, IsCheck, IsDraw, IsDrive, IsJudge, IsLocate, asked_by, switch_number}
+use Rattle.command_line.specs.Lines.{switch_words, option_words as words_of}
 use Rattle.command_line.specs.Trees.{name_of, place_of, trees}
-use Rattle.command_line.specs.Words.{AreOptionsOf, Given, Gives, IsUse, option_words, value_given}
 use Rattle.command_line.specs.declared.line.Line.{Line}
 use Rattle.command_line.specs.declared.line.Line.TheVariants.{Check, Draw, Drive, Judge, Locate}
 use Rattle.command_line.specs.declared.line.Tree.{Tree}

@@ -1,13 +1,9 @@
 -- What the matches of a subcommand that is met hold: its name, and the values of its arguments.
-use Rattle.std.proofs.Common.{◌≡◌, ◌∙◌, ◌&&◌, ℕ, Bool, refl, sym, ap, ap₂, subst, true, List, [], ◌∷◌, Option, Some, None}
-use Rattle.std.specs.Option.{option_map, option_map_or}
-use Rattle.std.proofs.lemmas.Option.{same_Some}
-use Rattle.clap.specs.Words.{Row, Text, first_of, first_value, rows_of, subcommand_name_of, subcommand_rows_of}
-use Rattle.clap.specs.declared.parser.matches.ArgMatches.{ArgMatches}
-use Rattle.clap.specs.declared.parser.matches.Found.{Found}
-use Rattle.clap.proofs.WalkLemmas.{first_value-rows}
-use Rattle.command_line.specs.Requests.{AreNumbersOf, IsNumberOf, Meets, are_named, has_named, is_named}
-use Rattle.command_line.specs.Tables.{Flag, Usage, usage_named}
+use Rattle.command_line.proofs.Common.{◌≡◌, ◌∙◌, ◌&&◌, ℕ, Bool, refl, sym, ap, ap₂, subst, true, List, [], ◌∷◌, Option, Some, None, option_map}
+use Rattle.command_line.proofs.Common.{option_map_or, same_Some, Text, first_of, first_value, rows_of, subcommand_name_of, subcommand_rows_of}
+use Rattle.command_line.proofs.Common.{ArgMatches, Found, first_value-rows, AreNumbersOf, IsNumberOf, Meets, are_named, has_named, is_named, Flag}
+use Rattle.command_line.proofs.Common.{Usage, usage_named}
+use Rattle.clap.specs.Words.{Row}
 
 -- ---- the subcommand
 

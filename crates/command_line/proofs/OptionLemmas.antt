@@ -1,29 +1,16 @@
 -- The walk over the options of a subcommand and their values.
-use Rattle.std.proofs.Common.{◌≡◌, ◌∙◌, ◌++◌, true, false, refl, sym, ap, subst, arith, append_assoc, append-nil, map, List, [], ◌∷◌}
-use Rattle.std.proofs.Common.{Option, Some, None, codes}
-use Rattle.std.specs.List.{fold}
-use Rattle.std.specs.Str.{bytes_eq}
-use Rattle.std.proofs.lemmas.Bool.{leb-true, and_parts, or_parts}
-use Rattle.std.proofs.lemmas.Slice.Eq.{bytes_eq-Decides}
-use Rattle.clap.specs.Faults.{settle_fault, turn_fault, walk_fault}
-use Rattle.clap.specs.Simple.{Shape}
-use Rattle.clap.specs.ValueTests.{accepts}
-use Rattle.clap.specs.Values.{reading_of}
-use Rattle.clap.specs.Walk.{Held, Row, Text, Walk, arg_by_id, arg_by_long, at_row, has_row, is_pending, more_values, nothing_held, option}
-use Rattle.clap.specs.Walk.{settled, walk_from}
-use Rattle.clap.specs.Walk.{walked, with_values, without}
+use Rattle.command_line.proofs.Common.{◌≡◌, ◌∙◌, ◌++◌, true, false, refl, sym, ap, subst, arith, append_assoc, append-nil, map, List, [], ◌∷◌, Option}
+use Rattle.command_line.proofs.Common.{Some, None, codes, fold, bytes_eq, leb-true, and_parts, or_parts, bytes_eq-Decides, settle_fault, turn_fault}
+use Rattle.command_line.proofs.Common.{walk_fault, Shape, accepts, reading_of, Held, Row, Walk, arg_by_id, arg_by_long, at_row, has_row, is_pending}
+use Rattle.command_line.proofs.Common.{more_values, nothing_held, option, settled, walk_from, walked, with_values, without, Unsigned, CommandLine}
+use Rattle.command_line.proofs.Common.{past, Accepts-accepts, missing_of, parser_for, u64_limit, Choice, Flag, Usage, among, are_flags, flag_named}
+use Rattle.command_line.proofs.Common.{is_choice, switch, switch_text, within, AreOptionsOf, Given, IsValue, IsValueOf, has_option, option_words}
+use Rattle.command_line.proofs.Common.{text_given, value_words}
+use Rattle.clap.specs.Walk.{Text}
 use Rattle.clap.specs.declared.builder.value_parser.Reading.TheVariants.{AsWritten}
-use Rattle.clap.specs.declared.builder.value_parser.ValueParser.TheVariants.{Unsigned}
-use Rattle.clap.specs.declared.parser.matches.ValueSource.TheVariants.{CommandLine}
-use Rattle.clap.proofs.FaultLemmas.{past}
-use Rattle.clap.proofs.ValueTestLemmas.{Accepts-accepts}
-use Rattle.command_line.specs.Commands.{missing_of, parser_for, values_of}
-use Rattle.command_line.specs.Limits.{u64_limit}
-use Rattle.command_line.specs.Tables.{Choice, Flag, Usage, among, are_flags, flag_named, is_choice, switch, switch_text, within}
-use Rattle.command_line.specs.Words.{AreOptionsOf, Given, IsValue, IsValueOf, has_option, option_words, text_given, value_words}
+use Rattle.command_line.specs.Commands.{values_of}
 use Rattle.command_line.proofs.PlainLemmas.{IsPlain, value_is_plain}
-use Rattle.command_line.proofs.TableLemmas.{IsFlagWord, IsFound, built_calls, built_flag, built_usage, by_id, by_long, flag_word}
-use Rattle.command_line.proofs.TableLemmas.{found_flag}
+use Rattle.command_line.proofs.TableLemmas.{IsFlagWord, IsFound, built_calls, built_flag, built_usage, by_id, by_long, flag_word, found_flag}
 use Rattle.command_line.proofs.TableLemmas.{same_swapped}
 
 -- ---- rows

@@ -1,16 +1,12 @@
 -- The place of a text among words, and of an option among those of a table.
-use Rattle.std.proofs.Common.{◌≡◌, ◌∙◌, subst, ◌<◌, ◌≤◌, ◌-◌, ◌+◌, ℕ, Bool, true, false, cond, not, ◌||◌, option_map, refl, sym, ap, ap₂}
-use Rattle.std.proofs.Common.{arith, length, List, [], ◌∷◌, Option, Some, None, map, nat_lt, lt-ltb, ltb-false, suc}
-use Rattle.std.specs.List.{list_any, position, position_or_len}
+use Rattle.command_line.proofs.Common.{◌≡◌, ◌∙◌, subst, ◌<◌, ◌≤◌, ◌-◌, ◌+◌, ℕ, Bool, true, false, cond, not, ◌||◌, refl, sym, ap, ap₂, arith, length}
+use Rattle.command_line.proofs.Common.{List, [], ◌∷◌, Option, Some, None, map, nat_lt, lt-ltb, ltb-false, suc, list_any, position, position_or_len}
+use Rattle.command_line.proofs.Common.{Bor, bytes_eq, texts, list_any-map, StandsFor, is_named, Flag, choice_of, flag_of, is_among, place_named}
+use Rattle.command_line.proofs.Common.{ValueOption}
+use Rattle.std.proofs.Common.{option_map}
 use Rattle.std.specs.Prelude.{unwrap_or}
 use Rattle.std.proofs.lemmas.List.Sums.{prefix_len-le-length}
-use Rattle.std.specs.Borrow.{Bor}
-use Rattle.std.specs.Str.{bytes_eq}
-use Rattle.clap.specs.Walk.{Text, texts}
-use Rattle.clap.proofs.WalkLemmas.{list_any-map}
-use Rattle.command_line.specs.Requests.{StandsFor, is_named}
-use Rattle.command_line.specs.Tables.{Flag, choice_of, flag_of, is_among, place_named}
-use Rattle.command_line.specs.declared.table.ValueOption.{ValueOption}
+use Rattle.clap.specs.Walk.{Text}
 use Rattle.command_line.specs.declared.table.Values.{Values}
 use Rattle.command_line.specs.declared.table.Values.TheVariants.{Among}
 

@@ -1,15 +1,9 @@
 -- Words that are no flags.
-use Rattle.std.proofs.Common.{◌≡◌, ◌==◌, ◌||◌, ℕ, Bool, true, false, refl, ap, subst, sym, ◌∙◌, arith, List, [], ◌∷◌, None, Some}
-use Rattle.std.specs.List.{list_all}
-use Rattle.std.specs.Str.{bytes_eq}
-use Rattle.std.proofs.lemmas.Bool.{and_parts, eqb-true, not-true}
-use Rattle.std.proofs.lemmas.Slice.Eq.{bytes_eq-Decides}
+use Rattle.command_line.proofs.Common.{◌≡◌, ◌==◌, ◌||◌, ℕ, Bool, true, false, refl, ap, subst, sym, ◌∙◌, arith, List, [], ◌∷◌, None, Some, list_all}
+use Rattle.command_line.proofs.Common.{bytes_eq, and_parts, eqb-true, not-true, bytes_eq-Decides, long_of, short_of, IsSpelled, Choice, among}
+use Rattle.command_line.proofs.Common.{is_among, is_choice, is_no_flag, switch, within, IsValue}
 use Rattle.std.proofs.lemmas.Str.Parse.{digit_from_value}
-use Rattle.clap.specs.Lexer.{long_of, short_of}
 use Rattle.clap.specs.Walk.{Text}
-use Rattle.command_line.specs.Numbers.{IsSpelled}
-use Rattle.command_line.specs.Tables.{Choice, among, is_among, is_choice, is_no_flag, switch, within}
-use Rattle.command_line.specs.Words.{IsValue}
 
 -- the text is no flag and no `--`
 pub record IsPlain (text : Text) : Type 0 where

@@ -1,15 +1,10 @@
 -- What a parse by the command of a table says of the words.
-use Rattle.std.proofs.Common.{◌≡◌, ◌∙◌, ◌≤◌, true, ap, subst, List, [], ◌∷◌, length, ⊎_elim}
-use Rattle.clap.specs.Faults.{is_simple_and_free}
-use Rattle.clap.specs.Lexer.{usize_max}
-use Rattle.clap.specs.Words.{App, HasKind, HasMatchesOf, Text, fault_of, is_simple, kind_of, subcommand_of, subcommand_rows_of}
+use Rattle.command_line.proofs.Common.{◌≡◌, ◌∙◌, ◌≤◌, true, ap, subst, List, [], ◌∷◌, length, ⊎_elim, is_simple_and_free, usize_max, HasKind}
+use Rattle.command_line.proofs.Common.{HasMatchesOf, Text, fault_of, is_simple, kind_of, subcommand_of, subcommand_rows_of, ArgMatches, table_app}
+use Rattle.command_line.proofs.Common.{Asked, Asks, Meets, has_named, Usage, is_table, Given, Gives, IsUse}
+use Rattle.clap.specs.Words.{App}
 use Rattle.clap.specs.declared.error.Error.{Error}
 use Rattle.clap.specs.declared.error.kind.ErrorKind.TheVariants.{OutOfMemory}
-use Rattle.clap.specs.declared.parser.matches.ArgMatches.{ArgMatches}
-use Rattle.command_line.specs.Commands.{table_app}
-use Rattle.command_line.specs.Requests.{Asked, Asks, Meets, has_named}
-use Rattle.command_line.specs.Tables.{Usage, is_table}
-use Rattle.command_line.specs.Words.{Given, Gives, IsUse}
 use Rattle.command_line.proofs.RequestLemmas.{meets_some}
 use Rattle.command_line.proofs.TableLemmas.{free_table, simple_table}
 use Rattle.command_line.proofs.UseLemmas.{use_accepted, use_gives, use_named}

@@ -1,36 +1,21 @@
 -- Words of which no step of reading fails meet a subcommand.
-use Rattle.std.proofs.Common.{◌≡◌, ◌∙◌, ◌++◌, ◌&&◌, ◌≤◌, Bool, ℕ, zero, suc, true, false, cond, not, refl, sym, ap, subst, arith, map, List}
-use Rattle.std.proofs.Common.{[], ◌∷◌, Option}
-use Rattle.std.proofs.Common.{Some, None, is_some, codes}
-use Rattle.std.specs.List.{All, find, list_any}
-use Rattle.std.specs.Option.{option_and_then, option_map, option_map_or, unwrap_or}
-use Rattle.std.specs.Prelude.{nat_le, slice_get}
-use Rattle.std.specs.Str.{bytes_eq}
-use Rattle.std.proofs.lemmas.Bool.{leb-true, and_parts, or_parts}
-use Rattle.std.proofs.lemmas.Option.{same_Some}
-use Rattle.std.proofs.lemmas.Slice.Eq.{bytes_eq-Decides}
-use Rattle.clap.specs.Facts.{explicit_source}
-use Rattle.clap.specs.Faults.{built_fault, defaults_fault, fault_of, level_fault, settle_fault, values_fault, walk_fault}
-use Rattle.clap.specs.Kinds.{check_kinds, value_kinds, values_kinds}
-use Rattle.clap.specs.Simple.{App, Shape, argument_words, entered, names_of, rows_at, subcommand_of}
-use Rattle.clap.specs.Takes.{is_given}
-use Rattle.clap.specs.ValueTests.{accepts}
-use Rattle.clap.specs.Values.{refused_kind}
-use Rattle.clap.specs.Walk.{Row, Rule, Text, arg_by_id, first_of, nothing_held, rows_after, settled, stop_after, walk, walk_from}
-use Rattle.clap.specs.declared.builder.value_parser.ValueParser.{ValueParser}
-use Rattle.clap.specs.declared.builder.value_parser.ValueParser.TheVariants.{Unsigned}
-use Rattle.clap.proofs.ValueTestLemmas.{accepts-Accepts}
-use Rattle.command_line.specs.Commands.{parser_for, table_app}
-use Rattle.command_line.specs.Numbers.{IsNumber, number_of}
-use Rattle.command_line.specs.Requests.{AreCallsOf, AreNumbersOf, IsNumberOf, Meets, StandsFor, are_named, is_named, values_of}
-use Rattle.command_line.specs.Tables.{Choice, Flag, Usage, among, are_flags, are_usages, greatest_of, has_limits, is_choice, least_of}
-use Rattle.command_line.specs.Tables.{switch, usage_named, within}
+use Rattle.command_line.proofs.Common.{◌≡◌, ◌∙◌, ◌++◌, ◌&&◌, ◌≤◌, Bool, ℕ, zero, suc, true, false, cond, not, refl, sym, ap, subst, arith, map, List}
+use Rattle.command_line.proofs.Common.{[], ◌∷◌, Option, Some, None, is_some, codes, All, find, list_any, option_and_then, option_map, option_map_or}
+use Rattle.command_line.proofs.Common.{unwrap_or, nat_le, slice_get, bytes_eq, leb-true, and_parts, or_parts, same_Some, bytes_eq-Decides}
+use Rattle.command_line.proofs.Common.{explicit_source, built_fault, defaults_fault, level_fault, settle_fault, values_fault, walk_fault, check_kinds}
+use Rattle.command_line.proofs.Common.{value_kinds, values_kinds, App, Shape, argument_words, entered, names_of, rows_at, is_given, accepts}
+use Rattle.command_line.proofs.Common.{refused_kind, Row, Rule, arg_by_id, nothing_held, rows_after, settled, stop_after, walk, walk_from}
+use Rattle.command_line.proofs.Common.{ValueParser, Unsigned, accepts-Accepts, parser_for, table_app, IsNumber, number_of, AreCallsOf, AreNumbersOf}
+use Rattle.command_line.proofs.Common.{IsNumberOf, Meets, StandsFor, are_named, is_named, values_of, Choice, Flag, Usage, among, are_flags}
+use Rattle.command_line.proofs.Common.{are_usages, greatest_of, has_limits, is_choice, least_of, switch, usage_named, within}
+use Rattle.clap.specs.Faults.{fault_of}
+use Rattle.clap.specs.Simple.{subcommand_of}
+use Rattle.clap.specs.Walk.{Text, first_of}
 use Rattle.command_line.proofs.PlaceLemmas.{place_among}
 use Rattle.command_line.proofs.RowLemmas.{AllOwn, HasValues, IsOwn, RowPasses, RowsPass, level_passes, neither, wants_value}
 use Rattle.command_line.proofs.StopLemmas.{enters}
-use Rattle.command_line.proofs.TableLemmas.{built_calls, built_flag, built_is, built_rules, built_table, built_tail, built_usage}
-use Rattle.command_line.proofs.TableLemmas.{flag_parts, found_usage}
-use Rattle.command_line.proofs.TableLemmas.{named_so, rules_own, usage_found}
+use Rattle.command_line.proofs.TableLemmas.{built_calls, built_flag, built_is, built_rules, built_table, built_tail, built_usage, flag_parts}
+use Rattle.command_line.proofs.TableLemmas.{found_usage, named_so, rules_own, usage_found}
 
 -- ---- numbers
 

@@ -2,47 +2,29 @@
 -- each row pass the parser of its argument, and there are some where each use of it wants some. Each
 -- lemma says so of one step: it leaves rows that pass where the rows before it do and the step has no
 -- fault.
-use Rattle.std.proofs.Common.{◌≡◌, ◌∙◌, arith, ◌+◌, ◌++◌, ◌&&◌, ◌||◌, ℕ, Bool, zero, suc, true, false, not, cond, refl, sym, ap, subst, List, []}
-use Rattle.std.proofs.Common.{◌∷◌, length, min}
-use Rattle.std.proofs.Common.{drop, nat_lt, Option, Some, None, is_some}
-use Rattle.std.specs.List.{find, fold}
-use Rattle.std.specs.Option.{option_map_or}
-use Rattle.std.specs.Prelude.{encode_utf8, slice_get}
-use Rattle.std.specs.Str.{bytes_eq, chars}
-use Rattle.std.proofs.lemmas.Bool.{ne_eqb}
-use Rattle.std.proofs.lemmas.Option.{same_Some}
-use Rattle.std.proofs.lemmas.Slice.Eq.{bytes_eq-Decides}
-use Rattle.clap.specs.Facts.{parser_of_value, unwrap_or_range}
-use Rattle.clap.specs.Faults.{action_fault, bundle_fault, bundle_step_fault, count_fault, default_fault, defaults_fault, flag_word_fault}
-use Rattle.clap.specs.Faults.{flags_fault}
-use Rattle.clap.specs.Faults.{given_default_fault, level_fault, long_fault, option_fault, other_fault, positional_fault, react_fault}
-use Rattle.clap.specs.Faults.{repeat_fault, set_fault}
-use Rattle.clap.specs.Faults.{settle_fault, short_fault, step_fault, stray_fault, turn_fault, use_fault, values_fault, walk_fault}
-use Rattle.clap.specs.Faults.{word_fault}
-use Rattle.clap.specs.Kinds.{Kinds, or_else, range_kinds, request_kinds, value_kinds, values_kinds}
-use Rattle.clap.specs.Lexer.{long_of, short_of}
+use Rattle.command_line.proofs.Common.{◌≡◌, ◌∙◌, arith, ◌+◌, ◌++◌, ◌&&◌, ◌||◌, ℕ, Bool, zero, suc, true, false, not, cond, refl, sym, ap, subst, List}
+use Rattle.command_line.proofs.Common.{[], ◌∷◌, length, min, drop, nat_lt, Option, Some, None, is_some, find, fold, option_map_or, encode_utf8}
+use Rattle.command_line.proofs.Common.{slice_get, bytes_eq, chars, ne_eqb, same_Some, bytes_eq-Decides, parser_of_value, unwrap_or_range}
+use Rattle.command_line.proofs.Common.{action_fault, bundle_fault, bundle_step_fault, count_fault, default_fault, defaults_fault, flag_word_fault}
+use Rattle.command_line.proofs.Common.{flags_fault, given_default_fault, level_fault, long_fault, option_fault, other_fault, positional_fault}
+use Rattle.command_line.proofs.Common.{react_fault, repeat_fault, set_fault, settle_fault, short_fault, step_fault, stray_fault, turn_fault}
+use Rattle.command_line.proofs.Common.{use_fault, values_fault, walk_fault, word_fault, Kinds, or_else, range_kinds, request_kinds, value_kinds}
+use Rattle.command_line.proofs.Common.{values_kinds, long_of, short_of, Shape, Held, Names, Outcome, Row, Rule, Step, Waiting, Walk, action_of}
+use Rattle.command_line.proofs.Common.{after_flag, after_step, arg_by_id, arg_by_index, arg_by_long, arg_by_short, at_row, attached_value, bundle}
+use Rattle.command_line.proofs.Common.{bundle_met, bundle_step, count_of, counted, default_rows, done, flag_met, has_row, idle, is_empty, is_pending}
+use Rattle.command_line.proofs.Common.{long_met, long_or_other, more_values, most_values, new_count, next, nothing_held, option, option_met}
+use Rattle.command_line.proofs.Common.{option_word, plain, plain_word, positional, positional_held, pushed, reacted, reading_by, refused, rows_after}
+use Rattle.command_line.proofs.Common.{settled, settled_rows, short_met, short_or_plain, subcommand, subcommand_met, subcommand_or_other}
+use Rattle.command_line.proofs.Common.{takes_several, takes_values, to_positional, trailing, used, used_as, used_by_id, value, values_or_missing}
+use Rattle.command_line.proofs.Common.{waits, walk, walk_from, walked, walked_from, with_count, with_default, with_values, without, word_met}
+use Rattle.command_line.proofs.Common.{ValueParser, CommandLine, DefaultValue}
 use Rattle.clap.specs.Matches.{count_text}
-use Rattle.clap.specs.Simple.{Shape}
-use Rattle.clap.specs.Walk.{Held, Names, Outcome, Row, Rule, Step, Text, Waiting, Walk, action_of, after_flag, after_step, arg_by_id}
-use Rattle.clap.specs.Walk.{arg_by_index, arg_by_long}
-use Rattle.clap.specs.Walk.{arg_by_short, at_row, attached_value, bundle, bundle_met, bundle_step, count_of, counted, default_rows, done}
-use Rattle.clap.specs.Walk.{flag_met, has_row}
-use Rattle.clap.specs.Walk.{idle, is_empty, is_pending, long_met, long_or_other, more_values, most_values, new_count, next, nothing_held}
-use Rattle.clap.specs.Walk.{option, option_met}
-use Rattle.clap.specs.Walk.{option_word, plain, plain_word, positional, positional_held, pushed, reacted, reading_by, refused, rows_after}
-use Rattle.clap.specs.Walk.{settled}
-use Rattle.clap.specs.Walk.{settled_rows, short_met, short_or_plain, subcommand, subcommand_met, subcommand_or_other, takes_several}
-use Rattle.clap.specs.Walk.{takes_values}
-use Rattle.clap.specs.Walk.{to_positional, trailing, used, used_as, used_by_id, value, values_or_missing, waits, walk, walk_from, walked}
-use Rattle.clap.specs.Walk.{walked_from}
-use Rattle.clap.specs.Walk.{with_count, with_default, with_values, without, word_met}
+use Rattle.clap.specs.Walk.{Text}
 use Rattle.clap.specs.declared.builder.action.ArgAction.{ArgAction}
+use Rattle.clap.specs.declared.builder.value_parser.Reading.{Reading}
+use Rattle.clap.specs.declared.parser.matches.ValueSource.{ValueSource}
 use Rattle.clap.specs.declared.builder.action.ArgAction.TheVariants as action
 use Rattle.clap.specs.declared.error.kind.ErrorKind.TheVariants as kind
-use Rattle.clap.specs.declared.builder.value_parser.Reading.{Reading}
-use Rattle.clap.specs.declared.builder.value_parser.ValueParser.{ValueParser}
-use Rattle.clap.specs.declared.parser.matches.ValueSource.{ValueSource}
-use Rattle.clap.specs.declared.parser.matches.ValueSource.TheVariants.{CommandLine, DefaultValue}
 
 -- ---- kinds
 

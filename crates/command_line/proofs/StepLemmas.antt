@@ -1,14 +1,8 @@
 -- One more row or option of a loop over them.
-use Rattle.std.proofs.Common.{◌≡◌, ◌∙◌, ◌++◌, ◌+◌, ◌<◌, ℕ, zero, suc, false, refl, sym, ap, subst, arith, map, take, length, List, [], ◌∷◌}
-use Rattle.std.proofs.Common.{Option}
-use Rattle.std.specs.List.{slice_index_or}
-use Rattle.std.proofs.lemmas.List.{map-append, map_more}
+use Rattle.command_line.proofs.Common.{◌≡◌, ◌∙◌, ◌++◌, ◌+◌, ◌<◌, ℕ, zero, suc, false, refl, sym, ap, subst, arith, map, take, length, List, [], ◌∷◌}
+use Rattle.command_line.proofs.Common.{Option, slice_index_or, map-append, map_more, Text, leaf, option_rule, rules_for, table_app, AreNumbersOf}
+use Rattle.command_line.proofs.Common.{IsNumberOf, Flag, Usage, flag_of, has_none, usage_of, ValueOption}
 use Rattle.clap.specs.Simple.{with_rule, with_subcommand}
-use Rattle.clap.specs.Words.{Text}
-use Rattle.command_line.specs.Commands.{leaf, option_rule, rules_for, table_app}
-use Rattle.command_line.specs.Requests.{AreNumbersOf, IsNumberOf}
-use Rattle.command_line.specs.Tables.{Flag, Usage, flag_of, has_none, usage_of}
-use Rattle.command_line.specs.declared.table.ValueOption.{ValueOption}
 use Rattle.command_line.specs.declared.table.Subcommand.{Subcommand}
 
 -- ---- the command

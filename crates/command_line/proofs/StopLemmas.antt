@@ -1,23 +1,15 @@
 -- Where a simple command's own level stops: where no step fails, at a subcommand that is not `help`.
-use Rattle.std.proofs.Common.{◌≡◌, ◌&&◌, Bool, true, false, cond, not, refl, ap, List, [], ◌∷◌, Option, Some, None, is_some, codes}
-use Rattle.std.specs.List.{find, fold}
-use Rattle.std.specs.Option.{option_map, option_map_or}
-use Rattle.std.specs.Str.{bytes_eq}
-use Rattle.clap.specs.Faults.{built_fault, check_fault, defaults_fault, entered_fault, level_fault, other_fault, settle_fault, step_fault}
-use Rattle.clap.specs.Faults.{turn_fault}
-use Rattle.clap.specs.Faults.{walk_fault, word_fault}
-use Rattle.clap.specs.Kinds.{check_kinds, or_else}
-use Rattle.clap.specs.Lexer.{long_of, short_of}
-use Rattle.clap.specs.Simple.{App, Shape, entered, label_of, names_of, rows_at}
-use Rattle.clap.specs.Walk.{Held, Names, Outcome, Row, Rule, Step, Text, Waiting, Walk, after_flag, after_step, answers_to, arg_by_index}
-use Rattle.clap.specs.Walk.{arg_by_long, bundle}
-use Rattle.clap.specs.Walk.{done, finished, idle, long_met, long_or_other, next, nothing_held, option, plain, plain_word, positional}
-use Rattle.clap.specs.Walk.{refused, settled}
-use Rattle.clap.specs.Walk.{short_or_plain, subcommand, subcommand_met, subcommand_or_other, to_positional, trailing, value, waits, walk}
-use Rattle.clap.specs.Walk.{walk_from, walked}
-use Rattle.clap.specs.Walk.{walked_from, word_met}
-use Rattle.clap.specs.declared.error.kind.ErrorKind.TheVariants as kind
+use Rattle.command_line.proofs.Common.{◌≡◌, ◌&&◌, Bool, true, false, cond, not, refl, ap, List, [], ◌∷◌, Option, Some, None, is_some, codes, find}
+use Rattle.command_line.proofs.Common.{fold, option_map, option_map_or, bytes_eq, built_fault, check_fault, defaults_fault, entered_fault}
+use Rattle.command_line.proofs.Common.{level_fault, other_fault, settle_fault, step_fault, turn_fault, walk_fault, word_fault, check_kinds, or_else}
+use Rattle.command_line.proofs.Common.{long_of, short_of, App, Shape, entered, label_of, names_of, rows_at, Held, Names, Outcome, Row, Rule, Step}
+use Rattle.command_line.proofs.Common.{Waiting, Walk, after_flag, after_step, answers_to, arg_by_index, arg_by_long, bundle, done, finished, idle}
+use Rattle.command_line.proofs.Common.{long_met, long_or_other, next, nothing_held, option, plain, plain_word, positional, refused, settled}
+use Rattle.command_line.proofs.Common.{short_or_plain, subcommand, subcommand_met, subcommand_or_other, to_positional, trailing, value, waits, walk}
+use Rattle.command_line.proofs.Common.{walk_from, walked, walked_from, word_met}
+use Rattle.clap.specs.Walk.{Text}
 use Rattle.command_line.proofs.RowLemmas.{neither}
+use Rattle.clap.specs.declared.error.kind.ErrorKind.TheVariants as kind
 
 -- the name is that of the subcommand `help`, which the command has
 abbrev pub is_help : Shape → Text → Bool

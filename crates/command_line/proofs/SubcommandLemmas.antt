@@ -1,14 +1,10 @@
 -- Words of which the first names a subcommand of a simple command: the words after it are left to the
 -- subcommand, and have a fault only where it has one.
-use Rattle.std.proofs.Common.{◌≡◌, ◌∙◌, true, false, refl, sym, ap, List, [], ◌∷◌, Some, is_some}
-use Rattle.std.specs.List.{find, fold}
-use Rattle.clap.specs.Faults.{built_fault, check_fault, defaults_fault, entered_fault, level_fault, settle_fault, turn_fault, walk_fault}
-use Rattle.clap.specs.Kinds.{Kinds, or_else}
-use Rattle.clap.specs.Simple.{App, Shape, entered, label_of, names_of}
-use Rattle.clap.specs.Walk.{Held, Text, Walk, answers_to, finished, idle, nothing_held, rows_after, settled, subcommand_met, walk}
-use Rattle.clap.specs.Walk.{walk_from, walked}
-use Rattle.clap.proofs.FaultLemmas.{past, stopped_fault}
-use Rattle.clap.proofs.WalkLemmas.{walk_stopped}
+use Rattle.command_line.proofs.Common.{◌≡◌, ◌∙◌, true, false, refl, sym, ap, List, [], ◌∷◌, Some, is_some, find, fold, built_fault, check_fault}
+use Rattle.command_line.proofs.Common.{defaults_fault, entered_fault, level_fault, settle_fault, turn_fault, walk_fault, Kinds, or_else, App, Shape}
+use Rattle.command_line.proofs.Common.{entered, label_of, names_of, Held, Walk, answers_to, finished, idle, nothing_held, rows_after, settled}
+use Rattle.command_line.proofs.Common.{subcommand_met, walk, walk_from, walked, past, stopped_fault, walk_stopped}
+use Rattle.clap.specs.Walk.{Text}
 use Rattle.command_line.proofs.StopLemmas.{is_help}
 
 -- the word names this subcommand, and is not `help`

@@ -1,22 +1,14 @@
 -- The command of a table as `clap` builds it.
-use Rattle.std.proofs.Common.{◌≡◌, ◌==◌, ◌∙◌, ◌++◌, ◌&&◌, ◌||◌, ◌+◌, ℕ, Bool, true, false, not, cond, refl, sym, ap, ap₂, subst, arith}
-use Rattle.std.proofs.Common.{List, [], ◌∷◌, map, suc}
-use Rattle.std.proofs.Common.{Some, None, is_some, codes, true≢false}
-use Rattle.std.specs.Prelude.{count_by}
-use Rattle.std.specs.List.{before_first, find, list_all, list_any, position_or_len}
-use Rattle.std.specs.Option.{option_map}
-use Rattle.std.specs.Str.{bytes_eq}
-use Rattle.std.proofs.lemmas.Bool.{and_parts, or_parts, not-true}
-use Rattle.std.proofs.lemmas.Option.{same_Some}
-use Rattle.std.proofs.lemmas.Slice.Eq.{bytes_eq-Decides}
-use Rattle.clap.specs.Faults.{has_free_rules, is_simple_and_free}
-use Rattle.clap.specs.Simple.{App, Shape, built, built_leaf, filled, filled_from, help_rule, help_shape, inherited, is_in_order}
-use Rattle.clap.specs.Simple.{is_ready_leaf, is_simple}
-use Rattle.clap.specs.Simple.{is_simple_leaf, label_of, new_shape, with_index}
-use Rattle.clap.specs.Lexer.{has_byte, long_of}
-use Rattle.clap.specs.Walk.{Rule, Text, answers_to, arg_by_id, arg_by_index, arg_by_long, is_early_multiple, is_empty, subcommand_met, idle}
-use Rattle.command_line.specs.Commands.{calls_rule, calls_rules, leaf, option_rule, rules_for, table_app}
-use Rattle.command_line.specs.Tables.{Flag, Usage, are_flags, are_usages, flag_named, has_limits, is_flag_name, usage_named}
+use Rattle.command_line.proofs.Common.{◌≡◌, ◌==◌, ◌∙◌, ◌++◌, ◌&&◌, ◌||◌, ◌+◌, ℕ, Bool, true, false, not, cond, refl, sym, ap, ap₂, subst, arith, List}
+use Rattle.command_line.proofs.Common.{[], ◌∷◌, map, suc, Some, None, is_some, codes, true≢false, count_by, before_first, find, list_all, list_any}
+use Rattle.command_line.proofs.Common.{position_or_len, option_map, bytes_eq, and_parts, or_parts, not-true, same_Some, bytes_eq-Decides}
+use Rattle.command_line.proofs.Common.{has_free_rules, is_simple_and_free, App, Shape, built, built_leaf, filled, filled_from, help_rule, help_shape}
+use Rattle.command_line.proofs.Common.{inherited, is_in_order, is_ready_leaf, is_simple_leaf, label_of, new_shape, with_index, has_byte, long_of}
+use Rattle.command_line.proofs.Common.{Rule, answers_to, arg_by_id, arg_by_index, arg_by_long, is_early_multiple, is_empty, subcommand_met, idle}
+use Rattle.command_line.proofs.Common.{calls_rule, calls_rules, leaf, option_rule, rules_for, table_app, Flag, Usage, are_flags, are_usages}
+use Rattle.command_line.proofs.Common.{flag_named, has_limits, is_flag_name, usage_named}
+use Rattle.clap.specs.Simple.{is_simple}
+use Rattle.clap.specs.Walk.{Text}
 use Rattle.command_line.proofs.RowLemmas.{AllOwn, IsOwn, found_passes}
 use Rattle.command_line.proofs.StopLemmas.{is_help}
 use Rattle.command_line.proofs.SubcommandLemmas.{NamesSubcommand}

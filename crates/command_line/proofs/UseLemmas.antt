@@ -1,39 +1,24 @@
 -- A subcommand, options of it and calls are accepted, and ask for their numbers.
-use Rattle.std.proofs.Common.{◌≡◌, ◌∙◌, ◌++◌, ◌&&◌, ◌||◌, ◌≤◌, Bool, ℕ, suc, true, false, nat_lt, cond, not, refl, sym, ap, subst, arith}
-use Rattle.std.proofs.Common.{append_assoc}
-use Rattle.std.proofs.Common.{append-nil, length-append, le-ltb, map, length, List, [], ◌∷◌, Option, Some, None, is_some, codes}
-use Rattle.std.specs.List.{All, find, fold, list_any}
-use Rattle.std.specs.Option.{option_and_then, option_map, option_map_or, unwrap_or}
-use Rattle.std.specs.Prelude.{slice_get}
-use Rattle.std.specs.Str.{bytes_eq}
-use Rattle.std.proofs.lemmas.Bool.{and_parts, or_parts}
-use Rattle.std.proofs.lemmas.Option.{same_Some}
-use Rattle.std.proofs.lemmas.Slice.Eq.{bytes_eq-Decides}
-use Rattle.clap.specs.Facts.{explicit_source}
-use Rattle.clap.specs.Faults.{built_fault, check_fault, default_fault, defaults_fault, fault_of, given_default_fault, level_fault}
-use Rattle.clap.specs.Faults.{turn_fault, walk_fault}
-use Rattle.clap.specs.Kinds.{Kinds, values_kinds}
-use Rattle.clap.specs.Lexer.{usize_max}
-use Rattle.clap.specs.Simple.{App, argument_words, built, entered, names_of, subcommand_of}
-use Rattle.clap.specs.Takes.{is_given}
-use Rattle.clap.specs.Walk.{Held, Row, Rule, Text, Walk, arg_by_id, arg_by_index, finished, first_of, has_row, is_empty, is_pending}
-use Rattle.clap.specs.Walk.{nothing_held, positional}
-use Rattle.clap.specs.Walk.{rows_after, settled, walk, walk_from, walked, with_default}
-use Rattle.clap.proofs.FaultLemmas.{past}
-use Rattle.clap.proofs.ValueTestLemmas.{Accepts-accepts}
-use Rattle.command_line.specs.Commands.{table_app}
-use Rattle.command_line.specs.Numbers.{IsNumber, number_of}
-use Rattle.command_line.specs.Requests.{AreCallsOf, AreNumbersOf, Asked, Asks, IsNumberOf, are_named, has_named, is_named, values_of}
-use Rattle.command_line.specs.Tables.{Choice, Flag, Usage, among, are_flags, are_usages, flag_named, switch, switch_text, usage_named, within}
-use Rattle.command_line.specs.Words.{AreOptionsOf, Given, Gives, IsUse, IsValue, IsValueOf, has_option, has_required, option_words}
-use Rattle.command_line.specs.Words.{text_given, value_given}
+use Rattle.command_line.proofs.Common.{◌≡◌, ◌∙◌, ◌++◌, ◌&&◌, ◌||◌, ◌≤◌, Bool, ℕ, suc, true, false, nat_lt, cond, not, refl, sym, ap, subst, arith}
+use Rattle.command_line.proofs.Common.{append_assoc, append-nil, length-append, le-ltb, map, length, List, [], ◌∷◌, Option, Some, None, is_some}
+use Rattle.command_line.proofs.Common.{codes, All, find, fold, list_any, option_and_then, option_map, option_map_or, unwrap_or, slice_get, bytes_eq}
+use Rattle.command_line.proofs.Common.{and_parts, or_parts, same_Some, bytes_eq-Decides, explicit_source, built_fault, check_fault, default_fault}
+use Rattle.command_line.proofs.Common.{defaults_fault, given_default_fault, level_fault, turn_fault, walk_fault, Kinds, values_kinds, usize_max, App}
+use Rattle.command_line.proofs.Common.{argument_words, built, entered, names_of, is_given, Held, Row, Rule, Walk, arg_by_id, arg_by_index, finished}
+use Rattle.command_line.proofs.Common.{has_row, is_empty, is_pending, nothing_held, positional, rows_after, settled, walk, walk_from, walked}
+use Rattle.command_line.proofs.Common.{with_default, past, Accepts-accepts, table_app, IsNumber, number_of, AreCallsOf, AreNumbersOf, Asked, Asks}
+use Rattle.command_line.proofs.Common.{IsNumberOf, are_named, has_named, is_named, values_of, Choice, Flag, Usage, among, are_flags, are_usages}
+use Rattle.command_line.proofs.Common.{flag_named, switch, switch_text, usage_named, within, AreOptionsOf, Given, Gives, IsUse, IsValue, IsValueOf}
+use Rattle.command_line.proofs.Common.{has_option, has_required, option_words, text_given, value_given}
+use Rattle.clap.specs.Faults.{fault_of}
+use Rattle.clap.specs.Simple.{subcommand_of}
+use Rattle.clap.specs.Walk.{Text, first_of}
 use Rattle.command_line.proofs.OptionLemmas.{Goes, Settles, new_row, options_go, row_given, row_with, taken_all}
 use Rattle.command_line.proofs.PlainLemmas.{IsPlain, spelled_is_plain}
 use Rattle.command_line.proofs.RequestLemmas.{is_missing, number_parser}
 use Rattle.command_line.proofs.SubcommandLemmas.{TakesSubcommand, level_by, level_rest, name_enters, name_faultless}
-use Rattle.command_line.proofs.TableLemmas.{built_calls, built_flag, built_is, built_rules, built_table, built_usage, by_index}
-use Rattle.command_line.proofs.TableLemmas.{calls_by_id, flag_parts}
-use Rattle.command_line.proofs.TableLemmas.{found_flag, found_usage, names_usage, same_swapped}
+use Rattle.command_line.proofs.TableLemmas.{built_calls, built_flag, built_is, built_rules, built_table, built_usage, by_index, calls_by_id}
+use Rattle.command_line.proofs.TableLemmas.{flag_parts, found_flag, found_usage, names_usage, same_swapped}
 
 -- ---- no argument has a default of its own
 

@@ -1,6 +1,4 @@
-use Rattle.std.proofs.Common.{ap, ap₂, ◌∙◌}
-use Rattle.clap.specs.Simple.{App}
-use Rattle.clap.specs.Words.{with_subcommand}
+use Rattle.command_line.proofs.Common.{ap, ap₂, ◌∙◌, App, with_subcommand}
 use Rattle.command_line.proofs.StepLemmas.{one_usage}
 use Rattle.command_line.proofs.command.command_of.Goals as goal
 

@@ -1,7 +1,4 @@
-use Rattle.std.proofs.Common.{map, take, ◌≡◌}
-use Rattle.clap.specs.Words.{app_of}
-use Rattle.command_line.specs.Commands.{table_app}
-use Rattle.command_line.specs.Tables.{usage_of}
+use Rattle.command_line.proofs.Common.{map, take, ◌≡◌, app_of, table_app, usage_of}
 use Rattle.command_line.proofs.command.command_of.Given as goal
 
 abbrev pub invariant-loop-subcommand : goal.invariant-loop-subcommand

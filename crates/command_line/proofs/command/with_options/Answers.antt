@@ -1,5 +1,4 @@
-use Rattle.std.proofs.Common.{ap₂, Bool, ◌||◌, ◌∙◌}
-use Rattle.clap.specs.Words.{with_rule}
+use Rattle.command_line.proofs.Common.{ap₂, Bool, ◌||◌, ◌∙◌, with_rule}
 use Rattle.command_line.proofs.StepLemmas.{one_rule}
 use Rattle.command_line.proofs.command.with_options.Goals as goal
 

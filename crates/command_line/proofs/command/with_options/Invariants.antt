@@ -1,8 +1,5 @@
-use Rattle.std.proofs.Common.{map, take, false, ◌≡◌}
-use Rattle.clap.specs.Words.{app_of}
+use Rattle.command_line.proofs.Common.{map, take, false, ◌≡◌, app_of, leaf, option_rule, flag_of}
 use Rattle.clap.specs.declared.builder.command.Command.TheViews.{out-Command}
-use Rattle.command_line.specs.Commands.{leaf, option_rule}
-use Rattle.command_line.specs.Tables.{flag_of}
 use Rattle.command_line.proofs.command.with_options.Given as goal
 
 abbrev pub invariant-loop-option : goal.invariant-loop-option

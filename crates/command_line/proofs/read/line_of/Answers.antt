@@ -1,6 +1,5 @@
-use Rattle.std.proofs.Common.{refl}
-use Rattle.command_line.specs.Program.{bench_table, draw_usage, drive_usage, explain_usage, follow_usage, generate_usage, judge_usage}
-use Rattle.command_line.specs.Program.{locate_usage, page_usage, schedule_usage}
+use Rattle.command_line.proofs.Common.{refl, bench_table, draw_usage, drive_usage, explain_usage, follow_usage, generate_usage, judge_usage}
+use Rattle.command_line.proofs.Common.{locate_usage, page_usage, schedule_usage}
 use Rattle.command_line.proofs.AskableLemmas.{is_of}
 use Rattle.command_line.proofs.read.line_of.Goals as goal
 

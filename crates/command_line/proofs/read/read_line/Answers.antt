@@ -1,16 +1,11 @@
-use Rattle.std.proofs.Common.{subst, sym, List, [], ◌≡◌}
-use Rattle.clap.specs.Walk.{texts}
-use Rattle.clap.specs.Words.{Text, subcommand_of}
+use Rattle.command_line.proofs.Common.{subst, sym, List, [], ◌≡◌, texts, Text, subcommand_of, bench_app, bench_table, check_usage, draw_usage}
+use Rattle.command_line.proofs.Common.{drive_usage, judge_usage, locate_usage, Asks, usage_of, Gives}
 use Rattle.command_line.specs.WordsFaults.{IsAccepted, IsFaultAt}
-use Rattle.command_line.specs.Program.{bench_app, bench_table, check_usage, draw_usage, drive_usage, judge_usage, locate_usage}
-use Rattle.command_line.specs.Requests.{Asks}
-use Rattle.command_line.specs.Tables.{usage_of}
-use Rattle.command_line.specs.Words.{Gives}
 use Rattle.command_line.specs.declared.fault.LineFault.{LineFault}
-use Rattle.command_line.specs.declared.fault.LineFault.TheVariants as faults
 use Rattle.command_line.proofs.AskableLemmas.{askable, described}
-use Rattle.command_line.proofs.LineLemmas.{check_use, checks, draw_use, draws, drive_use, drives, judge_given, judge_use}
-use Rattle.command_line.proofs.LineLemmas.{judges, locate_given, locate_use, locates}
+use Rattle.command_line.proofs.LineLemmas.{check_use, checks, draw_use, draws, drive_use, drives, judge_given, judge_use, judges, locate_given}
+use Rattle.command_line.proofs.LineLemmas.{locate_use, locates}
+use Rattle.command_line.specs.declared.fault.LineFault.TheVariants as faults
 use Rattle.command_line.proofs.read.read_line.Goals as goal
 
 -- a fault that is `Memory` where the words are accepted may come at them

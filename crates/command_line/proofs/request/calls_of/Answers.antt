@@ -1,15 +1,8 @@
-use Rattle.std.proofs.Common.{ap, subst, sym, refl, true, map, codes, ℕ, Bool, List, [], Option, Some, None, ◌≡◌, ◌∙◌}
-use Rattle.std.specs.Borrow.{Bor}
-use Rattle.std.specs.Option.{option_map, unwrap_or}
-use Rattle.std.proofs.lemmas.Result.{IfOk-weaker}
-use Rattle.clap.specs.Walk.{texts}
-use Rattle.clap.specs.Words.{Text, found_of, matched_of, raw_values, rows_of}
-use Rattle.clap.specs.declared.parser.matches.Found.{Found}
-use Rattle.clap.proofs.WalkLemmas.{raw_values-rows}
-use Rattle.command_line.specs.Numbers.{number_of}
-use Rattle.command_line.specs.Requests.{AreCallsOf, values_of}
-use Rattle.command_line.proofs.request.calls_of.Goals as goal
+use Rattle.command_line.proofs.Common.{ap, subst, sym, refl, true, map, codes, ℕ, Bool, List, [], Option, Some, None, ◌≡◌, ◌∙◌, Bor, option_map}
+use Rattle.command_line.proofs.Common.{unwrap_or, IfOk-weaker, texts, Text, found_of, matched_of, raw_values, rows_of, Found, raw_values-rows}
+use Rattle.command_line.proofs.Common.{number_of, AreCallsOf, values_of}
 use Rattle.command_line.proofs.request.calls_of.Goals.{After-unwrap_or}
+use Rattle.command_line.proofs.request.calls_of.Goals as goal
 
 -- the texts that a getter lends are the values of the argument, none where it has no row
 texts_are : (got : Option (Bor (List (Bor Text)))) (none : Bor (List (Bor Text))) (f : Found) (id : Text) → none.now ≡ []

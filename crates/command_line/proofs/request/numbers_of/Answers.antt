@@ -1,14 +1,8 @@
-use Rattle.std.proofs.Common.{length, map, take, Ok, refl, sym, subst, ap, ap₂, List, [], ◌∷◌, ◌++◌, ℕ, ◌+◌, ◌<◌, ◌≡◌, ◌∙◌}
-use Rattle.std.specs.Borrow.{Bor}
-use Rattle.std.specs.List.{All, slice_index_or}
-use Rattle.std.specs.Prelude.{Result}
+use Rattle.command_line.proofs.Common.{length, map, take, Ok, refl, sym, subst, ap, ap₂, List, [], ◌∷◌, ◌++◌, ℕ, ◌+◌, ◌<◌, ◌≡◌, ◌∙◌, Bor, All}
+use Rattle.command_line.proofs.Common.{slice_index_or, Result, get_or-map, map_more, length-map, Ok-from_Ok_iff, OkIff-at_ok, texts, Text, IsNumber}
+use Rattle.command_line.proofs.Common.{number_of}
 use Rattle.std.specs.Result.{IsOk}
 use Rattle.std.specs.Str.Parse.{ParsesUnsigned}
-use Rattle.std.proofs.lemmas.List.{get_or-map, map_more, length-map}
-use Rattle.std.proofs.lemmas.Result.{Ok-from_Ok_iff, OkIff-at_ok}
-use Rattle.clap.specs.Walk.{texts}
-use Rattle.clap.specs.Words.{Text}
-use Rattle.command_line.specs.Numbers.{IsNumber, number_of}
 use Rattle.command_line.proofs.request.numbers_of.Goals as goal
 
 module _ {E : Type 0} (words : List (Bor Text)) (i : ℕ) (d : Bor Text) (r : Result ℕ E)

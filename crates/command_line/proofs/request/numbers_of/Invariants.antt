@@ -1,6 +1,4 @@
-use Rattle.std.proofs.Common.{map, take, ◌≡◌}
-use Rattle.clap.specs.Walk.{texts}
-use Rattle.command_line.specs.Numbers.{number_of}
+use Rattle.command_line.proofs.Common.{map, take, ◌≡◌, texts, number_of}
 use Rattle.command_line.proofs.request.numbers_of.Given as goal
 
 abbrev pub invariant-loop-word : goal.invariant-loop-word

@@ -1,7 +1,4 @@
-use Rattle.std.proofs.Common.{map, take, subst, sym, ℕ, List, ◌+◌}
-use Rattle.clap.specs.Words.{first_value, found_of}
-use Rattle.command_line.specs.Requests.{AreNumbersOf}
-use Rattle.command_line.specs.Tables.{flag_of}
+use Rattle.command_line.proofs.Common.{map, take, subst, sym, ℕ, List, ◌+◌, first_value, found_of, AreNumbersOf, flag_of}
 use Rattle.command_line.proofs.StepLemmas.{number_at, one_number}
 use Rattle.command_line.proofs.request.numbers_of_options.Goals as goal
 

@@ -1,7 +1,4 @@
-use Rattle.std.proofs.Common.{map, take}
-use Rattle.clap.specs.Words.{first_value, found_of}
-use Rattle.command_line.specs.Requests.{AreNumbersOf}
-use Rattle.command_line.specs.Tables.{flag_of}
+use Rattle.command_line.proofs.Common.{map, take, first_value, found_of, AreNumbersOf, flag_of}
 use Rattle.command_line.proofs.request.numbers_of_options.Given as goal
 
 abbrev pub invariant-loop-option : goal.invariant-loop-option

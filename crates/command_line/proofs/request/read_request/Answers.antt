@@ -1,18 +1,12 @@
-use Rattle.std.proofs.Common.{ap, arith, map, subst, sym, length, true, List, [], Option, Result, Ok, Err, ◌≡◌, ◌∙◌, ◌≤◌}
-use Rattle.std.specs.Prelude.{IfErr, IfOk, MatchResult, OnOk}
-use Rattle.clap.specs.Words.{subcommand_rows_of}
-use Rattle.std.proofs.lemmas.List.{length-map}
-use Rattle.clap.specs.Lexer.{usize_max}
-use Rattle.clap.specs.Walk.{texts}
-use Rattle.clap.specs.Words.{App, Row, Text, fault_of, subcommand_of, takes}
-use Rattle.command_line.specs.Commands.{table_app}
-use Rattle.command_line.specs.Requests.{Asks, Meets, asked_of, has_named}
-use Rattle.command_line.specs.Tables.{Usage, usage_of}
-use Rattle.command_line.specs.declared.fault.LineFault.TheVariants as faults
-use Rattle.command_line.specs.Words.{Gives}
+use Rattle.command_line.proofs.Common.{ap, arith, map, subst, sym, length, true, List, [], Option, Ok, Err, ◌≡◌, ◌∙◌, ◌≤◌, IfErr, IfOk, MatchResult}
+use Rattle.command_line.proofs.Common.{OnOk, subcommand_rows_of, length-map, usize_max, texts, Text, fault_of, subcommand_of, takes, table_app, Asks}
+use Rattle.command_line.proofs.Common.{Meets, asked_of, has_named, Usage, usage_of, Gives}
+use Rattle.std.proofs.Common.{Result}
+use Rattle.clap.specs.Words.{App, Row}
 use Rattle.command_line.proofs.ReadLemmas.{accepted_as, memory_only, met_as, table_accepts, table_gives, table_meets, table_names}
-use Rattle.command_line.proofs.request.read_request.Goals as goal
 use Rattle.command_line.proofs.request.read_request.Goals.{After-of, After-request_of}
+use Rattle.command_line.specs.declared.fault.LineFault.TheVariants as faults
+use Rattle.command_line.proofs.request.read_request.Goals as goal
 
 pub request_of-requires : goal.request_of-requires
 request_of-requires c =

@@ -1,10 +1,6 @@
-use Rattle.std.proofs.Common.{ap, sym, refl, map, ℕ, Bool, true, false, not, true≢false, List, Option, Some, ◌≡◌, ◌∙◌}
-use Rattle.std.specs.Borrow.{Bor}
-use Rattle.std.specs.Option.{option_map}
-use Rattle.clap.specs.Words.{Text, first_of, first_value, found_of, rows_of, subcommand_name_of, subcommand_rows_of}
-use Rattle.clap.specs.declared.parser.matches.ArgMatches.{ArgMatches}
-use Rattle.command_line.specs.Requests.{AreNumbersOf, Meets, are_named, has_named}
-use Rattle.command_line.specs.Tables.{Usage, usage_named, usage_of}
+use Rattle.command_line.proofs.Common.{ap, sym, refl, map, ℕ, Bool, true, false, not, true≢false, List, Option, Some, ◌≡◌, ◌∙◌, Bor, option_map, Text}
+use Rattle.command_line.proofs.Common.{first_of, first_value, found_of, rows_of, subcommand_name_of, subcommand_rows_of, ArgMatches, AreNumbersOf}
+use Rattle.command_line.proofs.Common.{Meets, are_named, has_named, Usage, usage_named, usage_of}
 use Rattle.command_line.proofs.MatchLemmas.{is_met, names_met, numbers_met, same_named, same_numbers, value_in_rows}
 use Rattle.command_line.proofs.TableLemmas.{named_so}
 use Rattle.command_line.proofs.request.request_of.Goals as goal

@@ -1,5 +1,4 @@
-use Rattle.std.proofs.Common.{map, drop, ◌≡◌}
-use Rattle.command_line.specs.Tables.{usage_named, usage_of}
+use Rattle.command_line.proofs.Common.{map, drop, ◌≡◌, usage_named, usage_of}
 use Rattle.command_line.proofs.request.subcommand_named.Given as goal
 
 abbrev pub invariant-loop-subcommand : goal.invariant-loop-subcommand

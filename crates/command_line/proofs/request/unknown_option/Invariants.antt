@@ -1,7 +1,4 @@
-use Rattle.std.proofs.Common.{map, drop, ◌≡◌}
-use Rattle.clap.specs.Words.{first_value, found_of}
-use Rattle.command_line.specs.Requests.{are_named}
-use Rattle.command_line.specs.Tables.{flag_of}
+use Rattle.command_line.proofs.Common.{map, drop, ◌≡◌, first_value, found_of, are_named, flag_of}
 use Rattle.command_line.proofs.request.unknown_option.Given as goal
 
 abbrev pub invariant-loop-option : goal.invariant-loop-option
