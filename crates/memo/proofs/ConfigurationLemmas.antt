@@ -10,6 +10,7 @@ use Rattle.events.specs.Lists.{has_number}
 use Rattle.map_object.specs.MapObject.{Contents}
 use Rattle.orders.specs.Orders.{after_call, after_calls, calls_at}
 use Rattle.memo.specs.Configurations.{Configuration, LeadsTo}
+use Rattle.memo.specs.Equality.{same_configuration}
 use Rattle.events.proofs.Lists.{Contains-filter, Contains-from_filter, Contains-range}
 use Rattle.orders.proofs.OrderLemmas.{after_calls-push}
 use Rattle.events.proofs.NumberLemmas.{has_number-Contains, has_number-from_Contains}
@@ -18,10 +19,6 @@ use Rattle.events.proofs.RisingLemmas.{rising_unique, IsStrictlyIncreasing-range
 -- a configuration by its parts
 abbrev pub configuration_of : List ℕ → Contents → Configuration
 configuration_of taken pairs = record { taken = taken; pairs = pairs }
-
--- configurations with the same parts are the same
-pub same_configuration : (c d : Configuration) → c.taken ≡ d.taken → c.pairs ≡ d.pairs → c ≡ d
-same_configuration c d taken pairs = ap (λ t. configuration_of t c.pairs) taken ∙ ap (λ m. configuration_of d.taken m) pairs
 
 -- a front leads to one configuration
 pub configuration_unique : (start : Contents) (calls : List Operation) (front : List ℕ) (c d : Configuration) → LeadsTo start calls front c

@@ -1,13 +1,13 @@
 -- A test whether two configurations are the same, with the proof that it decides exactly that.
-use Rattle.std.specs.Prelude.{◌≡◌, ℕ, Bool, true, ◌==◌, ◌&&◌}
+use Rattle.std.specs.Prelude.{◌≡◌, ℕ, Bool, true, ◌==◌, ◌&&◌, List}
 use Rattle.std.specs.Bool.{Decides}
 use Rattle.std.specs.Cmp.{IsEquivalence, decided, unsigned_Decides}
 use Rattle.std.specs.Cmp.Lexicographic.{pointwise, pointwise_decides}
 use Rattle.std.proofs.Common.{ap, ap₂}
 use Rattle.std.proofs.lemmas.Bool.Decides.{Decides-and, Decides-like}
+use Rattle.map_object.specs.MapObject.{Contents}
 use Rattle.memo.specs.Configurations.{Configuration}
 use Rattle.memo.specs.Digest.{digest_of}
-use Rattle.memo.proofs.ConfigurationLemmas.{same_configuration}
 
 -- two pairs have the same key and the same value
 abbrev pub is_same_pair : ℕ × ℕ → ℕ × ℕ → Bool
@@ -26,6 +26,14 @@ pub Decides-is_same_pair : (a b : ℕ × ℕ) → Decides (is_same_pair a b) (a 
 Decides-is_same_pair a b =
     Decides-like (is_same_pair a b) (λ e. ap₂ pair_of e.0 e.1) (λ e. (ap (λ (p : ℕ × ℕ). p.0) e, ap (λ (p : ℕ × ℕ). p.1) e))
     (Decides-and (a.0 == b.0) (a.1 == b.1) (unsigned_Decides a.0 b.0) (unsigned_Decides a.1 b.1))
+
+-- a configuration by its parts
+abbrev configuration_of : List ℕ → Contents → Configuration
+configuration_of taken pairs = record { taken = taken; pairs = pairs }
+
+-- configurations with the same parts are the same
+pub same_configuration : (c d : Configuration) → c.taken ≡ d.taken → c.pairs ≡ d.pairs → c ≡ d
+same_configuration c d taken pairs = ap₂ configuration_of taken pairs
 
 -- two configurations are the same if their calls taken and their pairs are
 pub Decides-is_same : (a b : Configuration) → Decides (is_same a b) (a ≡ b)
