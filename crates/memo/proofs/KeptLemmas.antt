@@ -8,7 +8,8 @@ use Rattle.memo.proofs.Common.{Kept, kept_of, same_kept, configuration_from, IsK
 use Rattle.events.proofs.NumberLemmas.{IsSomeAnd-within}
 use Rattle.events.proofs.FilterLemmas.{Contains-map, Contains-from_map, AllPairs-map, AllPairs-weaker}
 use Rattle.memo.specs.Counts.{AreDistinct}
-use Rattle.memo.proofs.ConfigurationLemmas.{configuration_of, same_configuration}
+use Rattle.memo.proofs.ConfigurationLemmas.{configuration_of}
+use Rattle.memo.specs.Equality.{same_configuration}
 use Rattle.memo.proofs.DifferenceLemmas.{pairs_from-is, pairs_from-rises, value_at-from, same_put, same_gone, IsDifference-start, IsDifference-with}
 use Rattle.memo.proofs.DigestLemmas.{digest_after, digest_as_before, digest_anew, sum_changed, sum_by-with_place}
 
