@@ -1,4 +1,12 @@
 mod Common
+pub mod words
+pub mod trees
+pub mod alone
+pub mod writes
+pub mod walks
+pub mod serial
+pub mod inserts
+pub mod maps
 pub mod versions
 pub mod moments
 pub mod points

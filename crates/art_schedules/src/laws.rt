@@ -1,15 +1,22 @@
-// Laws of every schedule, by parts.
+// Laws of calls that run alone, and of every schedule, by parts.
+pub mod alone;
 pub mod calls;
 pub mod changes;
 pub mod coupled;
 pub mod coupled_runs;
 pub mod effects;
+pub mod inserts;
 pub mod locked_scans;
+pub mod maps;
 pub mod moments;
 pub mod optimistic;
 pub mod optimistic_runs;
 pub mod points;
 pub mod scan_points;
+pub mod serial;
 pub mod stories;
+pub mod trees;
 pub mod versions;
+pub mod walks;
+pub mod words;
 pub mod work;

@@ -3,7 +3,7 @@ pub use Rattle.std.proofs.Common.{Bool, IsTrue, List, Some, [], ap, append-nil, 
 pub use Rattle.std.proofs.Common.{refl, rules, string_bytes, subst, sym, take, true, ℕ, ⊎_elim, ◌++◌, ◌+◌, ◌<◌, ◌↔◌, ◌∙◌, ◌∷◌, ◌≡◌, ◌≢◌, ◌≤◌}
 pub use Rattle.art_rows.specs.declared.table.Shape.{Shape}
 pub use Rattle.art_rows.specs.declared.variant.Variant.{Variant}
-pub use Rattle.drives.specs.Drives.{IsDrivable, IsDriveOf}
+pub use Rattle.running.specs.Drives.{IsDrivable, IsDriveOf}
 pub use Rattle.events.specs.HistoryView.{HistoryView}
 pub use Rattle.events.specs.Operations.{operations}
 pub use Rattle.events.specs.declared.event.Call.{Call}

@@ -11,10 +11,10 @@ use Rattle.plans.specs.declared.fault.PlanFault.TheVariants as plans
 use Rattle.plans.specs.Plans.{AreScripts}
 use Rattle.plan_text.specs.PlanTexts.{SpellsPlan}
 use Rattle.plan_text.specs.PlanTextFaults.{IsPlanTextFault}
-use Rattle.drives.specs.Drives.{IsDrivable, IsDriveOf}
+use Rattle.running.specs.Drives.{IsDrivable, IsDriveOf}
 use Rattle.art_rows.specs.declared.table.Shape.{Shape}
 use Rattle.art_rows.specs.declared.variant.Variant.{Variant}
-use Rattle.drives.specs.ArenaDrives.{IsArenaDriveOf}
+use Rattle.running.specs.ArenaDrives.{IsArenaDriveOf}
 use Rattle.cli_outcome.specs.declared.outcome.Answer.{Answer}
 use Rattle.cli_outcome.specs.declared.outcome.Answer.TheVariants.{Yes}
 use Rattle.cli_outcome.specs.Lines.{line}

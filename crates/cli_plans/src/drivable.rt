@@ -9,11 +9,11 @@ ghost use Rattle.cli_plans.specs.Outcomes.{IsUndrivenOutcome, IsHistoryOutcome};
 
 use crate::faults::plan_fault_outcome;
 use cli_outcome::{Answer, CommandOutcome, line_of};
-use drives::is_drivable;
 use events::{History, Memory};
 use history_text::{spells_between_white_space, write_history};
 use plan_text::read_plan;
 use plans::{Plan, PlanFault};
+use running::is_drivable;
 use std::alloc::Global;
 
 /// The plan that a text spells, if it can be driven, or else the outcome that says why not.

@@ -11,9 +11,9 @@ ghost use Rattle.cli_plans.specs.Outcomes.{IsDriveOutcome};
 use crate::drivable::{drivable_plan, history_outcome};
 use cli_io::{Sink, Source};
 use cli_outcome::{CommandOutcome, run_text};
-use drives::drive_subject;
 use history_text::MAX_TEXT;
 use recorder::Subject;
+use running::drive_subject;
 use std::alloc::Global;
 use std::thread::Threads;
 

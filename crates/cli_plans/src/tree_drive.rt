@@ -14,9 +14,9 @@ use crate::drivable::{drivable_plan, history_outcome};
 use art::{Shape, Variant};
 use cli_io::{Sink, Source};
 use cli_outcome::{CommandOutcome, run_text};
-use drives::drive_arena;
 use history_text::MAX_TEXT;
 use pool::Gate;
+use running::drive_arena;
 use std::alloc::Global;
 use std::thread::Threads;
 

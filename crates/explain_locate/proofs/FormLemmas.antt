@@ -2,7 +2,7 @@
 use Rattle.events.specs.declared.event.Reply.TheVariants as replies
 use Rattle.explain_locate.proofs.Common.{◌≡◌, ℕ, ◌<◌, ◌≤◌, ⊎_elim, List, Some, All, ap, arith, sym, ◌∙◌, cases_lt, none-some, Call, Get, Insert, Remove}
 use Rattle.explain_locate.proofs.Common.{Scan, Replace, Event, Reply, Contents, Violation, KeyCore, key_core, part_of, IsKeptWith, IsLost}
-use Rattle.follow_key_laws.specs.Forms.{ArePairsOf, IsScanReply}
+use Rattle.follow_laws.specs.Forms.{ArePairsOf, IsScanReply}
 use Rattle.follow_pasts.specs.Pasts.{IsDead}
 use Rattle.follow_parts.specs.Keeping.{pasts_of}
 use Rattle.follow_monitor.specs.Calls.{MayReply}

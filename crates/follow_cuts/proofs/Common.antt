@@ -17,14 +17,14 @@ pub use Rattle.events.specs.declared.event.Call.{Call}
 pub use Rattle.events.specs.declared.event.Call.TheVariants.{Get, Insert, Remove, Replace, Scan}
 pub use Rattle.events.specs.declared.operation.Operation.{Operation}
 pub use Rattle.events.specs.declared.operation.Response.{Response}
-pub use Rattle.follow_part_laws.specs.Leads.{IsMadeOf, Leads, Setting, Stand}
-pub use Rattle.follow_part_laws.specs.Pasts.{AreKeptAlike, ArePasts, FoundAt, HasInvocation, IsNameKept, IsPast, IsPastAfter, KeptPast, OpenReadsBeganAfter}
-pub use Rattle.follow_part_laws.specs.Pasts.{found_by}
-pub use Rattle.follow_key_laws.specs.Choices.{Choice}
-pub use Rattle.follow_key_laws.specs.KeyedCalls.{KeyedCall, concerns_key, effect_at, effect_of_key, is_answer, is_completed, keyed, no_effect, place_of}
-pub use Rattle.follow_key_laws.specs.KeyedCalls.{point_effect, read_of, told_effect}
-pub use Rattle.follow_key_laws.specs.Operations.{HasSomeKeyIn, OperationMayCome, without_call}
-pub use Rattle.follow_key_laws.specs.Parts.{Represent}
+pub use Rattle.follow_laws.specs.Leads.{IsMadeOf, Leads, Setting, Stand}
+pub use Rattle.follow_laws.specs.Pasts.{AreKeptAlike, ArePasts, FoundAt, HasInvocation, IsNameKept, IsPast, IsPastAfter, KeptPast, OpenReadsBeganAfter}
+pub use Rattle.follow_laws.specs.Pasts.{found_by}
+pub use Rattle.follow_laws.specs.Choices.{Choice}
+pub use Rattle.follow_laws.specs.KeyedCalls.{KeyedCall, concerns_key, effect_at, effect_of_key, is_answer, is_completed, keyed, no_effect, place_of}
+pub use Rattle.follow_laws.specs.KeyedCalls.{point_effect, read_of, told_effect}
+pub use Rattle.follow_laws.specs.Operations.{HasSomeKeyIn, OperationMayCome, without_call}
+pub use Rattle.follow_laws.specs.Parts.{Represent}
 pub use Rattle.events.proofs.FilterLemmas.{Contains-from_map, Contains-map}
 pub use Rattle.events.proofs.Lists.{All-at, All-from_contains, AllPairs-at, AllPairs-head, AllPairs-nil, AllPairs-tail, Any-first, Contains-at}
 pub use Rattle.events.proofs.Lists.{Contains-cases, Contains-filter, Contains-first, Contains-from_filter, Contains-later, Contains-nil}

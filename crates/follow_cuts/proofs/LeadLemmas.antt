@@ -4,8 +4,8 @@ use Rattle.follow_cuts.proofs.Common.{Contains-append_left, Contains-append_righ
 use Rattle.follow_cuts.proofs.Common.{Contains-later, Contains-nil, Contains-cases, Contains-at, place_of-Contains, Choice, Represent, KeptPast, IsPast}
 use Rattle.follow_cuts.proofs.Common.{ArePasts, AreKeptAlike, OpenReadsBeganAfter, Setting, Stand, Leads, Becomes, AreEnough}
 use Rattle.events.proofs.ZipLemmas.{zip_left, zip_right}
-use Rattle.follow_part_laws.proofs.AlikeLemmas.{alike_pasts_go}
-use Rattle.follow_part_laws.proofs.DropLemmas.{pasts_in_any_order}
+use Rattle.follow_laws.proofs.KeptAlikeLemmas.{alike_pasts_go}
+use Rattle.follow_laws.proofs.DropLemmas.{pasts_in_any_order}
 
 -- ---- kept alike
 

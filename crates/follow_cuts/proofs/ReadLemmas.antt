@@ -7,7 +7,7 @@ use Rattle.follow_cuts.proofs.Common.{effect_at, effect_of_key, read_of, keyed}
 use Rattle.events.specs.declared.event.Reply.{Reply}
 use Rattle.call_effects.specs.Replies.{IsRead as IsQuietCall}
 use Rattle.call_effects.specs.Values.{value_after, value_after_reply}
-use Rattle.follow_key_laws.specs.Apart.{IsRead}
+use Rattle.follow_laws.specs.Apart.{IsRead}
 
 just_is : (value : Option ℕ) (told : ℕ) → is_just value told ≡ true → value ≡ Some told
 just_is None told h = absurd (false≢true h)

@@ -10,14 +10,14 @@ use Rattle.follow_cuts.proofs.Common.{AreBranchKeys, IsBranching, IsNextAt, AreN
 use Rattle.follow_cuts.proofs.Common.{low_key, high_key, value_at}
 use Rattle.std.specs.List.{AllZip}
 use Rattle.call_effects.proofs.ReplyLemmas.{read_completed}
-use Rattle.follow_key_laws.specs.Cuts.{Keys}
-use Rattle.follow_key_laws.specs.Left.{HasKeysIn}
-use Rattle.follow_part_laws.specs.Cuts.{AreOwnOrBarredBy}
-use Rattle.follow_part_laws.proofs.BarredLemmas.{unbarred_pasts_come_next}
-use Rattle.follow_part_laws.proofs.NextLemmas.{reads_of_pasts_come_next}
+use Rattle.follow_laws.specs.Cuts.{Keys}
+use Rattle.follow_laws.specs.Left.{HasKeysIn}
+use Rattle.follow_laws.specs.KeptCuts.{AreOwnOrBarredBy}
+use Rattle.follow_laws.proofs.KeptBarredLemmas.{unbarred_pasts_come_next}
+use Rattle.follow_laws.proofs.KeptNextLemmas.{reads_of_pasts_come_next}
 use Rattle.follow_cuts.proofs.ReadLemmas.{quiet_read}
-use Rattle.follow_key_laws.specs.KeyedOrders.{AreKeyedCalls}
-use Rattle.follow_key_laws.proofs.OrderLemmas.{same_call}
+use Rattle.follow_laws.specs.KeyedOrders.{AreKeyedCalls}
+use Rattle.follow_laws.proofs.OrderLemmas.{same_call}
 
 -- ---- answers before a place
 

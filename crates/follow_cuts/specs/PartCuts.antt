@@ -1,8 +1,8 @@
 -- What cuts make of the pasts of some keys, as they are kept.
 use Rattle.std.specs.Prelude.{◌≡◌, ℕ, ◌<◌, ◌≤◌, false, List, ◌++◌, length, map, All, AllPairs, Any, Contains, ⊤}
 use Rattle.events.specs.Precedence.{is_before, NonePrecedesItself}
-use Rattle.follow_part_laws.specs.Pasts.{FoundAt, KeptPast, AreKeptAlike}
-use Rattle.follow_part_laws.specs.Leads.{Leads, IsMadeOf}
+use Rattle.follow_laws.specs.Pasts.{FoundAt, KeptPast, AreKeptAlike}
+use Rattle.follow_laws.specs.Leads.{Leads, IsMadeOf}
 use Rattle.follow_cuts.specs.declared.past.Found.{Found}
 use Rattle.follow_cuts.specs.declared.past.Past.{Past}
 use Rattle.follow_cuts.specs.declared.cut.Cut.{Cut}

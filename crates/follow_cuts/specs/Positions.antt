@@ -5,9 +5,9 @@ use Rattle.map_object.specs.MapObject.{Contents, value_at}
 use Rattle.events.specs.Precedence.{is_before}
 use Rattle.orders.specs.Orders.{IsLegalCall, after_call}
 use Rattle.call_effects.specs.Replies.{IsRead}
-use Rattle.follow_key_laws.specs.KeyedCalls.{concerns_key, effect_at, place_of}
-use Rattle.follow_part_laws.specs.Pasts.{KeptPast, IsPastAfter, found_by}
-use Rattle.follow_part_laws.specs.Leads.{IsMadeOf}
+use Rattle.follow_laws.specs.KeyedCalls.{concerns_key, effect_at, place_of}
+use Rattle.follow_laws.specs.Pasts.{KeptPast, IsPastAfter, found_by}
+use Rattle.follow_laws.specs.Leads.{IsMadeOf}
 use Rattle.follow_cuts.specs.PartCuts.{found_at, kept_of, AreShaped, Becomes, AreEnough, IsCutAt}
 use Rattle.follow_cuts.specs.declared.cut.Cut.{Cut}
 use Rattle.follow_cuts.specs.declared.cut.Cut.TheVariants.{Pasts, Spent}

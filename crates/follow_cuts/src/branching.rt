@@ -2,7 +2,7 @@
 ghost use Rattle.std.specs.Prelude.{◌≡◌, ◌↔◌, ◌<◌, ◌≤◌, ℕ, true, length, AllPairs, IfOk, IfSome, IsFalse, IsNone, IsTrue};
 ghost use Rattle.events.specs.declared.operation.Operation.{Operation as Done};
 ghost use Rattle.map_object.specs.MapObject.{value_at};
-ghost use Rattle.follow_key_laws.specs.KeyedCalls.{concerns_key, effect_at, read_of};
+ghost use Rattle.follow_laws.specs.KeyedCalls.{concerns_key, effect_at, read_of};
 ghost use Rattle.follow_cuts.specs.Positions.{AreBranchKeys, DoesNotTie, EndsFirst, HasBranchKey, HasSomeOf, IsBranching, IsFirstEnded, IsLeftAt, Misses, MissesSomeOf, kept_at, left_of};
 
 use crate::position::Position;

@@ -1,7 +1,7 @@
 // The pasts at a moment.
 ghost use Rattle.std.specs.Prelude.{◌≡◌, ◌<◌, length, map, All, AllPairs, Contains, IfOk, IsTrue};
 ghost use Rattle.events.specs.Precedence.{NonePrecedesItself};
-ghost use Rattle.follow_part_laws.specs.Pasts.{AreKeptAlike};
+ghost use Rattle.follow_laws.specs.Pasts.{AreKeptAlike};
 ghost use Rattle.follow_cuts.specs.PartCuts.{AreEnough, AreShaped, IsMade, kept_of};
 ghost use Rattle.follow_cuts.specs.Positions.{AreMadeOf, IsFrom, IsPastAt, kept_in};
 ghost use Rattle.follow_cuts.specs.declared.past.Past.{Past as PastValue};

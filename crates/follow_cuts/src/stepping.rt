@@ -2,8 +2,8 @@
 ghost use Rattle.std.specs.Prelude.{◌≡◌, ◌↔◌, ◌<◌, ◌≤◌, ℕ, false, length, List, All, AllPairs, IfSome, Some, IsTrue, MatchOption, OnOk};
 ghost use Rattle.events.specs.declared.operation.Operation.{Operation as Done};
 ghost use Rattle.events.specs.Precedence.{NonePrecedesItself, is_before};
-ghost use Rattle.follow_key_laws.specs.KeyedCalls.{place_of};
-ghost use Rattle.follow_part_laws.specs.Pasts.{KeptPast};
+ghost use Rattle.follow_laws.specs.KeyedCalls.{place_of};
+ghost use Rattle.follow_laws.specs.Pasts.{KeptPast};
 ghost use Rattle.follow_cuts.specs.PartCuts.{AreShaped};
 ghost use Rattle.follow_cuts.specs.Positions.{AreAdded, AreNexts, BecomesAfter, IsBranchAt, IsFirstEnded, IsFirstEndedIn, IsFrom, IsLeftAt, IsReadAt, MayComeAt, kept_in};
 

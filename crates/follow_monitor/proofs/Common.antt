@@ -59,17 +59,17 @@ pub use Rattle.explain_reads_from.specs.Writers.{is_undone, writes}
 pub use Rattle.explain_shrink.specs.Tells.{put_by}
 pub use Rattle.follow_cuts.specs.PartCuts.{found_at, kept_of}
 pub use Rattle.follow_cuts.specs.declared.past.Past.{Past}
-pub use Rattle.follow_key_laws.specs.Cuts.{Keys}
-pub use Rattle.follow_key_laws.specs.EffectLaws.{OrdersAreKeyedOrders}
-pub use Rattle.follow_key_laws.specs.Forms.{ArePairsOf, HasForm}
-pub use Rattle.follow_key_laws.specs.KeyedCalls.{concerns_key, is_refusal, keyed}
-pub use Rattle.follow_key_laws.specs.Left.{HasKeysIn, answered}
-pub use Rattle.follow_part_laws.proofs.PartLemmas.{IsKeptFirst, first_of}
-pub use Rattle.follow_part_laws.specs.Events.{IsWithRead}
-pub use Rattle.follow_part_laws.specs.KeptParts.{AreKept, IsOwn, KeptPart}
-pub use Rattle.follow_part_laws.specs.Pasts.{ArePasts, FoundAt, IsPast, KeptPast}
-pub use Rattle.follow_part_laws.specs.Reached.{HasPasts, IsReached, KeptPastsAreReached}
-pub use Rattle.follow_part_laws.specs.Steps.{GoesOn, KeptPartsDecide}
+pub use Rattle.follow_laws.specs.Cuts.{Keys}
+pub use Rattle.follow_laws.specs.EffectLaws.{OrdersAreKeyedOrders}
+pub use Rattle.follow_laws.specs.Forms.{ArePairsOf, HasForm}
+pub use Rattle.follow_laws.specs.KeyedCalls.{concerns_key, is_refusal, keyed}
+pub use Rattle.follow_laws.specs.Left.{HasKeysIn, answered}
+pub use Rattle.follow_laws.proofs.KeptPartLemmas.{IsKeptFirst, first_of}
+pub use Rattle.follow_laws.specs.Events.{IsWithRead}
+pub use Rattle.follow_laws.specs.KeptParts.{AreKept, IsOwn, KeptPart}
+pub use Rattle.follow_laws.specs.Pasts.{ArePasts, FoundAt, IsPast, KeptPast}
+pub use Rattle.follow_laws.specs.KeptReached.{HasPasts, IsReached, KeptPastsAreReached}
+pub use Rattle.follow_laws.specs.KeptSteps.{PartGoesOn, KeptPartsDecide}
 pub use Rattle.follow_parts.specs.Keeping.{HasEndedBy, IsAnswered, IsCounted, IsEndedBy, IsKeptBeside, IsStateOf, begun, is_reported, pasts_of}
 pub use Rattle.follow_parts.specs.Keeping.{reported, response_at}
 pub use Rattle.follow_parts.specs.Views.{PartsView, kept_parts}

@@ -2,7 +2,7 @@
 use Rattle.follow_monitor.proofs.Common.{◌≡◌, ◌≢◌, ℕ, ◌+◌, ◌-◌, ◌^◌, ◌<◌, ◌≤◌, ◌==◌, ◌++◌, ◌∷◌, [], List, Some, None, true, cond, refl, sym, ap, ◌∙◌}
 use Rattle.follow_monitor.proofs.Common.{subst, arith, All, false≢true, length_push, Call, Event, Invoke, Answer, Reply, Operation, IsWellFormed}
 use Rattle.follow_monitor.proofs.Common.{has_open_call, low_key, high_key, operations, IsWellFormed-push, Put, Contents, InvocationsKeepOrders}
-use Rattle.follow_monitor.proofs.Common.{operations-invoke, GoesOn, KeptPartsDecide, begun, is_reported, IsCounted, IsStateOf, PartsView, kept_parts}
+use Rattle.follow_monitor.proofs.Common.{operations-invoke, PartGoesOn, KeptPartsDecide, begun, is_reported, IsCounted, IsStateOf, PartsView, kept_parts}
 use Rattle.follow_monitor.proofs.Common.{MonitorView, known_call, IsFollowing, AreRecentPuts, OpenCall}
 use Rattle.follow_monitor.proofs.CallLemmas.{well_formed_on}
 use Rattle.follow_monitor.proofs.FaultLemmas.{waits, idles}
@@ -73,7 +73,7 @@ module _ (start : Contents) (events : List Event) (m : MonitorView) (process : �
   state_before = subst (λ (l : List Operation). IsStateOf start l m.parts) around_it.before h.state
 
   pub answer_taken : KeptPartsDecide → (parts : PartsView) (open_calls : List (ℕ × OpenCall)) (puts : List Put)
-      → IsStateOf start (operations then) parts → IsCounted m.parts parts → All GoesOn (kept_parts parts)
+      → IsStateOf start (operations then) parts → IsCounted m.parts parts → All PartGoesOn (kept_parts parts)
       → ((p : ℕ) → known_call open_calls p ≡ cond (p == process) None (known_call m.open_calls p))
       → AreRecentPuts (operations then) puts
       → IsFollowing start then (record { parts = parts; open_calls = open_calls; puts = puts; calls = m.calls })

@@ -4,7 +4,7 @@ use Rattle.follow_monitor.proofs.Common.{subst, arith, All, AllPairs, Any, Conta
 use Rattle.follow_monitor.proofs.Common.{take_at, All-contains, All-head, All-weaker, slice_get-map, Call, Get, Insert, Remove, Scan, Replace, Event}
 use Rattle.follow_monitor.proofs.Common.{Answer, Reply, Operation, Response, low_key, high_key, operations, inv_rises, AllPairs-across, AllPairs-back}
 use Rattle.follow_monitor.proofs.Common.{AllPairs-head, Contains-split, Contains-map, Contents, IsRising, IsLinearizable, IsAnswerOf, GoesWrongAt}
-use Rattle.follow_monitor.proofs.Common.{PrefixesHaveOrders, answered_at, completed_at, HasForm, OrdersAreKeyedOrders, KeptPart, GoesOn}
+use Rattle.follow_monitor.proofs.Common.{PrefixesHaveOrders, answered_at, completed_at, HasForm, OrdersAreKeyedOrders, KeptPart, PartGoesOn}
 use Rattle.follow_monitor.proofs.Common.{KeptPartsDecide, KeptPast, IsDead, covered, begun, is_reported, reported, IsKeptBeside, pasts_of, EndedPart}
 use Rattle.follow_monitor.proofs.Common.{MayReply, event_limit, answer_fault, MonitorView, known_call, IsCallOf, IsFollowing, OpenCall, map_fixed}
 use Rattle.std.proofs.Common.{append_assoc}
@@ -124,7 +124,7 @@ pub none_with_part : KeptPartsDecide → (start : Contents) (events : List Event
 none_with_part decide start events place part rising beside dead has =
     let own : KeptPart = record { keys = covered part.ranges.items; pasts = pasts_of part } in
     none_alive (pasts_of part) dead
-    (All-head GoesOn own beside.others ((decide start events place (own ∷ beside.others) rising beside.are_kept).0 has))
+    (All-head PartGoesOn own beside.others ((decide start events place (own ∷ beside.others) rising beside.are_kept).0 has))
 
 -- if no map answers the call so, there is no order
 pub none_without_form : OrdersAreKeyedOrders → (start : Contents) (events : List Event) (process : ℕ) (known : OpenCall) (reply : Reply)

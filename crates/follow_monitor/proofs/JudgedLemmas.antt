@@ -1,7 +1,7 @@
 -- What the parts make of an answer, for the events.
 use Rattle.follow_monitor.proofs.Common.{◌≡◌, ℕ, suc, ◌<◌, ◌==◌, true, false, List, [], ◌∷◌, ◌++◌, length, map, Some, None, cond, refl, sym, ap, ◌∙◌}
 use Rattle.follow_monitor.proofs.Common.{subst, ⊎_elim, All, AllZip, All-head, Event, Answer, Reply, Call, Operation, Response, may_change}
-use Rattle.follow_monitor.proofs.Common.{operations, OrdersAreKeyedOrders, answered, KeptPast, IsWithRead, GoesOn, KeptPartsDecide, Put, Contents}
+use Rattle.follow_monitor.proofs.Common.{operations, OrdersAreKeyedOrders, answered, KeptPast, IsWithRead, PartGoesOn, KeptPartsDecide, Put, Contents}
 use Rattle.follow_monitor.proofs.Common.{IsLinearizable, IsDead, AreDoubtful, covered, begun, is_reported, IsCounted, IsEndedBy, IsKeptBeside}
 use Rattle.follow_monitor.proofs.Common.{IsStateOf, pasts_of, response_at, PartsView, kept_parts, EndedPart, PrefixesHaveOrders, GoesWrongAt}
 use Rattle.follow_monitor.proofs.Common.{IsAnswerOf, IsLostPart, IsPendingIn, MayReply, event_limit, IsFollowing, IsLossAt, MonitorView, known_call}
@@ -57,7 +57,7 @@ module _ (start : Contents) (events : List Event) (m : MonitorView) (process : �
   }
 
   pub goes_on : KeptPartsDecide → (parts : PartsView) (open_calls : List (ℕ × OpenCall)) (puts : List Put)
-      → IsStateOf start calls_with parts × IsCounted m.parts parts × All GoesOn (kept_parts parts)
+      → IsStateOf start calls_with parts × IsCounted m.parts parts × All PartGoesOn (kept_parts parts)
       → ((p : ℕ) → known_call open_calls p ≡ cond (p == process) None (known_call m.open_calls p))
       → AreRecentPuts (operations then) puts
       → IsFollowing start then (record { parts = parts; open_calls = open_calls; puts = puts; calls = m.calls })

@@ -3,7 +3,7 @@ use Rattle.follow_monitor.proofs.Common.{◌≡◌, List, [], ◌∷◌, map, So
 use Rattle.follow_monitor.proofs.Common.{All-from_contains, Operation, keyed, Keys, ArePasts, IsOwn, first_of, kept_of, Past, covered, pasts_of}
 use Rattle.follow_monitor.proofs.Common.{IsOwnPartOf, OwnPartsHaveNoOrder, Put, Event, operations, precedes, NonePrecedesItself-operations, IsDead}
 use Rattle.std.specs.Prelude.{false}
-use Rattle.follow_key_laws.specs.Choices.{Choice}
+use Rattle.follow_laws.specs.Choices.{Choice}
 use Rattle.follow_monitor.specs.OwnParts.{KeyCore, part_of, puts_but}
 
 -- one past that is kept, and dead

@@ -8,8 +8,8 @@ use Rattle.follow_monitor.proofs.Common.{IsKeptBeside, pasts_of, HasKey, IsKeyLo
 use Rattle.follow_monitor.proofs.Common.{MayHave, ValuesAreReached, KeyViolation, Origin, Put, ◌&&◌, leb-true, Contains-filter, Contains-from_filter}
 use Rattle.follow_monitor.proofs.Common.{put_by, is_put, is_undone, same_call, HasKeysIn, IsReached, EndedPart, IsPutOf}
 use Rattle.std.proofs.Common.{eqb-true}
-use Rattle.follow_part_laws.proofs.NextLemmas.{zip_there}
-use Rattle.follow_part_laws.proofs.ReachLemmas.{kept_pasts_are_reached}
+use Rattle.follow_laws.proofs.KeptNextLemmas.{zip_there}
+use Rattle.follow_laws.proofs.KeptReachLemmas.{kept_pasts_are_reached}
 use Rattle.follow_monitor.proofs.AnyLemmas.{any_in, any_of}
 
 -- ---- keys of calls

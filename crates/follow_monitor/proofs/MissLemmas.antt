@@ -3,13 +3,13 @@ use Rattle.follow_monitor.proofs.Common.{◌≡◌, ℕ, suc, ◌<◌, true, fal
 use Rattle.follow_monitor.proofs.Common.{arith, All, Contains, AllZip, eq-eqb, ne_eqb, append_assoc, length_push, All-nil, All-head, All-tail}
 use Rattle.follow_monitor.proofs.Common.{All-contains, All-from_contains, Get, Event, Answer, Invoke, Reply, Operation, IsWellFormed, has_open_call}
 use Rattle.follow_monitor.proofs.Common.{operations, IsWellFormed-push, Contents, IsRising, IsLinearizable, begun_at, answered_at, invoked_before}
-use Rattle.follow_monitor.proofs.Common.{operations-invoke, is_refusal, HasKeysIn, KeptPast, IsWithRead, KeptPart, AreKept, IsOwn, GoesOn, IsOpenCall}
+use Rattle.follow_monitor.proofs.Common.{operations-invoke, is_refusal, HasKeysIn, KeptPast, IsWithRead, KeptPart, AreKept, IsOwn, PartGoesOn, IsOpenCall}
 use Rattle.follow_monitor.proofs.Common.{read_after, NothingIsMissed, IsKeptFirst, first_of}
 use Rattle.follow_monitor.proofs.AnyLemmas.{any_from_map}
 use Rattle.std.proofs.Common.{eqb-true}
-use Rattle.follow_part_laws.proofs.AnswerLemmas.{reads_are_answered}
-use Rattle.follow_part_laws.proofs.DecideLemmas.{kept_parts_decide}
-use Rattle.follow_part_laws.proofs.EventLemmas.{reads_begin}
+use Rattle.follow_laws.proofs.KeptAnswerLemmas.{reads_are_answered}
+use Rattle.follow_laws.proofs.KeptDecideLemmas.{kept_parts_decide}
+use Rattle.follow_laws.proofs.KeptEventLemmas.{reads_begin}
 use Rattle.follow_monitor.proofs.CallLemmas.{answered_calls}
 use Rattle.follow_monitor.proofs.OpenLemmas.{opened}
 
@@ -99,10 +99,10 @@ module _ (start : Contents) (events : List Event) (part : KeptPart) (rest : List
       (reads_begin start (length events) (operations events) (part ∷ rest) o refl refl refl kept)
 
   goes_on : IsLinearizable start (operations (begun ++ Answer process reply ∷ []))
-      → GoesOn (record { keys = part.keys; pasts = map (with_read read) part.pasts })
+      → PartGoesOn (record { keys = part.keys; pasts = map (with_read read) part.pasts })
   goes_on order =
       let then : KeptPart = record { keys = part.keys; pasts = map (with_read read) part.pasts } in
-      All-head GoesOn then rest
+      All-head PartGoesOn then rest
       ((kept_parts_decide start (begun ++ Answer process reply ∷ []) (suc (suc (length events))) (then ∷ rest) rising
       (subst (λ (l : List Operation). AreKept start (suc (suc (length events))) l (then ∷ rest)) (sym calls_then) kept_then)).0 order)
 

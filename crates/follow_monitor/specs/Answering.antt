@@ -4,7 +4,7 @@ use Rattle.events.specs.declared.event.Call.{Call}
 use Rattle.events.specs.declared.event.Reply.{Reply}
 use Rattle.events.specs.declared.operation.Operation.{Operation}
 use Rattle.map_object.specs.MapObject.{Contents}
-use Rattle.follow_part_laws.specs.Steps.{GoesOn}
+use Rattle.follow_laws.specs.KeptSteps.{PartGoesOn}
 use Rattle.follow_pasts.specs.Pasts.{IsDead, AreDoubtful}
 use Rattle.follow_parts.specs.Keeping.{begun, IsCounted, IsEndedBy, IsKeptBeside, IsStateOf, pasts_of, response_at}
 use Rattle.follow_parts.specs.Views.{PartsView, kept_parts}
@@ -29,7 +29,7 @@ IsLostPart start place calls call reply part =
 
 -- what the parts make of an answer, and the calls with it
 abbrev pub AreAnswered : Contents → ℕ → PartsView → List Operation → Call → Reply → Judged → Type 0
-AreAnswered start budget old calls call reply (Going next) = IsStateOf start calls next × IsCounted old next × All GoesOn (kept_parts next)
+AreAnswered start budget old calls call reply (Going next) = IsStateOf start calls next × IsCounted old next × All PartGoesOn (kept_parts next)
 AreAnswered start budget old calls call reply (Lost part) = IsLostPart start (suc old.now) calls call reply part
 AreAnswered start budget old calls call reply (Spent part) =
     MayReply call reply × IsKeptBeside start (suc old.now) calls part × AreDoubtful budget (pasts_of part)

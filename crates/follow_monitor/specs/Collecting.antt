@@ -5,7 +5,7 @@ use Rattle.events.specs.declared.event.Reply.{Reply}
 use Rattle.events.specs.declared.operation.Operation.{Operation}
 use Rattle.events.specs.Keys.{low_key, high_key}
 use Rattle.map_object.specs.MapObject.{Contents, value_at}
-use Rattle.follow_part_laws.specs.Pasts.{KeptPast}
+use Rattle.follow_laws.specs.Pasts.{KeptPast}
 use Rattle.follow_monitor.specs.KeyLosses.{IsOnlyKey, ReportsOther, pairs_in}
 use Rattle.follow_monitor.specs.declared.lost_keys.Origin.{Origin}
 use Rattle.follow_monitor.specs.declared.puts.Put.{Put}

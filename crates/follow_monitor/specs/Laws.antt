@@ -10,8 +10,8 @@ use Rattle.events.specs.HistoryFaults.{has_open_call}
 use Rattle.events.specs.Operations.{operations}
 use Rattle.map_object.specs.MapObject.{Contents, IsRising}
 use Rattle.orders.specs.Orders.{IsLinearizable}
-use Rattle.follow_key_laws.specs.KeyedCalls.{is_refusal}
-use Rattle.follow_part_laws.specs.KeptParts.{KeptPart, AreKept}
+use Rattle.follow_laws.specs.KeyedCalls.{is_refusal}
+use Rattle.follow_laws.specs.KeptParts.{KeptPart, AreKept}
 use Rattle.follow_pasts.specs.Ranges.{covered}
 use Rattle.follow_parts.specs.Keeping.{pasts_of}
 use Rattle.follow_monitor.specs.KeyLosses.{AreKeyLosses}

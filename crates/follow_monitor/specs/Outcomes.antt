@@ -9,7 +9,7 @@ use Rattle.map_object.specs.MapObject.{Contents}
 use Rattle.orders.specs.Orders.{IsLinearizable}
 use Rattle.follow_monitor.specs.declared.loss.Violation.{Violation}
 use Rattle.follow_monitor.specs.Prefixes.{GoesWrongAt, IsAnswerOf}
-use Rattle.follow_part_laws.specs.Reached.{IsReached}
+use Rattle.follow_laws.specs.KeptReached.{IsReached}
 use Rattle.follow_pasts.specs.Pasts.{IsDead, AreDoubtful}
 use Rattle.follow_pasts.specs.Ranges.{covered}
 use Rattle.follow_parts.specs.Keeping.{begun, IsEndedBy, IsKeptBeside, pasts_of, response_at}

@@ -1,6 +1,6 @@
 // Which replies some map gives to a call.
 ghost use Rattle.std.specs.Prelude.{◌↔◌, IsTrue, Some};
-ghost use Rattle.follow_key_laws.specs.Forms.{ArePairsOf, IsScanReply};
+ghost use Rattle.follow_laws.specs.Forms.{ArePairsOf, IsScanReply};
 ghost use Rattle.follow_monitor.specs.Calls.{MayReply};
 
 use events::{Call, Reply, is_above};

@@ -25,24 +25,24 @@ pub use Rattle.events.specs.declared.operation.Response.{Response}
 pub use Rattle.follow_orders.specs.Answers.{IsAnswer, IsAnswerWith}
 pub use Rattle.follow_orders.specs.Views.{HasCome, IsKeptOrder, StoredOrderView, MayCome}
 pub use Rattle.follow_orders.specs.declared.kept.Mended.{Mended}
-pub use Rattle.follow_part_laws.proofs.AnswerLemmas.{changes_are_answered, reads_are_answered}
-pub use Rattle.follow_part_laws.proofs.CallLemmas.{last_or_old}
-pub use Rattle.follow_part_laws.proofs.EventLemmas.{all_is_kept, changes_begin, reads_begin}
-pub use Rattle.follow_part_laws.proofs.PastLemmas.{kept_pasts_are_within, open_changes_are_kept, pasts_in_any_order_are_kept, zip_back, zip_forth}
-pub use Rattle.follow_part_laws.proofs.RestLemmas.{reads_at_rest_are_taken, reads_without_report_are_taken}
-pub use Rattle.follow_part_laws.proofs.StepLemmas.{any_to, dead_pasts_are_lost, parts_move, pasts_move_on}
-pub use Rattle.follow_part_laws.proofs.UniteLemmas.{kept_parts_fall_apart, kept_parts_unite}
-pub use Rattle.follow_part_laws.specs.Events.{AreAfterAnswer, IsAfterAnswer, IsWithRead, with_begun}
-pub use Rattle.follow_part_laws.specs.KeptParts.{AreKept, KeptPart, at_rest}
-pub use Rattle.follow_part_laws.specs.Reached.{HasPasts}
-pub use Rattle.follow_part_laws.specs.Steps.{GoesOn, IsKnownIn, IsWithinKeys, ReadsBeganAfter}
-pub use Rattle.follow_part_laws.specs.Pasts.{FoundAt, IsPast, KeptPast}
-pub use Rattle.follow_part_laws.specs.Unions.{FallsApart, IsTogether, both_keys}
-pub use Rattle.follow_key_laws.specs.Apart.{AreApart}
-pub use Rattle.follow_key_laws.specs.Cuts.{Keys}
-pub use Rattle.follow_key_laws.specs.Forms.{HasForm}
-pub use Rattle.follow_key_laws.specs.KeyedCalls.{IsNoEffect, concerns_key, effect_at, is_refused, keyed}
-pub use Rattle.follow_key_laws.specs.Left.{HasKeysIn, answered, pairs_at}
+pub use Rattle.follow_laws.proofs.KeptAnswerLemmas.{changes_are_answered, reads_are_answered}
+pub use Rattle.follow_laws.proofs.KeptCallLemmas.{last_or_old}
+pub use Rattle.follow_laws.proofs.KeptEventLemmas.{all_is_kept, changes_begin, reads_begin}
+pub use Rattle.follow_laws.proofs.PastLemmas.{kept_pasts_are_within, open_changes_are_kept, pasts_in_any_order_are_kept, zip_back, zip_forth}
+pub use Rattle.follow_laws.proofs.KeptRestLemmas.{reads_at_rest_are_taken, reads_without_report_are_taken}
+pub use Rattle.follow_laws.proofs.KeptStepLemmas.{any_to, dead_pasts_are_lost, parts_move, pasts_move_on}
+pub use Rattle.follow_laws.proofs.KeptUniteLemmas.{kept_parts_fall_apart, kept_parts_unite}
+pub use Rattle.follow_laws.specs.Events.{AreAfterAnswer, IsAfterAnswer, IsWithRead, with_begun}
+pub use Rattle.follow_laws.specs.KeptParts.{AreKept, KeptPart, at_rest}
+pub use Rattle.follow_laws.specs.KeptReached.{HasPasts}
+pub use Rattle.follow_laws.specs.KeptSteps.{PartGoesOn, IsKnownIn, IsWithinKeys, ReadsBeganAfter}
+pub use Rattle.follow_laws.specs.Pasts.{FoundAt, IsPast, KeptPast}
+pub use Rattle.follow_laws.specs.Unions.{FallsApart, IsTogether, both_keys}
+pub use Rattle.follow_laws.specs.Apart.{AreApart}
+pub use Rattle.follow_laws.specs.Cuts.{Keys}
+pub use Rattle.follow_laws.specs.Forms.{HasForm}
+pub use Rattle.follow_laws.specs.KeyedCalls.{IsNoEffect, concerns_key, effect_at, is_refused, keyed}
+pub use Rattle.follow_laws.specs.Left.{HasKeysIn, answered, pairs_at}
 pub use Rattle.events.proofs.FilterLemmas.{Contains-from_map, Contains-map}
 pub use Rattle.events.proofs.Lists.{All-at, All-back, All-from_contains, All-front, AllPairs-across, AllPairs-append, AllPairs-back}
 pub use Rattle.events.proofs.Lists.{AllPairs-front, AllPairs-head, AllPairs-nil, AllPairs-tail, Any-first, Any-later, Contains-around}

@@ -1,6 +1,6 @@
 -- Each part of a state goes on.
 use Rattle.follow_parts.proofs.Common.{◌≡◌, ℕ, ◌<◌, false, [], map, ◌≢◌, All, All-cons, All-map, All-nil, All-weaker, Operation, precedes, AllPairs-nil}
-use Rattle.follow_parts.proofs.Common.{Any-first, Contents, IsLinearizable, KeptPast, at_rest, GoesOn, kept_of, kept_part, past_of, Part, IsPartBefore}
+use Rattle.follow_parts.proofs.Common.{Any-first, Contents, IsLinearizable, KeptPast, at_rest, PartGoesOn, kept_of, kept_part, past_of, Part, IsPartBefore}
 use Rattle.follow_parts.proofs.Common.{IsShaped, PartsView, kept_parts, kept_rest}
 
 abbrev HasOrder : KeptPast → Type 0
@@ -20,14 +20,14 @@ none_ordered m = (
   },
 )
 
-rest_goes_on : (s : PartsView) → GoesOn (kept_rest s.rest s.parts)
+rest_goes_on : (s : PartsView) → PartGoesOn (kept_rest s.rest s.parts)
 rest_goes_on s = Any-first HasOrder (at_rest s.rest) [] (none_ordered s.rest)
 
-part_goes_on : (s : PartsView) (part : Part) → IsPartBefore s.now s.reads part → GoesOn (kept_part part)
+part_goes_on : (s : PartsView) (part : Part) → IsPartBefore s.now s.reads part → PartGoesOn (kept_part part)
 part_goes_on s part h =
     Any-first HasOrder (past_of part.first part.found.items) (map kept_of part.others.items) (part.first.order, h.first.order)
 
-pub parts_go_on : (s : PartsView) → IsShaped s → All GoesOn (kept_parts s)
+pub parts_go_on : (s : PartsView) → IsShaped s → All PartGoesOn (kept_parts s)
 parts_go_on s h =
-    All-cons GoesOn (kept_rest s.rest s.parts) (map kept_part s.parts) (rest_goes_on s)
-    (All-map GoesOn kept_part s.parts (All-weaker (IsPartBefore s.now s.reads) (λ part. GoesOn (kept_part part)) (λ part. part_goes_on s part) s.parts h.parts))
+    All-cons PartGoesOn (kept_rest s.rest s.parts) (map kept_part s.parts) (rest_goes_on s)
+    (All-map PartGoesOn kept_part s.parts (All-weaker (IsPartBefore s.now s.reads) (λ part. PartGoesOn (kept_part part)) (λ part. part_goes_on s part) s.parts h.parts))

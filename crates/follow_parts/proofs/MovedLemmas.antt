@@ -11,8 +11,8 @@ use Rattle.follow_parts.proofs.Common.{dead_pasts_are_lost, kept_parts_fall_apar
 use Rattle.follow_parts.proofs.Common.{IsBusyFor, IsOfKey, IsOnly, resting, outside, AreBegunAfter, Range, OpenRead, pairs_rise, same_keys, values_at_some}
 use Rattle.follow_parts.proofs.Common.{AreReadsOf, AreThoseAlive}
 use Rattle.std.proofs.lemmas.Bool.{eqb-true}
-use Rattle.follow_key_laws.specs.Operations.{HasSomeKeyIn}
-use Rattle.follow_part_laws.proofs.PartLemmas.{IsKeptFirst, first_of}
+use Rattle.follow_laws.specs.Operations.{HasSomeKeyIn}
+use Rattle.follow_laws.proofs.KeptPartLemmas.{IsKeptFirst, first_of}
 
 true_or_false : (b : Bool) → (b ≡ true) ⊎ (b ≡ false)
 true_or_false true = inl refl

@@ -10,15 +10,15 @@ use Rattle.follow_parts.proofs.Common.{Vec, Global, Part, OpenRead, AreBegunAfte
 use Rattle.follow_parts.proofs.MovedLemmas.{reads_began}
 use Rattle.std.proofs.lemmas.Bool.{ltb-true}
 use Rattle.orders.specs.Orders.{after_call}
-use Rattle.follow_key_laws.specs.Choices.{Choice}
-use Rattle.follow_key_laws.specs.Growth.{HaveGrown}
-use Rattle.follow_key_laws.specs.KeyedCalls.{KeyedCall, is_completed, place_of}
-use Rattle.follow_key_laws.proofs.OrderLemmas.{same_call}
-use Rattle.follow_key_laws.specs.Operations.{HasSomeKeyIn, OperationMayCome, without_call}
-use Rattle.follow_key_laws.specs.Parts.{Represent}
-use Rattle.follow_part_laws.specs.Leads.{IsMadeOf, Leads, Setting, Stand}
-use Rattle.follow_part_laws.specs.Pasts.{IsNameKept, IsPastAfter, OpenReadsBeganAfter, found_by}
-use Rattle.follow_part_laws.proofs.NextLemmas.{pasts_come_next}
+use Rattle.follow_laws.specs.Choices.{Choice}
+use Rattle.follow_laws.specs.Growth.{HaveGrown}
+use Rattle.follow_laws.specs.KeyedCalls.{KeyedCall, is_completed, place_of}
+use Rattle.follow_laws.proofs.OrderLemmas.{same_call}
+use Rattle.follow_laws.specs.Operations.{HasSomeKeyIn, OperationMayCome, without_call}
+use Rattle.follow_laws.specs.Parts.{Represent}
+use Rattle.follow_laws.specs.Leads.{IsMadeOf, Leads, Setting, Stand}
+use Rattle.follow_laws.specs.Pasts.{IsNameKept, IsPastAfter, OpenReadsBeganAfter, found_by}
+use Rattle.follow_laws.proofs.KeptNextLemmas.{pasts_come_next}
 use Rattle.follow_parts.specs.Settled.{AreAtRestThen}
 
 -- a list of one element

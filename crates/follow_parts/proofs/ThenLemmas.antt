@@ -7,7 +7,7 @@ use Rattle.follow_parts.proofs.Common.{Contents, Keys, pairs_at, IsKeptOrder, Ke
 use Rattle.follow_parts.proofs.Common.{AreCut, AreShaped, kept_of, Past, covered, kept_part, IsPastShaped, AreBusy, AreOnly, AreResting, IsOnly, resting}
 use Rattle.follow_parts.proofs.Common.{outside, AreBegunAfter, Part, Range, OpenRead, IsCallBefore, IsPastBefore, IsBesideReads, IsPartBefore, AreThen}
 use Rattle.follow_parts.proofs.Common.{AreThoseAlive, IsPartFrom, IsParted, MovesOn, AreOfLeft, kept_moved, Moved}
-use Rattle.follow_part_laws.specs.Leads.{IsMadeOf}
+use Rattle.follow_laws.specs.Leads.{IsMadeOf}
 use Rattle.follow_parts.proofs.MovedLemmas.{alive_in, alive_stand, all_rest, busy_own, from_shape, front_goes, reads_began, shape_of, two_parts}
 
 -- an item of a list, as some item

@@ -3,8 +3,8 @@ use Rattle.std.specs.Prelude.{◌≡◌, ℕ, List, [], ◌∷◌, map, Any, ⊤
 use Rattle.events.specs.declared.operation.Operation.{Operation}
 use Rattle.events.specs.declared.operation.Response.{Response}
 use Rattle.follow_orders.specs.Answers.{IsAnswer}
-use Rattle.follow_part_laws.specs.Pasts.{KeptPast}
-use Rattle.follow_part_laws.specs.Events.{IsAfterAnswer, AreAfterAnswer}
+use Rattle.follow_laws.specs.Pasts.{KeptPast}
+use Rattle.follow_laws.specs.Events.{IsAfterAnswer, AreAfterAnswer}
 use Rattle.follow_cuts.specs.PartCuts.{found_at}
 use Rattle.follow_cuts.specs.declared.past.Found.{Found}
 use Rattle.follow_pasts.specs.declared.pasts.GoneOn.{GoneOn}

@@ -7,11 +7,11 @@ use Rattle.events.specs.declared.operation.Operation.{Operation}
 use Rattle.events.specs.declared.operation.Response.{Response}
 use Rattle.events.specs.Keys.{low_key, high_key, may_change}
 use Rattle.map_object.specs.MapObject.{Contents}
-use Rattle.follow_key_laws.specs.Left.{HasKeysIn, answered}
-use Rattle.follow_part_laws.specs.Events.{AreAfterAnswer, IsWithRead}
-use Rattle.follow_part_laws.specs.KeptParts.{KeptPart, AreKept}
-use Rattle.follow_part_laws.specs.Reached.{HasPasts}
-use Rattle.follow_part_laws.specs.Pasts.{KeptPast}
+use Rattle.follow_laws.specs.Left.{HasKeysIn, answered}
+use Rattle.follow_laws.specs.Events.{AreAfterAnswer, IsWithRead}
+use Rattle.follow_laws.specs.KeptParts.{KeptPart, AreKept}
+use Rattle.follow_laws.specs.KeptReached.{HasPasts}
+use Rattle.follow_laws.specs.Pasts.{KeptPast}
 use Rattle.follow_cuts.specs.PartCuts.{kept_of}
 use Rattle.follow_pasts.specs.Pasts.{IsDead, AreDoubtful}
 use Rattle.follow_pasts.specs.Ranges.{covered}

@@ -2,10 +2,10 @@
 use Rattle.std.specs.Prelude.{◌≡◌, ◌⊎◌, ℕ, true, List, [], ◌∷◌, ◌++◌, map, Option, None, Some, IfSome, All, Any, Contains}
 use Rattle.events.specs.declared.operation.Operation.{Operation}
 use Rattle.map_object.specs.MapObject.{Contents, IsRising, value_at}
-use Rattle.follow_key_laws.specs.Cuts.{Keys}
-use Rattle.follow_part_laws.specs.Pasts.{KeptPast}
-use Rattle.follow_part_laws.specs.KeptParts.{KeptPart, AreKept}
-use Rattle.follow_part_laws.specs.Steps.{ReadsBeganAfter}
+use Rattle.follow_laws.specs.Cuts.{Keys}
+use Rattle.follow_laws.specs.Pasts.{KeptPast}
+use Rattle.follow_laws.specs.KeptParts.{KeptPart, AreKept}
+use Rattle.follow_laws.specs.KeptSteps.{ReadsBeganAfter}
 use Rattle.follow_orders.specs.Views.{IsKeptOrder}
 use Rattle.follow_cuts.specs.PartCuts.{AreShaped, kept_of}
 use Rattle.follow_cuts.specs.declared.past.Past.{Past}

@@ -5,7 +5,7 @@ use Rattle.events.specs.declared.operation.Response.{Response}
 use Rattle.events.specs.Precedence.{NonePrecedesItself}
 use Rattle.map_object.specs.MapObject.{IsRising}
 use Rattle.follow_orders.specs.Views.{IsKeptOrder}
-use Rattle.follow_part_laws.specs.Pasts.{KeptPast}
+use Rattle.follow_laws.specs.Pasts.{KeptPast}
 use Rattle.follow_pasts.specs.Views.{kept_part}
 use Rattle.follow_pasts.specs.declared.part.Part.{Part}
 use Rattle.follow_pasts.specs.declared.moments.OpenRead.{OpenRead}

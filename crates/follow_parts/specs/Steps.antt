@@ -5,12 +5,12 @@ use Rattle.events.specs.declared.operation.Operation.{Operation}
 use Rattle.events.specs.declared.operation.Response.{Response}
 use Rattle.events.specs.Keys.{low_key, high_key}
 use Rattle.map_object.specs.MapObject.{Contents, IsRising, value_at}
-use Rattle.follow_key_laws.specs.KeyedCalls.{IsNoEffect, effect_at}
+use Rattle.follow_laws.specs.KeyedCalls.{IsNoEffect, effect_at}
 use Rattle.follow_orders.specs.Views.{StoredOrderView, IsKeptOrder}
 use Rattle.follow_orders.specs.Answers.{IsAnswer}
 use Rattle.follow_orders.specs.declared.kept.Mended.{Mended}
-use Rattle.follow_part_laws.specs.Pasts.{KeptPast}
-use Rattle.follow_part_laws.specs.Events.{with_begun, IsWithRead}
+use Rattle.follow_laws.specs.Pasts.{KeptPast}
+use Rattle.follow_laws.specs.Events.{with_begun, IsWithRead}
 use Rattle.follow_pasts.specs.Ranges.{covered}
 use Rattle.follow_pasts.specs.Views.{kept_part}
 use Rattle.follow_pasts.specs.Pasts.{AreGoneOn}

@@ -2,8 +2,8 @@
 use Rattle.std.specs.Prelude.{ℕ, not, List, [], ◌∷◌, map}
 use Rattle.std.specs.List.{list_any}
 use Rattle.map_object.specs.MapObject.{Contents}
-use Rattle.follow_key_laws.specs.Cuts.{Keys}
-use Rattle.follow_part_laws.specs.KeptParts.{KeptPart, at_rest}
+use Rattle.follow_laws.specs.Cuts.{Keys}
+use Rattle.follow_laws.specs.KeptParts.{KeptPart, at_rest}
 use Rattle.follow_pasts.specs.Ranges.{covered}
 use Rattle.follow_pasts.specs.declared.part.Part.{Part}
 use Rattle.follow_pasts.specs.declared.moments.OpenRead.{OpenRead}

@@ -5,7 +5,7 @@ ghost use Rattle.events.specs.declared.operation.Response.{Response as Told};
 ghost use Rattle.events.specs.Keys.{may_change};
 ghost use Rattle.map_object.specs.MapObject.{Contents};
 ghost use Rattle.follow_orders.specs.Views.{StoredOrderView};
-ghost use Rattle.follow_part_laws.specs.Steps.{IsKnownIn};
+ghost use Rattle.follow_laws.specs.KeptSteps.{IsKnownIn};
 ghost use Rattle.follow_cuts.specs.PartCuts.{kept_of};
 ghost use Rattle.follow_pasts.specs.Pasts.{IsAnswerOf, lefts_of};
 ghost use Rattle.follow_pasts.specs.Views.{past_of};

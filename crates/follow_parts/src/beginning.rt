@@ -4,7 +4,7 @@ ghost use Rattle.events.specs.declared.operation.Operation.{Operation as Done};
 ghost use Rattle.events.specs.Keys.{low_key, may_change};
 ghost use Rattle.map_object.specs.MapObject.{Contents, value_at};
 ghost use Rattle.follow_orders.specs.Views.{IsKeptOrder};
-ghost use Rattle.follow_part_laws.specs.Events.{with_begun};
+ghost use Rattle.follow_laws.specs.Events.{with_begun};
 ghost use Rattle.follow_cuts.specs.PartCuts.{kept_of};
 ghost use Rattle.packed_map.specs.Entries.{entry_if};
 ghost use Rattle.follow_pasts.specs.Ranges.{covered};

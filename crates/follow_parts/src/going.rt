@@ -2,8 +2,8 @@
 ghost use Rattle.std.specs.Prelude.{◌≡◌, ℕ, suc, List, All, IfOk};
 ghost use Rattle.events.specs.declared.operation.Operation.{Operation as Done};
 ghost use Rattle.map_object.specs.MapObject.{Contents};
-ghost use Rattle.follow_part_laws.specs.Pasts.{KeptPast};
-ghost use Rattle.follow_part_laws.specs.KeptParts.{AreKept};
+ghost use Rattle.follow_laws.specs.Pasts.{KeptPast};
+ghost use Rattle.follow_laws.specs.KeptParts.{AreKept};
 ghost use Rattle.follow_pasts.specs.Ranges.{covered};
 ghost use Rattle.follow_pasts.specs.Pasts.{AreGoneOn, lefts_of};
 ghost use Rattle.follow_parts.specs.Views.{PartsView};

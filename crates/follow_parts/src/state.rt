@@ -3,8 +3,8 @@ ghost use Rattle.std.specs.Prelude.{◌≡◌, ◌+◌, ◌<◌, ◌≤◌, ◌^
 ghost use Rattle.events.specs.declared.operation.Operation.{Operation as Done};
 ghost use Rattle.events.specs.Keys.{low_key, high_key};
 ghost use Rattle.map_object.specs.MapObject.{Contents, IsRising};
-ghost use Rattle.follow_key_laws.specs.Forms.{HasForm};
-ghost use Rattle.follow_part_laws.specs.Steps.{GoesOn};
+ghost use Rattle.follow_laws.specs.Forms.{HasForm};
+ghost use Rattle.follow_laws.specs.KeptSteps.{PartGoesOn};
 ghost use Rattle.follow_parts.specs.Shapes.{IsShaped};
 ghost use Rattle.follow_parts.specs.Views.{kept_parts};
 ghost use Rattle.follow_parts.specs.Keeping.{begun, HasEndedBy, is_reported, IsAnswered, IsCounted, IsStateOf, reported, response_at};
@@ -135,7 +135,7 @@ impl Parts {
 
     /// Each part goes on, which means that the calls so far have an order (`kept_parts_decide`).
     pub fn goes_on(&self)
-        ensures { All GoesOn (kept_parts self.entry.now) }
+        ensures { All PartGoesOn (kept_parts self.entry.now) }
     {
         let _parts = &self.parts;
     }

@@ -1,7 +1,7 @@
 // Streams of a few events, worked by hand.
 ghost use Rattle.std.specs.Prelude.{ℕ, ◌≤◌};
 ghost use Rattle.events.specs.Keys.{low_key, high_key};
-ghost use Rattle.follow_key_laws.specs.Forms.{HasForm};
+ghost use Rattle.follow_laws.specs.Forms.{HasForm};
 ghost use Rattle.follow_parts.specs.Keeping.{reported};
 
 use crate::state::{Answered, Parts};

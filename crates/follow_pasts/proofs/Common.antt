@@ -31,13 +31,13 @@ pub use Rattle.events.specs.declared.operation.Response.{Response}
 pub use Rattle.follow_orders.specs.Answers.{IsAnswer}
 pub use Rattle.follow_orders.specs.declared.kept.Mended.{Mended}
 pub use Rattle.follow_orders.specs.declared.kept.Mended.TheVariants.{NoOrder, Order, Spent}
-pub use Rattle.follow_part_laws.specs.Events.{AreAfterAnswer, IsAfterAnswer}
-pub use Rattle.follow_part_laws.specs.KeptParts.{AreKept, IsKeptAs, KeptPart, at_rest}
-pub use Rattle.follow_part_laws.specs.Steps.{IsKnownIn, IsWithinKeys}
-pub use Rattle.follow_part_laws.specs.Pasts.{FoundAt, KeptPast}
-pub use Rattle.follow_key_laws.specs.Cuts.{Keys}
-pub use Rattle.follow_key_laws.specs.KeyedCalls.{concerns_key, effect_at, is_answer, is_refused, is_same_value, no_effect, point_effect}
-pub use Rattle.follow_key_laws.specs.Left.{HasKeysIn, pairs_at}
+pub use Rattle.follow_laws.specs.Events.{AreAfterAnswer, IsAfterAnswer}
+pub use Rattle.follow_laws.specs.KeptParts.{AreKept, IsKeptAs, KeptPart, at_rest}
+pub use Rattle.follow_laws.specs.KeptSteps.{IsKnownIn, IsWithinKeys}
+pub use Rattle.follow_laws.specs.Pasts.{FoundAt, KeptPast}
+pub use Rattle.follow_laws.specs.Cuts.{Keys}
+pub use Rattle.follow_laws.specs.KeyedCalls.{concerns_key, effect_at, is_answer, is_refused, is_same_value, no_effect, point_effect}
+pub use Rattle.follow_laws.specs.Left.{HasKeysIn, pairs_at}
 pub use Rattle.events.proofs.FilterLemmas.{AllPairs-from_map, Contains-from_map, Contains-map}
 pub use Rattle.events.proofs.Lists.{All-at, All-back, All-from_contains, All-front, AllPairs-across, AllPairs-append, AllPairs-at, AllPairs-back}
 pub use Rattle.events.proofs.Lists.{AllPairs-front, AllPairs-head, AllPairs-nil, AllPairs-tail, Any-first, Any-later, Contains-at, Contains-cases}

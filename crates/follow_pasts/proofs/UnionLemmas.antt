@@ -9,13 +9,13 @@ use Rattle.follow_pasts.proofs.Common.{FoundAt, KeptPast, KeptPart, IsKeptAs, Ar
 use Rattle.follow_pasts.proofs.Common.{or_else, kept_part, ArePairsOf, IsTakenFrom, AreOne, AreAllPairs, IsTogetherWith, IsIn, resting, outside, Become}
 use Rattle.follow_pasts.proofs.Common.{Part, Range, United}
 use Rattle.std.proofs.Common.{◌&&◌}
-use Rattle.follow_key_laws.specs.Apart.{AreApart}
-use Rattle.follow_key_laws.specs.Parts.{Part as ChosenPart}
-use Rattle.follow_part_laws.specs.Unions.{both_keys, IsTogether, ArePairs, FallsApart}
-use Rattle.follow_part_laws.proofs.PartLemmas.{IsKeptFirst, first_of, others_apart}
-use Rattle.follow_part_laws.proofs.PastLemmas.{zip_back, kept_pasts_are_within}
-use Rattle.follow_part_laws.proofs.StepLemmas.{any_to, parts_move}
-use Rattle.follow_part_laws.proofs.UniteLemmas.{kept_parts_unite, kept_parts_fall_apart}
+use Rattle.follow_laws.specs.Apart.{AreApart}
+use Rattle.follow_laws.specs.Parts.{Part as ChosenPart}
+use Rattle.follow_laws.specs.Unions.{both_keys, IsTogether, ArePairs, FallsApart}
+use Rattle.follow_laws.proofs.KeptPartLemmas.{IsKeptFirst, first_of, others_apart}
+use Rattle.follow_laws.proofs.PastLemmas.{zip_back, kept_pasts_are_within}
+use Rattle.follow_laws.proofs.KeptStepLemmas.{any_to, parts_move}
+use Rattle.follow_laws.proofs.KeptUniteLemmas.{kept_parts_unite, kept_parts_fall_apart}
 
 -- ---- tests
 

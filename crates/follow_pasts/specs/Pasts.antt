@@ -4,10 +4,10 @@ use Rattle.events.specs.declared.operation.Operation.{Operation}
 use Rattle.events.specs.declared.operation.Response.{Response}
 use Rattle.orders.specs.Orders.{IsLinearizable}
 use Rattle.memo.specs.Counts.{ReachesMoreThan}
-use Rattle.follow_key_laws.specs.Left.{answered}
+use Rattle.follow_laws.specs.Left.{answered}
 use Rattle.follow_orders.specs.declared.kept.Mended.{Mended}
 use Rattle.follow_orders.specs.declared.kept.Mended.TheVariants.{Order, NoOrder, Spent}
-use Rattle.follow_part_laws.specs.Pasts.{KeptPast}
+use Rattle.follow_laws.specs.Pasts.{KeptPast}
 use Rattle.follow_cuts.specs.PartCuts.{kept_of}
 use Rattle.follow_cuts.specs.declared.past.Past.{Past}
 use Rattle.follow_pasts.specs.Views.{past_of}

@@ -1,7 +1,7 @@
 -- Keys by range.
 use Rattle.std.specs.Prelude.{ℕ, ◌&&◌, nat_le, List, Option, None, Some}
 use Rattle.std.specs.List.{list_any}
-use Rattle.follow_key_laws.specs.Cuts.{Keys}
+use Rattle.follow_laws.specs.Cuts.{Keys}
 use Rattle.follow_pasts.specs.declared.ranges.Range.{Range}
 
 -- whether a key is in one of the ranges

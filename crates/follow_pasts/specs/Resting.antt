@@ -4,9 +4,9 @@ use Rattle.std.specs.List.{AllZip, list_any}
 use Rattle.events.specs.declared.operation.Operation.{Operation}
 use Rattle.events.specs.Keys.{low_key, high_key}
 use Rattle.map_object.specs.MapObject.{Contents, value_at}
-use Rattle.follow_key_laws.specs.KeyedCalls.{concerns_key}
-use Rattle.follow_key_laws.specs.Cuts.{Keys}
-use Rattle.follow_key_laws.specs.Left.{pairs_at}
+use Rattle.follow_laws.specs.KeyedCalls.{concerns_key}
+use Rattle.follow_laws.specs.Cuts.{Keys}
+use Rattle.follow_laws.specs.Left.{pairs_at}
 use Rattle.follow_cuts.specs.declared.past.Found.{Found}
 use Rattle.follow_cuts.specs.declared.past.Past.{Past}
 use Rattle.follow_pasts.specs.Ranges.{covered}

@@ -2,7 +2,7 @@
 use Rattle.std.specs.Prelude.{◌≢◌, ◌<◌, List, All, AllPairs}
 use Rattle.events.specs.Precedence.{NonePrecedesItself}
 use Rattle.follow_orders.specs.Views.{IsKeptOrder}
-use Rattle.follow_part_laws.specs.Pasts.{KeptPast}
+use Rattle.follow_laws.specs.Pasts.{KeptPast}
 use Rattle.follow_pasts.specs.Views.{kept_part}
 use Rattle.follow_pasts.specs.declared.part.Part.{Part}
 

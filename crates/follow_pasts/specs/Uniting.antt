@@ -3,10 +3,10 @@ use Rattle.std.specs.Prelude.{◌≡◌, ◌⊎◌, ◌↔◌, ℕ, ◌<◌, ◌
 use Rattle.std.specs.List.{AllZip}
 use Rattle.events.specs.declared.operation.Operation.{Operation}
 use Rattle.map_object.specs.MapObject.{Contents, IsRising, value_at}
-use Rattle.follow_key_laws.specs.Cuts.{Keys}
-use Rattle.follow_key_laws.specs.Left.{pairs_at}
-use Rattle.follow_part_laws.specs.Pasts.{KeptPast}
-use Rattle.follow_part_laws.specs.KeptParts.{KeptPart, AreKept, at_rest}
+use Rattle.follow_laws.specs.Cuts.{Keys}
+use Rattle.follow_laws.specs.Left.{pairs_at}
+use Rattle.follow_laws.specs.Pasts.{KeptPast}
+use Rattle.follow_laws.specs.KeptParts.{KeptPart, AreKept, at_rest}
 use Rattle.follow_cuts.specs.PartCuts.{kept_of}
 use Rattle.follow_cuts.specs.declared.past.Past.{Past}
 use Rattle.follow_pasts.specs.Ranges.{covered, from_to, or_else}

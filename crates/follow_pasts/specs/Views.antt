@@ -1,8 +1,8 @@
 -- What contracts see of a part.
 use Rattle.std.specs.Prelude.{List, ◌∷◌, map}
 use Rattle.follow_orders.specs.Views.{StoredOrderView}
-use Rattle.follow_part_laws.specs.Pasts.{KeptPast}
-use Rattle.follow_part_laws.specs.KeptParts.{KeptPart}
+use Rattle.follow_laws.specs.Pasts.{KeptPast}
+use Rattle.follow_laws.specs.KeptParts.{KeptPart}
 use Rattle.follow_cuts.specs.PartCuts.{found_at, kept_of}
 use Rattle.follow_cuts.specs.declared.past.Found.{Found}
 use Rattle.follow_pasts.specs.Ranges.{covered}

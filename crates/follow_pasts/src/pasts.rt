@@ -4,11 +4,11 @@ ghost use Rattle.events.specs.declared.operation.Operation.{Operation as Done};
 ghost use Rattle.events.specs.declared.operation.Response.{Response as Told};
 ghost use Rattle.events.specs.Keys.{low_key, may_change};
 ghost use Rattle.map_object.specs.MapObject.{Contents};
-ghost use Rattle.follow_key_laws.specs.KeyedCalls.{effect_at, is_refused};
+ghost use Rattle.follow_laws.specs.KeyedCalls.{effect_at, is_refused};
 ghost use Rattle.follow_orders.specs.Answers.{IsAnswer};
-ghost use Rattle.follow_part_laws.specs.Pasts.{KeptPast};
-ghost use Rattle.follow_part_laws.specs.Events.{AreAfterAnswer, IsAfterAnswer};
-ghost use Rattle.follow_part_laws.specs.Steps.{IsKnownIn};
+ghost use Rattle.follow_laws.specs.Pasts.{KeptPast};
+ghost use Rattle.follow_laws.specs.Events.{AreAfterAnswer, IsAfterAnswer};
+ghost use Rattle.follow_laws.specs.KeptSteps.{IsKnownIn};
 ghost use Rattle.follow_cuts.specs.PartCuts.{AreShaped, found_at, kept_of};
 ghost use Rattle.follow_pasts.specs.Pasts.{AreGoneOn, AreLeftAfter, IsAnswerOf, IsPlaceFor, kept_if, lefts, lefts_of, lefts_of_kept};
 

@@ -1,7 +1,7 @@
 // Which keys are at rest.
 ghost use Rattle.std.specs.Prelude.{◌≡◌, ◌≤◌, IfOk, OnOk};
 ghost use Rattle.map_object.specs.MapObject.{IsRising};
-ghost use Rattle.follow_key_laws.specs.Left.{pairs_at};
+ghost use Rattle.follow_laws.specs.Left.{pairs_at};
 ghost use Rattle.follow_pasts.specs.Ranges.{covered, from_to};
 ghost use Rattle.follow_pasts.specs.Resting.{AreBusy, AreOnly, AreResting, HasCalls, HasDiffering, HasFound};
 

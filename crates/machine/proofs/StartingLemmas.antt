@@ -6,7 +6,7 @@ use Rattle.machine.proofs.Common.{HistoryBuilder, Process, Plan, State, answered
 use Rattle.machine.proofs.Common.{run-lengths, Machine, MachineFault, HasMadeItem, HasStoppedIn, IsOpened}
 use Rattle.std.proofs.Common.{Some, None}
 use Rattle.events.proofs.FilterLemmas.{Contains-filter_map, Contains-from_filter_map}
-use Rattle.art_sequential.specs.maps.Ends.{StartsEnd}
+use Rattle.art_schedules.specs.maps.Ends.{StartsEnd}
 use Rattle.art_core.proofs.StartLemmas.{run-steps}
 use Rattle.machine.specs.declared.starting.TheConstants.{START_TURNS}
 use Rattle.machine.specs.Starting.{HasInserted, IsNotOpened}

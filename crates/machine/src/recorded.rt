@@ -3,9 +3,8 @@ use crate::machines::Machine;
 use crate::runner::Runner;
 use art_schedules::{
     answered_gets_have_moments, answered_scans_have_moments, coupled_is_linearizable,
-    optimistic_is_linearizable,
+    optimistic_is_linearizable, serial_is_map,
 };
-use art_sequential::serial_is_map;
 use events::{Event, History, Memory, append_log, history_by_stamp};
 use std::alloc::Global;
 

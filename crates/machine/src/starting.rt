@@ -15,7 +15,7 @@ ghost use Rattle.machine.specs.Starting.{HasInserted, IsNotOpened};
 use crate::machines::Machine;
 use art::{Shape, TreeCall, Variant};
 use art_core::Item;
-use art_sequential::starts_end;
+use art_schedules::starts_end;
 use events::{Call, Event, Memory, Reply};
 use plans::MachineFault;
 use std::alloc::Global;

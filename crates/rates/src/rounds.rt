@@ -3,10 +3,10 @@ ghost use Rattle.std.specs.Prelude.{◌≤◌};
 ghost use Rattle.recorder.specs.Recorders.{IsPassOf};
 
 use art::{Shape, Variant};
-use drives::{drive_arena, is_drivable};
 use events::{Call, Memory, Reply};
 use pool::OpenGate;
 use recorder::{Pass, Recorder};
+use running::{drive_arena, is_drivable};
 use std::alloc::Global;
 use std::sync::atomic::{AtomicU64, Ordering};
 use std::thread;

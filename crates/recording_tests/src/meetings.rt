@@ -3,10 +3,10 @@ ghost use Rattle.std.specs.Prelude.{⊤};
 
 use crate::shapes::eights;
 use art::Variant;
-use drives::{drive_arena, is_drivable};
 use events::History;
 use plan_text::read_plan;
 use pool::Gate;
+use running::{drive_arena, is_drivable};
 use std::alloc::Global;
 use std::sync::atomic::{AtomicBool, AtomicU64, Ordering};
 use std::test::Fail;

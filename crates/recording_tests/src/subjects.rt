@@ -4,11 +4,11 @@ ghost use Rattle.std.specs.Prelude.{◌≡◌, ℕ};
 ghost use Rattle.events.specs.declared.event.Reply.TheVariants as replies;
 
 use crate::meetings::wait_for;
-use drives::{drive_subject, is_drivable};
 use events::{Call, History, Reply, Response};
 use judge::{MAX_BUDGET, Verdict, judge_alone};
 use plan_text::read_plan;
 use recorder::Subject;
+use running::{drive_subject, is_drivable};
 use std::alloc::Global;
 use std::process::Abort;
 use std::sync::atomic::{AtomicBool, AtomicU64, Ordering};

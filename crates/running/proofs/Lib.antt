@@ -12,3 +12,13 @@ pub mod StepLemmas
 pub mod GatherLemmas
 pub mod CloseLemmas
 pub mod ReadMomentLemmas
+mod JoinLemmas
+mod PartLemmas
+mod RoomLemmas
+mod RunLemmas
+mod ArenaScriptLemmas
+mod ScriptLemmas
+mod AnswerLemmas
+mod DriveLemmas
+mod FewStepLemmas
+mod ArenaDriveLemmas

@@ -10,3 +10,7 @@ pub mod Progressed
 pub mod Closing
 pub mod ReadMoments
 pub mod Linearizable
+pub mod Drives
+pub mod ArenaDrives
+pub mod ScriptGroups
+pub mod Passes

@@ -11,7 +11,7 @@ use Rattle.events.proofs.Lists.{length-distinct_below}
 use Rattle.events.proofs.OperationLemmas.{length-operations_from}
 use Rattle.orders.specs.Orders.{after_call}
 use Rattle.art_core.proofs.HistoryLemmas.{calls-within, logged-on}
-use Rattle.art_sequential.proofs.maps.LengthLemmas.{after-few, after_reply-few}
+use Rattle.art_schedules.proofs.maps.LengthLemmas.{after-few, after_reply-few}
 use Rattle.art_schedules.specs.calls.Effects.{Changes, Finds}
 use Rattle.art_schedules.specs.calls.FewPairs.{ChangesIn, GrowByCalls, PairsStayFew, EffectsKeepFewPairs}
 use Rattle.art_schedules.proofs.calls.RunCallLemmas.{run-has-calls}

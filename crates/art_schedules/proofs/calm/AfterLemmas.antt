@@ -1,11 +1,12 @@
 -- What calm_after makes of each word.
 use Rattle.art_schedules.proofs.Common.{◌≡◌, ℕ, zero, suc, ◌+◌, ◌*◌, ◌-◌, ◌/◌, ◌<◌, ◌≤◌, Bool, true, false, List, length, refl, ap, sym, subst}
+use Rattle.art_schedules.proofs.words.TableLemmas.{kind_at-base_of, row_begins, row_ends, rows_apart}
 use Rattle.art_schedules.proofs.Common.{◌∙◌, inl, inr, arith, ◌&&◌, nat_lt, map, slice_index, Option, Some, None, if◌then◌else◌, cases_lt}
 use Rattle.art_schedules.proofs.Common.{cases_Bool, lt-ltb, ltb-true, or_left, or_right, or_from, get_or_past, Shape, Kind, Four, Sixteen}
-use Rattle.art_schedules.proofs.Common.{FortyEight, Full, row_words, rows_of, table_words, base_of, kind_at, kind_at-base_of, row_begins}
-use Rattle.art_schedules.proofs.Common.{row_ends, rows_apart, numbers, SameWords, is_busy, calm_after}
+use Rattle.art_schedules.proofs.Common.{FortyEight, Full, row_words, rows_of, table_words, base_of, kind_at}
+use Rattle.art_schedules.proofs.Common.{numbers, SameWords, is_busy, calm_after}
 use Rattle.std.specs.Prelude.{◌⊎◌}
-use Rattle.art_sequential.proofs.writes.GrowSixteenLemmas.{entry-at}
+use Rattle.art_schedules.proofs.writes.GrowSixteenLemmas.{entry-at}
 use Rattle.art_schedules.specs.calm.Calm.{lies_at, lies_below, is_of_busy_row}
 
 as-many : (f : ℕ → ℕ) (first n : ℕ) → length (map f (numbers first n)) ≡ n

@@ -1,9 +1,11 @@
 -- Calm and the first state, and what a step makes of it.
 use Rattle.art_schedules.proofs.Common.{◌≡◌, ◌≢◌, ℕ, ◌+◌, ◌%◌, ◌^◌, ◌<◌, ◌≤◌, true, false, List, [], ◌∷◌, length, refl, ap, sym, subst, ◌∙◌, inl}
+use Rattle.art_schedules.proofs.trees.Descents.{small_at}
+use Rattle.art_schedules.proofs.words.TableLemmas.{kind_at-base_of, row_begins, rows_apart}
 use Rattle.art_schedules.proofs.Common.{inr, arith, ne_eqb, slice_index, All, Some, cases_eq, cases_lt, cases_Bool, get_or_past, Call, Shape}
 use Rattle.art_schedules.proofs.Common.{Kind, row_words, table_words, claims_of, base_of, kind_at, is_locked, is_obsolete, released_word}
-use Rattle.art_schedules.proofs.Common.{some-words, claims-few, kind_at-base_of, row_begins, rows_apart, small_at, taken-locked}
-use Rattle.art_schedules.proofs.Common.{obsolete_obsolete, obsolete_released, IsOutside, IsClaimed, AreZeroPastClaims, Variant, Optimistic}
+use Rattle.art_schedules.proofs.Common.{some-words, claims-few}
+use Rattle.art_schedules.proofs.Common.{IsOutside, IsClaimed, AreZeroPastClaims, Variant, Optimistic}
 use Rattle.art_schedules.proofs.Common.{Store, locks, HeldRow, setting, Process, State, OfRows, IsKept, IsGoodAt, IsAmong, IsWith, IsOpen, stage_of}
 use Rattle.art_schedules.proofs.Common.{IsSettled, IsSound, IsSteady, SameWords, filled_by, held_by}
 use Rattle.art_schedules.proofs.versions.KnownLemmas.{held-is-kept}
@@ -14,7 +16,7 @@ use Rattle.art_schedules.proofs.versions.WordFacts.{version-free}
 use Rattle.art_schedules.proofs.Common.{RowFilled, RowTaken, RowReleased, CalmChange, CalmStays, CalmFilled, CalmReleased, CalmStep}
 use Rattle.std.specs.Prelude.{◌⊎◌}
 use Rattle.std.proofs.lemmas.List.Elements.{All-from_get_or}
-use Rattle.art_sequential.proofs.words.VersionLemmas.{even-free}
+use Rattle.art_schedules.proofs.words.VersionLemmas.{even-free, taken-locked, obsolete_obsolete, obsolete_released}
 use Rattle.art_core.specs.Meaning.{AllUnlocked}
 use Rattle.art_schedules.specs.versions.Holding.{IsVersion}
 use Rattle.art_schedules.proofs.versions.ChangeLemmas.{good-more}

@@ -1,11 +1,13 @@
 -- What each step of a full tree changes in the words of rows.
 use Rattle.art_schedules.proofs.Common.{◌≡◌, ◌≢◌, ℕ, ◌+◌, ◌^◌, ◌<◌, ◌≤◌, Bool, true, false, List, [], length, refl, ap, sym, subst, ◌∙◌, inl}
+use Rattle.art_schedules.proofs.serial.OrderlyLemmas.{set-here}
+use Rattle.art_schedules.proofs.writes.StoreLemmas.{stored-at}
 use Rattle.art_schedules.proofs.Common.{inr, arith, eq-eqb, ne_eqb, ◌==◌, slice_get, slice_index, slice_set, Option, Some, None, if◌then◌else◌}
 use Rattle.art_schedules.proofs.Common.{cases_eq, same_Some, none-some, Call, Shape, claims_of, locked_word, claims-few, Variant, Access, Load}
 use Rattle.art_schedules.proofs.Common.{Store, Add, Point, Turn, Asks, Answers, Setting, locks, act, word_of, asks-same, asks-answers, HeldRow}
 use Rattle.art_schedules.proofs.Common.{CallAt, call_turn, call_after, call_begun, setting, Process, told, Plan, State, Move, Invokes, Responds}
 use Rattle.art_schedules.proofs.Common.{after_move, moved, move_of, invocation, next_call, move_from, word_of_move, new_word, step, is-moved}
-use Rattle.art_schedules.proofs.Common.{stored-at, set-here, OfRows, Named, IsKept, holds, Reads, Writes, Ends, Releases, Takes, Claims}
+use Rattle.art_schedules.proofs.Common.{OfRows, Named, IsKept, holds, Reads, Writes, Ends, Releases, Takes, Claims}
 use Rattle.art_schedules.proofs.Common.{AccessDoes, Answered, IsAmong, IsFull, IsSettled, IsSound, stage_of}
 use Rattle.art_schedules.proofs.versions.KnownLemmas.{held-is-kept}
 use Rattle.art_schedules.proofs.versions.WordFacts.{version-free}

@@ -1,7 +1,8 @@
 -- The rows that are reached where child words name settled rows alone.
 use Rattle.art_schedules.proofs.Common.{◌≡◌, ℕ, ◌-◌, ◌<◌, List, refl, subst, arith, slice_index, Option, Some, None, Shape, Kind, Four, Sixteen}
+use Rattle.art_schedules.proofs.alone.SlotLemmas.{IsChildWord, slot-is}
 use Rattle.art_schedules.proofs.Common.{FortyEight, Full, Empty, Row, root_base, kind_at, slot_of, child_in, child_on, Reached, root, below}
-use Rattle.art_schedules.proofs.Common.{IsChildWord, slot-is, OfRows, Each, IsSlot, IsNamed, child_rows, IsGoodAt}
+use Rattle.art_schedules.proofs.Common.{OfRows, Each, IsSlot, IsNamed, child_rows, IsGoodAt}
 
 empty-row : {base : ℕ} {kind : Kind} → Empty ≡ Row base kind → ⊥
 empty-row e = cc

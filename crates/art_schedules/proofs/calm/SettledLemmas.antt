@@ -1,7 +1,8 @@
 -- In every state of a full tree a busy row is settled.
 use Rattle.art_schedules.proofs.Common.{◌≡◌, ◌≢◌, ℕ, ◌+◌, ◌^◌, ◌<◌, ◌≤◌, List, [], ◌∷◌, length, refl, ap, sym, subst, ◌∙◌, arith, slice_index}
+use Rattle.art_schedules.proofs.words.TableLemmas.{row_begins, rows_apart}
 use Rattle.art_schedules.proofs.Common.{slice_set, Option, Some, None, same_Some, Contents, Shape, Full, opening, claims_of, root_base}
-use Rattle.art_schedules.proofs.Common.{some-words, row_begins, rows_apart, Variant, Plan, State, opened, opened_on, step, run_on, start_plan}
+use Rattle.art_schedules.proofs.Common.{some-words, Variant, Plan, State, opened, opened_on, step, run_on, start_plan}
 use Rattle.art_schedules.proofs.Common.{IsFull, IsRun, IsSound, nowhere, run-steps}
 use Rattle.art_schedules.proofs.versions.ChangeLemmas.{index-other}
 use Rattle.art_schedules.proofs.versions.MoveLemmas.{true-false}

@@ -1,12 +1,13 @@
 -- The words of every run are below 2^64.
 use Rattle.art_schedules.proofs.Common.{◌≡◌, ℕ, ◌^◌, ◌<◌, Bool, true, false, List, [], ◌∷◌, refl, ap, sym, subst, ◌∙◌, inl, inr, arith, ◌==◌}
+use Rattle.art_schedules.proofs.trees.Descents.{small_at}
 use Rattle.art_schedules.proofs.Common.{IsTrue, slice_get, slice_index, slice_set, All, Option, Some, None, if◌then◌else◌, same_Some, none-some}
 use Rattle.art_schedules.proofs.Common.{All-nil, All-cons, All-set, Call, Get, Insert, Remove, Scan, Replace, Contents, Shape, Kind, Four}
 use Rattle.art_schedules.proofs.Common.{Sixteen, FortyEight, Full, opening, table_words, info_at, root_base, rows_of, base_of, child_word}
 use Rattle.art_schedules.proofs.Common.{leaf_word, row_word, Access, Load, Store, Add, Point, Turn, Asks, Answers, is_tree_call, overwriting}
 use Rattle.art_schedules.proofs.Common.{new_leaf, act, word_of, call_turn, call_begun, setting, Process, told, changed, Plan, State, Move}
 use Rattle.art_schedules.proofs.Common.{Invokes, Responds, next_call, invocation, after_move, word_of_move, new_word, moved, move_of, move_from}
-use Rattle.art_schedules.proofs.Common.{opened, opened_on, step, run_on, start_plan, inserts, IsRun, nowhere, is-moved, changed-at, small_at}
+use Rattle.art_schedules.proofs.Common.{opened, opened_on, step, run_on, start_plan, inserts, IsRun, nowhere, is-moved, changed-at}
 use Rattle.art_schedules.proofs.Common.{IsOpen, stage_of}
 use Rattle.art_schedules.proofs.versions.RunLemmas.{idle-idle}
 use Rattle.art_schedules.proofs.versions.StepLemmas.{after-more, next-turn}
@@ -15,7 +16,7 @@ use Rattle.std.proofs.lemmas.List.Elements.{All-replicate}
 use Rattle.art_rows.specs.Table.{IsWithinLimits}
 use Rattle.art_rows.specs.declared.access.Access.TheVariants.{Exchange}
 use Rattle.art_core.specs.Core.{Makes}
-use Rattle.art_sequential.specs.writes.Writes.{AreSmall}
+use Rattle.art_schedules.specs.writes.Writes.{AreSmall}
 use Rattle.art_schedules.proofs.calm.SmallStageLemmas.{SmallAt, SmallTurn, IsFine, call-after-small, call-turn-small, begun-small}
 use Rattle.art_schedules.proofs.calls.ScriptLemmas.{AreTreeCalls, next-tree}
 

@@ -1,11 +1,13 @@
 -- What a call carries at its stage is below 2^64, and so is what it stores.
 use Rattle.art_schedules.proofs.Common.{◌≡◌, ℕ, zero, suc, ◌+◌, ◌*◌, ◌-◌, ◌%◌, ◌^◌, ◌<◌, ◌≤◌, Bool, true, false, [], ◌∷◌, ◌++◌, refl, ap, sym}
+use Rattle.art_schedules.proofs.inserts.SmallLemmas.{differs-before}
+use Rattle.art_schedules.proofs.trees.InfoWords.{path_byte}
 use Rattle.art_schedules.proofs.Common.{subst, arith, ◌==◌, nat_lt, nat_le, map, set, slice_index, Option, Some, None, if◌then◌else◌, ltb-true}
 use Rattle.art_schedules.proofs.Common.{length-append, Call, Get, Insert, Remove, Scan, Replace, Kind, Four, Sixteen, FortyEight, Full, Child}
 use Rattle.art_schedules.proofs.Common.{Empty, ChildRow, Leaf, rows_of, base_of, child_at, keys_at, more_keys_at, is_locked, is_obsolete}
 use Rattle.art_schedules.proofs.Common.{locked_word, released_word, obsolete_word, key_bytes, entries_of, place_of, child_of, child_word}
 use Rattle.art_schedules.proofs.Common.{row_word, keys4_word, keys16_word, more_keys16_word, entries_word, with_key, key_byte-small}
-use Rattle.art_schedules.proofs.Common.{differs-before, path_byte, Store, Swap, Turn, Asks, numbers, Setting, is_insert, is_full, locks, key_of}
+use Rattle.art_schedules.proofs.Common.{Store, Swap, Turn, Asks, numbers, Setting, is_insert, is_full, locks, key_of}
 use Rattle.art_schedules.proofs.Common.{path_differs_at, overwriting, new_leaf, next_kind, new_entry, keys_differ_at, HeldRow, KeyWords, Finding}
 use Rattle.art_schedules.proofs.Common.{Has, Lacks, Position, Down, Hold, Pair, Work, Taking, Target, Root, Below, Taken, PairWord, Growing}
 use Rattle.art_schedules.proofs.Common.{Spread, Outcome, Refused, Stage, Lock, Exchange, Wait, Leave, Between, Info, Find, FindKeys, FindMore}
@@ -21,7 +23,7 @@ use Rattle.art_schedules.proofs.Common.{entries_at, fill_at, leaf_after, keys_at
 use Rattle.art_schedules.proofs.Common.{put_keys_turn, grow_keys_turn, grow_leaf_turn, grow_count_turn, store_of, Walk, at, scan_turn, keys_turn}
 use Rattle.art_schedules.proofs.Common.{CallAt, OnKey, OnScan, begun_as, call_after, call_turn}
 use Rattle.art_schedules.proofs.versions.WordFacts.{count-most}
-use Rattle.art_sequential.proofs.words.WordLemmas.{again_below}
+use Rattle.art_schedules.proofs.words.WordLemmas.{again_below}
 use Rattle.art_rows.specs.Rows.{releases_early, leaves_out_check, takes_unchecked}
 use Rattle.art_rows.specs.Updates.{lesser, greater, Under}
 use Rattle.art_control_states.specs.declared.stage.Work.TheVariants as work

@@ -1,9 +1,11 @@
 -- The words that calls store are below 2^64.
 use Rattle.art_schedules.proofs.Common.{◌≡◌, ℕ, zero, suc, ◌/◌, ◌%◌, ◌^◌, ◌<◌, ◌≤◌, Bool, true, false, List, [], ◌∷◌, ◌++◌, length, take, refl}
+use Rattle.art_schedules.proofs.inserts.SmallLemmas.{differs-before}
+use Rattle.art_schedules.proofs.trees.InfoWords.{path_byte}
 use Rattle.art_schedules.proofs.Common.{arith, ◌==◌, nat_le, map, set, Option, Some, None, if◌then◌else◌, length-set, All-nil, All-cons}
 use Rattle.art_schedules.proofs.Common.{All-append, All-set, Kind, Four, Sixteen, FortyEight, Full, key_bytes, first_difference, info_word}
 use Rattle.art_schedules.proofs.Common.{info_of, keys4_of, keys16_of, entries_of, count_of, keys4_word, keys16_word, more_keys16_word}
-use Rattle.art_schedules.proofs.Common.{entries_word, place_of, with_key, differs-before, path_byte, numbers, new_entry, keys_differ_at}
+use Rattle.art_schedules.proofs.Common.{entries_word, place_of, with_key, numbers, new_entry, keys_differ_at}
 use Rattle.art_schedules.proofs.Common.{KeyWords, keys_in}
 use Rattle.std.specs.Prelude.{unwrap_or}
 use Rattle.std.proofs.lemmas.List.{length-map}
@@ -12,9 +14,9 @@ use Rattle.art_rows.specs.Words.{packed, low_bytes, Info, kind_code, entry_of}
 use Rattle.art_rows.proofs.ByteLemmas.{entries-most, place-within}
 use Rattle.art_rows.proofs.KindLemmas.{code-few}
 use Rattle.art_rows.proofs.WriterLemmas.{length-low_bytes}
-use Rattle.art_sequential.proofs.words.ByteLemmas.{AreBytes, packed-most, keys16_below, bytes-small, low_bytes-small, key_bytes-small}
-use Rattle.art_sequential.proofs.words.KeyLemmas.{All-with_key, length-with_key}
-use Rattle.art_sequential.proofs.writes.GrowSixteenLemmas.{length-numbers, entry-absent, entry-some}
+use Rattle.art_schedules.proofs.words.ByteLemmas.{AreBytes, packed-most, keys16_below, bytes-small, low_bytes-small, key_bytes-small}
+use Rattle.art_schedules.proofs.words.KeyLemmas.{All-with_key, length-with_key}
+use Rattle.art_schedules.proofs.writes.GrowSixteenLemmas.{length-numbers, entry-absent, entry-some}
 use Rattle.art_schedules.proofs.versions.WordFacts.{among-most}
 
 -- Infos.

@@ -1,6 +1,7 @@
 -- What becomes of calm in a step, by what the open call does in it.
 use Rattle.art_schedules.proofs.Common.{◌≡◌, ◌≢◌, ℕ, ◌≤◌, List, [], ◌∷◌, ap, sym, subst, ◌∙◌, arith, slice_index, Option, Some, same_Some, Call}
-use Rattle.art_schedules.proofs.Common.{Shape, Kind, kind_at, released_word, rows_apart, IsOutside, Variant, Access, Store, Point, Turn, Asks}
+use Rattle.art_schedules.proofs.words.TableLemmas.{rows_apart}
+use Rattle.art_schedules.proofs.Common.{Shape, Kind, kind_at, released_word, IsOutside, Variant, Access, Store, Point, Turn, Asks}
 use Rattle.art_schedules.proofs.Common.{locks, asks-same, HeldRow, call_turn, setting, Process, State, IsKept, IsAmong, IsAfterVersion, IsOpen}
 use Rattle.art_schedules.proofs.Common.{AsksFor, CalmChange, IsSettled, IsSound, filled_by, held_by, stage_of}
 use Rattle.art_schedules.proofs.versions.KnownLemmas.{held-is-kept}

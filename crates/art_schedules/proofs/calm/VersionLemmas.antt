@@ -1,8 +1,10 @@
 -- Versions in a step: what becomes of busy rows.
 use Rattle.art_schedules.proofs.Common.{◌≡◌, ◌≢◌, ℕ, ◌+◌, ◌/◌, ◌%◌, true, false, ap, sym, subst, ◌∙◌, inl, inr, arith, ne_eqb, ◌==◌, slice_index}
+use Rattle.art_schedules.proofs.words.TableLemmas.{row_begins, rows_apart}
+use Rattle.art_schedules.proofs.words.VersionLemmas.{taken-locked, obsolete_obsolete, obsolete_released}
 use Rattle.art_schedules.proofs.Common.{Some, cases_eq, or_from, or_left, or_right, same_Some, Shape, Kind, kind_at, is_locked, is_obsolete}
-use Rattle.art_schedules.proofs.Common.{released_word, obsolete_word, some-words, row_begins, rows_apart, taken-locked, obsolete_obsolete}
-use Rattle.art_schedules.proofs.Common.{obsolete_released, Variant, locks, HeldRow, setting, State, IsKept, IsAfterVersion, IsHeld, stage_of}
+use Rattle.art_schedules.proofs.Common.{released_word, obsolete_word, some-words}
+use Rattle.art_schedules.proofs.Common.{Variant, locks, HeldRow, setting, State, IsKept, IsAfterVersion, IsHeld, stage_of}
 use Rattle.art_schedules.proofs.Common.{IsSettled, IsSound, IsSteady, held_by, is_busy}
 use Rattle.art_schedules.proofs.versions.KnownLemmas.{held-is-kept}
 use Rattle.art_schedules.proofs.versions.MoveLemmas.{settled-row}

@@ -1,15 +1,21 @@
 -- What comes of each effect of a change of one row.
 use Rattle.art_schedules.proofs.Common.{◌≡◌, ◌⊎◌, inl, inr, ℕ, ◌<◌, ◌++◌, List, false, refl, sym, ◌∙◌, subst, arith, ⊎_elim, ◌↔◌, None, cases_eq}
+use Rattle.art_schedules.proofs.alone.LikeLemmas.{sits}
+use Rattle.art_schedules.proofs.alone.PlaceLemmas.{kind_at-sits}
+use Rattle.art_schedules.proofs.alone.SlotLemmas.{row-keys, form-same}
+use Rattle.art_schedules.proofs.inserts.OutcomeLemmas.{child-same}
+use Rattle.art_schedules.proofs.inserts.SmallLemmas.{path_byte-small}
+use Rattle.art_schedules.proofs.trees.Changes.{way_byte}
 use Rattle.art_schedules.proofs.Common.{Contents, put, Shape, Kind, Four, Child, Empty, Row, Leaf, info_at, key_bytes, is_obsolete, two-words}
 use Rattle.art_schedules.proofs.Common.{key_byte-small, Reached, Means, child_on, IsAtRest, SameRow, HasRows, Parts, SameTreesAreOne, IsClaimed}
-use Rattle.art_schedules.proofs.Common.{kind_at-sits, row-keys, form-same, sits, child-same, path_byte-small, way_byte, OneRow, Keeps, Fills}
+use Rattle.art_schedules.proofs.Common.{OneRow, Keeps, Fills}
 use Rattle.art_schedules.proofs.Common.{PutsLeaf, RemovesLeaf, HangsPair, HangsGrown, Effect, HasEffect, IsGone, HasFewClaims, Follows}
 use Rattle.art_schedules.proofs.Common.{KeepsTree, EffectsFollow, IsGoneBy, ComesInBy}
 use Rattle.std.proofs.Common.{slice_index, subst₂}
 use Rattle.map_object.specs.MapObject.{below, above}
 use Rattle.art_core.specs.Forms.{IsTree}
-use Rattle.art_sequential.specs.trees.Trees.{SameTree, IsPair, HasRowMore, IsGrown, HasRowInPlace, LeavesArePut, LeavesAreRemoved, PairsAreHung}
-use Rattle.art_sequential.specs.trees.Trees.{GrownRowsAreHung}
+use Rattle.art_schedules.specs.trees.Trees.{SameTree, IsPair, HasRowMore, IsGrown, HasRowInPlace, LeavesArePut, LeavesAreRemoved, PairsAreHung}
+use Rattle.art_schedules.specs.trees.Trees.{GrownRowsAreHung}
 use Rattle.art_schedules.specs.changes.Rows.{IsFilled}
 use Rattle.art_schedules.specs.changes.Effects.{IsPutOn, IsRemovedFrom, IsPairHung, IsGrownHung}
 use Rattle.art_schedules.proofs.changes.FollowLemmas.{follows-by, kept-trees-follow}

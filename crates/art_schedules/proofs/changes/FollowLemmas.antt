@@ -1,10 +1,12 @@
 -- If the infos of rows stay, so do the ways that lead to them; and trees whose rows say the same.
 use Rattle.art_schedules.proofs.Common.{◌≡◌, ◌⊎◌, inl, inr, ℕ, ◌+◌, ◌≤◌, List, refl, sym, ap, ◌∙◌, arith, ◌↔◌, None, Contents, Shape, Kind}
+use Rattle.art_schedules.proofs.alone.LikeLemmas.{sits}
+use Rattle.art_schedules.proofs.alone.PlaceLemmas.{Sits, sits-inside, kind_at-sits}
 use Rattle.art_schedules.proofs.Common.{base_of, info_at, info_of, is_locked, is_obsolete, two-words, Reached, Means, IsAtRest, LeadsTo, HasRows}
-use Rattle.art_schedules.proofs.Common.{SameTreesAreOne, IsClaimed, Sits, sits-inside, kind_at-sits, sits, Follows, KeptTreesFollow, IsGoneBy}
+use Rattle.art_schedules.proofs.Common.{SameTreesAreOne, IsClaimed, Follows, KeptTreesFollow, IsGoneBy}
 use Rattle.art_schedules.proofs.Common.{ComesInBy}
 use Rattle.std.proofs.Common.{slice_index}
-use Rattle.art_sequential.proofs.trees.Changes.{way_later}
+use Rattle.art_schedules.proofs.trees.Changes.{way_later}
 use Rattle.art_schedules.specs.changes.Laws.{LowWordsKeep}
 
 -- a tree at rest of these rows, with their infos, follows

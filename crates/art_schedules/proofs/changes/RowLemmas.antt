@@ -1,12 +1,15 @@
 -- What stays where one row has changed: the other rows, their versions and infos, and rows that were not claimed.
 use Rattle.art_schedules.proofs.Common.{◌≡◌, ◌≢◌, ◌⊎◌, inl, inr, ℕ, ◌+◌, ◌-◌, ◌<◌, ◌≤◌, List, false, refl, sym, ap, ◌∙◌, subst, arith, ⊎_elim}
+use Rattle.art_schedules.proofs.alone.LikeLemmas.{sits}
+use Rattle.art_schedules.proofs.alone.PlaceLemmas.{Sits, sits-part, sits-inside, sits-kind_at, kind_at-sits}
+use Rattle.art_schedules.proofs.inserts.OutcomeLemmas.{split}
 use Rattle.art_schedules.proofs.Common.{cases_eq, Shape, Kind, Child, row_words, claims_of, base_of, info_at, kind_at, is_locked, is_obsolete}
-use Rattle.art_schedules.proofs.Common.{child_of, two-words, Reached, IsAtRest, SameRow, IsClaimed, AreZeroPastClaims, ChildrenAreRead, Sits}
-use Rattle.art_schedules.proofs.Common.{sits-part, sits-inside, sits-kind_at, kind_at-sits, sits, split, OneRow, HasNewChild}
+use Rattle.art_schedules.proofs.Common.{child_of, two-words, Reached, IsAtRest, SameRow, IsClaimed, AreZeroPastClaims, ChildrenAreRead}
+use Rattle.art_schedules.proofs.Common.{OneRow, HasNewChild}
 use Rattle.std.proofs.Common.{slice_index, Some}
-use Rattle.art_sequential.specs.trees.Trees.{ChangesAt}
+use Rattle.art_schedules.specs.trees.Trees.{ChangesAt}
 use Rattle.art_schedules.specs.versions.Steady as steady
-use Rattle.art_sequential.proofs.inserts.HungLemmas.{word-changes}
+use Rattle.art_schedules.proofs.inserts.HungLemmas.{word-changes}
 use Rattle.art_schedules.specs.changes.Laws.{RowsAreByWords, SlotsAreChildren, SlotsAreWritten}
 
 -- a claimed row sits in the table

@@ -1,7 +1,7 @@
 -- What one row says of a key.
 use Rattle.art_schedules.proofs.Common.{◌≡◌, inl, inr, take, refl, sym, ap, ◌∙◌, arith, value_at, Child, Empty, Row, Leaf, key_bytes, child_on}
 use Rattle.art_schedules.proofs.Common.{path_in, WaysLeadToValues, IsSaidBy, WaysSayValues}
-use Rattle.art_sequential.proofs.alone.WayLemmas.{same-beginning, level-most}
+use Rattle.art_schedules.proofs.alone.WayLemmas.{same-beginning, level-most}
 use Rattle.art_schedules.specs.changes.Laws.{WaysArePaths}
 
 pub ways-say-values : WaysLeadToValues → WaysSayValues

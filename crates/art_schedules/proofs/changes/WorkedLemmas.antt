@@ -1,5 +1,7 @@
 -- How the work of a call comes to be an effect.
-use Rattle.art_schedules.proofs.Common.{Four, Empty, Row, Leaf, child_on, ChildrenAreRead, sits-kind_at, way_byte}
+use Rattle.art_schedules.proofs.Common.{Four, Empty, Row, Leaf, child_on, ChildrenAreRead}
+use Rattle.art_schedules.proofs.alone.PlaceLemmas.{sits-kind_at}
+use Rattle.art_schedules.proofs.trees.Changes.{way_byte}
 use Rattle.art_schedules.specs.changes.Worked.{StoredLeavesArePut, StoredZerosRemove, WrittenPairsAreHung, WrittenRowsAreHung}
 use Rattle.art_schedules.proofs.changes.RowLemmas.{claimed-sits, slots-are-written}
 use Rattle.art_schedules.proofs.changes.EffectLemmas.{parted-small}

@@ -1,7 +1,10 @@
 -- What a call writes in rows that it holds or fills, as a change of a calm table.
 use Rattle.art_schedules.proofs.Common.{◌≡◌, ◌⊎◌, inl, inr, ℕ, ◌+◌, ◌<◌, ◌≤◌, refl, sym, ap, ◌∙◌, subst, arith, Four, row_words, key_bytes}
-use Rattle.art_schedules.proofs.Common.{two-words, first-some, key_byte-small, Reached, IsOutside, Sits, sits-part, sits-inside, slot-is}
-use Rattle.art_schedules.proofs.Common.{row-keys, form-same, IsChildWord, sits, split, child-same}
+use Rattle.art_schedules.proofs.alone.LikeLemmas.{sits}
+use Rattle.art_schedules.proofs.alone.PlaceLemmas.{Sits, sits-part, sits-inside}
+use Rattle.art_schedules.proofs.alone.SlotLemmas.{slot-is, row-keys, form-same, IsChildWord}
+use Rattle.art_schedules.proofs.inserts.OutcomeLemmas.{split, child-same}
+use Rattle.art_schedules.proofs.Common.{two-words, first-some, key_byte-small, Reached, IsOutside}
 use Rattle.std.proofs.Common.{slice_index, slice_set}
 use Rattle.std.proofs.lemmas.List.{get_or-set_same, get_or-set_other}
 use Rattle.art_schedules.specs.changes.Written.{StoresAreSlots, HungRowsAreSlots, ChildrenAreOfRows, PutsAreChildren, PairsAreFresh}

@@ -1,11 +1,14 @@
 -- Rows that are obsolete: nobody takes one, and those of the calm tree are about to leave it.
 use Rattle.art_schedules.proofs.Common.{◌≡◌, ◌⊎◌, inl, inr, ℕ, ◌+◌, ◌<◌, ◌≤◌, List, [], ◌∷◌, ◌++◌, refl, ap, sym, subst, ◌∙◌, Bool, true, false}
+use Rattle.art_schedules.proofs.inserts.OutcomeLemmas.{child-same}
+use Rattle.art_schedules.proofs.words.TableLemmas.{row_begins}
+use Rattle.art_schedules.proofs.words.VersionLemmas.{taken-locked, obsolete_released}
 use Rattle.art_schedules.proofs.Common.{arith, slice_index, Option, Some, cases_eq, false≢true, same_Some, Call, Reply, Contents, Shape, Kind}
-use Rattle.art_schedules.proofs.Common.{kind_at, is_locked, is_obsolete, locked_word, released_word, obsolete_word, row_begins, Coupled, Store}
+use Rattle.art_schedules.proofs.Common.{kind_at, is_locked, is_obsolete, locked_word, released_word, obsolete_word, Coupled, Store}
 use Rattle.art_schedules.proofs.Common.{Swap, Point, Asks, store-word, load-store, add-store, exchange-store, load-exchange, store-exchange}
 use Rattle.art_schedules.proofs.Common.{answers-asks, stores-same, HeldRow, Hold, Stage, Lock, Exchange, Between, LetGo, Obsolete, Unlock, ScanStep}
 use Rattle.art_schedules.proofs.Common.{setting, turn_at, hold_alone, no_value, release_at, at, scan_turn, CallAt, OnKey, OnScan, call_turn}
-use Rattle.art_schedules.proofs.Common.{call_after, Process, Plan, State, step, Reached, child_on, child-same, taken-locked, obsolete_released}
+use Rattle.art_schedules.proofs.Common.{call_after, Process, Plan, State, step, Reached, child_on}
 use Rattle.art_schedules.proofs.Common.{Knows, holds, all_of, lock_of, locks_of, rows_of_hold, IsAmong, IsOpen, IsHeld, IsSettled, stage_of}
 use Rattle.art_schedules.proofs.Common.{AsksFor, IsAtStage, RowChange, RowsStay, calm_of, held_by}
 use Rattle.art_schedules.proofs.versions.KnownLemmas.{held-is-kept}

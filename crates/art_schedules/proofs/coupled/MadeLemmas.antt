@@ -1,9 +1,10 @@
 -- What a step of a run of the coupled tree is: what is known before and after it, and what becomes
 -- of the processes.
 use Rattle.art_schedules.proofs.Common.{◌≡◌, ◌≢◌, ℕ, ◌+◌, ◌^◌, ◌<◌, List, [], ◌∷◌, ◌++◌, refl, ap, sym, subst, ◌∙◌, inl, slice_get, slice_index}
+use Rattle.art_schedules.proofs.serial.OrderlyLemmas.{set-here}
 use Rattle.art_schedules.proofs.Common.{slice_set, Option, Some, same_Some, Call, Contents, Shape, Coupled, Access, Point, Asks, act, word_of}
 use Rattle.art_schedules.proofs.Common.{setting, call_turn, call_after, call_begun, Process, changed, told, Plan, State, after_move, moved}
-use Rattle.art_schedules.proofs.Common.{IsOpen, IsSound, IsSteady, is-moved, move_from, move_of, next_move, set-here, stage_of, step}
+use Rattle.art_schedules.proofs.Common.{IsOpen, IsSound, IsSteady, is-moved, move_from, move_of, next_move, stage_of, step}
 use Rattle.art_schedules.proofs.versions.ChangeLemmas.{set-other}
 use Rattle.art_schedules.proofs.Common.{CalmStep, IsCalm, IsCoupledStep, calm_of}
 use Rattle.art_schedules.proofs.versions.StepLemmas.{after-more, next-turn}

@@ -1,5 +1,9 @@
 -- A step of a call on its way, in a run.
 use Rattle.art_schedules.proofs.Common.{◌≡◌, inl, inr, ℕ, zero, suc, ◌+◌, ◌-◌, ◌^◌, ◌<◌, List, [], ◌∷◌, ◌++◌, refl, ap, sym, subst, ◌∙◌, Bool}
+use Rattle.art_schedules.proofs.alone.LikeLemmas.{sits}
+use Rattle.art_schedules.proofs.alone.PlaceLemmas.{sits-kind_at, kind_at-sits, sits-inside}
+use Rattle.art_schedules.proofs.alone.WayLemmas.{leads-root}
+use Rattle.art_schedules.proofs.writes.StoreLemmas.{stored-at}
 use Rattle.art_schedules.proofs.Common.{true, false, arith, slice_get, slice_index, slice_set, Option, Some, None, false≢true, same_Some, Call}
 use Rattle.art_schedules.proofs.Common.{Get, Insert, Remove, Scan, Replace, Reply, Contents, Shape, Kind, Four, Sixteen, FortyEight, Full}
 use Rattle.art_schedules.proofs.Common.{table_words, kind_at, root_base, claims_of, is_locked, is_obsolete, locked_word, released_word}
@@ -10,7 +14,7 @@ use Rattle.art_schedules.proofs.Common.{Down, Work, Target, Root, Below, Taken, 
 use Rattle.art_schedules.proofs.Common.{FindCount, Slot, LetGo, Unlock, Over, row_at, byte_in, setting, count_in, place_in, turn_at, find_turn}
 use Rattle.art_schedules.proofs.Common.{between_turn, stage_after, work_at, put_at, moves_at, OnKey, call_turn, call_after, begun_as, Process}
 use Rattle.art_schedules.proofs.Common.{changed, told, Plan, State, Reached, root, below, child_in, level_in, IsAtRest, SameRow}
-use Rattle.art_schedules.proofs.Common.{WaysLeadToValues, LeavesAreSmall, sits-kind_at, kind_at-sits, sits-inside, sits, leads-root, stored-at}
+use Rattle.art_schedules.proofs.Common.{WaysLeadToValues, LeavesAreSmall}
 use Rattle.art_schedules.proofs.Common.{Each, Knows, KnowsKey, holds, fills, row_filled, FitsStage, lock_of, rows_of_hold, held_at_stage}
 use Rattle.art_schedules.proofs.Common.{IsAmong, IsAtStage, IsOpen, IsSettled, filled_by, held_by, stage_of}
 use Rattle.art_schedules.proofs.versions.KnownLemmas.{among-each, held-is-kept}

@@ -1,5 +1,9 @@
 -- A step of a call that knows its way.
 use Rattle.art_schedules.proofs.Common.{◌≡◌, ◌≢◌, inl, inr, ℕ, ◌+◌, ◌-◌, ◌%◌, List, ◌∷◌, length, Bool, true, false, refl, sym, ap, ◌∙◌, subst}
+use Rattle.art_schedules.proofs.alone.DifferLemmas.{keys-differ}
+use Rattle.art_schedules.proofs.alone.SeekLemmas.{absent-after, seek-reply}
+use Rattle.art_schedules.proofs.inserts.InsertEndLemmas.{first-differs}
+use Rattle.art_schedules.proofs.inserts.SmallLemmas.{path_byte-small}
 use Rattle.art_schedules.proofs.Common.{arith, eqb-true, option_map, eqb-false, none-some, Call, Reply, Contents, value_at, Does, Shape, Kind}
 use Rattle.art_schedules.proofs.Common.{Four, Sixteen, FortyEight, Full, Empty, ChildRow, Leaf, capacity, root_base, info_at, keys_at}
 use Rattle.art_schedules.proofs.Common.{more_keys_at, index_at, count_at, child_at, is_locked, key_bytes, first_difference, keys4_of, keys16_of}
@@ -10,8 +14,8 @@ use Rattle.art_schedules.proofs.Common.{Between, Info, Find, FindKeys, FindMore,
 use Rattle.art_schedules.proofs.Common.{Over, row_at, held, root_place, byte_in, keys_among, count_in, setting, after_with, seek_coupled}
 use Rattle.art_schedules.proofs.Common.{insert_coupled, place_coupled, let_go_at, found_at, among_at, find_at, below_at, entered_at, hold_alone}
 use Rattle.art_schedules.proofs.Common.{no_value, pair_work, overwrite_at, keys_one, release_at, root, Means, HasForm, level_in, path_in}
-use Rattle.art_schedules.proofs.Common.{IsAtRest, LeadsTo, WaysLeadToValues, LeavesAreSmall, is_seek, leads-root, keys-differ, absent-after}
-use Rattle.art_schedules.proofs.Common.{seek-reply, first-differs, path_byte-small, Each, IsUnder, FitsPlace, FitsStage, all_of, held_at_place}
+use Rattle.art_schedules.proofs.Common.{IsAtRest, LeadsTo, WaysLeadToValues, LeavesAreSmall, is_seek}
+use Rattle.art_schedules.proofs.Common.{Each, IsUnder, FitsPlace, FitsStage, all_of, held_at_place}
 use Rattle.art_schedules.proofs.Common.{IsAfterVersion, KnowsTarget, LacksByte, held_at_stage, rows_of_target}
 use Rattle.art_schedules.proofs.versions.KeyLemmas.{slot-behind}
 use Rattle.art_schedules.proofs.versions.WordFacts.{count-most}
@@ -22,8 +26,8 @@ use Rattle.events.specs.declared.event.Reply.TheVariants as reply
 use Rattle.map_object.specs.MapObject.{value_reply}
 use Rattle.art_control_states.specs.declared.stage.Work.TheVariants as work
 use Rattle.art_control_states.specs.Automaton.{words_at}
-use Rattle.art_sequential.proofs.alone.WayLemmas.{leads-below}
-use Rattle.art_sequential.proofs.trees.Bytes.{never_differs}
+use Rattle.art_schedules.proofs.alone.WayLemmas.{leads-below, leads-root}
+use Rattle.art_schedules.proofs.trees.Bytes.{never_differs}
 use Rattle.art_schedules.specs.versions.Holding.{HasRoom}
 use Rattle.art_schedules.proofs.versions.WordFacts.{full-not-less}
 use Rattle.art_schedules.specs.coupled.Knows.{IsBelow, HangsBelow, KnowsPlace, KnowsStage, KnowsWay}

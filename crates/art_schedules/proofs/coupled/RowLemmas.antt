@@ -1,9 +1,13 @@
 -- What a step leaves of the words of rows, and of the calm tree, where a call on its way makes it.
 use Rattle.art_schedules.proofs.Common.{◌≡◌, ◌≢◌, ◌⊎◌, inl, inr, ℕ, ◌+◌, ◌/◌, ◌%◌, ◌^◌, ◌<◌, ◌≤◌, List, [], ◌∷◌, refl, ap, sym, subst, ◌∙◌, true}
+use Rattle.art_schedules.proofs.alone.LikeLemmas.{sits}
+use Rattle.art_schedules.proofs.alone.PlaceLemmas.{sits-kind_at}
+use Rattle.art_schedules.proofs.words.TableLemmas.{rows_apart, row_begins}
+use Rattle.art_schedules.proofs.words.VersionLemmas.{obsolete_released}
 use Rattle.art_schedules.proofs.Common.{false, arith, slice_index, Option, Some, cases_eq, cases_lt, same_Some, Call, Shape, Kind, kind_at}
-use Rattle.art_schedules.proofs.Common.{row_words, claims_of, is_obsolete, released_word, some-words, claims-few, rows_apart, row_begins}
+use Rattle.art_schedules.proofs.Common.{row_words, claims_of, is_obsolete, released_word, some-words, claims-few}
 use Rattle.art_schedules.proofs.Common.{Coupled, Access, Store, Point, Turn, Asks, HeldRow, call_turn, setting, Process, State, Reached, IsAtRest}
-use Rattle.art_schedules.proofs.Common.{SameRow, sits-kind_at, sits, obsolete_released, IsOutside, IsAmong, IsAfterVersion, IsOpen, IsSettled}
+use Rattle.art_schedules.proofs.Common.{SameRow, IsOutside, IsAmong, IsAfterVersion, IsOpen, IsSettled}
 use Rattle.art_schedules.proofs.Common.{AsksFor, RowChange, filled_by, held_by, is_busy, stage_of}
 use Rattle.art_schedules.proofs.versions.KnownLemmas.{held-is-kept}
 use Rattle.art_schedules.proofs.versions.MoveLemmas.{settled-row}

@@ -1,8 +1,12 @@
 -- What a scan knows of the calm tree stays so, whatever other calls do.
 use Rattle.art_schedules.proofs.Common.{◌≡◌, ℕ, ◌+◌, ◌*◌, ◌<◌, List, [], ◌∷◌, refl, sym, ap, ◌∙◌, subst, inl, arith, slice_index, Option}
+use Rattle.art_schedules.proofs.alone.LikeLemmas.{sits}
+use Rattle.art_schedules.proofs.alone.PlaceLemmas.{sits-kind_at}
+use Rattle.art_schedules.proofs.alone.SlotLemmas.{row-keys, slot-same}
+use Rattle.art_schedules.proofs.inserts.OutcomeLemmas.{child-same}
 use Rattle.art_schedules.proofs.Common.{Contents, Shape, Kind, Four, Sixteen, FortyEight, Full, index_at, HeldRow, KeyWords, Frame, Entry, ScanStep}
-use Rattle.art_schedules.proofs.Common.{FirstKeys, SecondKeys, Index, LoadChild, Release, Reached, IsAtRest, SameRow, sits-kind_at, sits}
-use Rattle.art_schedules.proofs.Common.{row-keys, slot-same, child-same, Each, IsAmong, Effect, IsGoneBy, ComesInBy, Follows, IsWalked}
+use Rattle.art_schedules.proofs.Common.{FirstKeys, SecondKeys, Index, LoadChild, Release, Reached, IsAtRest, SameRow}
+use Rattle.art_schedules.proofs.Common.{Each, IsAmong, Effect, IsGoneBy, ComesInBy, Follows, IsWalked}
 use Rattle.art_schedules.proofs.Common.{ReadsWalked, KnowsWords, KnowsFrame, KnowsEntry, KnowsStep, StaysAt}
 use Rattle.art_control_states.specs.declared.stage.Entry.TheVariants.{Root, Below}
 use Rattle.art_control_states.specs.declared.stage.ScanStep.TheVariants.{Lock, Exchange, Wait, Info, Keys, Over}

@@ -1,10 +1,12 @@
 -- Scans on their own.
 use Rattle.art_schedules.proofs.Common.{◌≡◌, ◌≢◌, ◌⊎◌, inl, inr, ℕ, zero, suc, ◌<◌, ◌≤◌, List, [], ◌∷◌, length, refl, sym, ap, ◌∙◌, subst, arith}
+use Rattle.art_schedules.proofs.alone.AloneLemmas.{same-runs}
+use Rattle.art_schedules.proofs.writes.StoreLemmas.{stored-at}
 use Rattle.art_schedules.proofs.Common.{Access, Coupled, Option, Reply, Scan, Shape, Some, cases_eq, cases_lt, length-set, reply_to}
 use Rattle.art_schedules.proofs.versions.ChangeLemmas.{index-other}
 use Rattle.art_schedules.proofs.Common.{Store, released_word, Point, Asks, Answers, word_of, Setting, HeldRow, Frame, ScanStep, setting, Walk, at}
 use Rattle.art_schedules.proofs.Common.{CallAt, OnScan, rest_at, call_after, call_begun, call_next, changed, told, got_by, words_after}
-use Rattle.art_schedules.proofs.Common.{RunsAlone, ends, goes, same-runs, ScansAreTheMaps, stored-at, Suits, Alone, SameOn, WalksAreTheMaps}
+use Rattle.art_schedules.proofs.Common.{RunsAlone, ends, goes, ScansAreTheMaps, Suits, Alone, SameOn, WalksAreTheMaps}
 use Rattle.art_schedules.proofs.Common.{IsOver}
 use Rattle.std.proofs.Common.{slice_index, slice_set}
 use Rattle.events.specs.declared.event.Reply.TheVariants as reply

@@ -1,8 +1,9 @@
 -- What is known around a step of a run: before and after it, and of the rows of other processes.
 use Rattle.art_schedules.proofs.Common.{◌≡◌, ◌≢◌, ℕ, ◌+◌, ◌^◌, ◌<◌, ◌≤◌, List, [], ◌∷◌, ◌++◌, refl, ap, sym, ◌∙◌, inl, inr, slice_get}
+use Rattle.art_schedules.proofs.serial.OrderlyLemmas.{set-here}
 use Rattle.art_schedules.proofs.Common.{slice_index, Option, Some, cases_eq, same_Some, Contents, Call, Shape, kind_at, Variant, Access, Point}
 use Rattle.art_schedules.proofs.Common.{Turn, Asks, locks, word_of, HeldRow, setting, call_turn, call_after, call_begun, Process, told, got_by}
-use Rattle.art_schedules.proofs.Common.{words_after, Plan, State, Move, after_move, moved, move_of, move_from, is-moved, set-here}
+use Rattle.art_schedules.proofs.Common.{words_after, Plan, State, Move, after_move, moved, move_of, move_from, is-moved}
 use Rattle.art_schedules.proofs.Common.{AreZeroPastClaims, IsKept, IsAmong, IsOpen, IsSettled, IsSound, stage_of, held_by, IsSteady, SameWords}
 use Rattle.art_schedules.proofs.Common.{IsFull, WritesOwn}
 use Rattle.art_schedules.proofs.versions.ChangeLemmas.{set-other}

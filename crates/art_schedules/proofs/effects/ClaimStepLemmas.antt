@@ -1,10 +1,12 @@
 -- A call at work while it claims its row.
 use Rattle.art_schedules.proofs.Common.{◌≡◌, inl, inr, ℕ, ◌+◌, ◌%◌, ◌^◌, ◌<◌, ◌≤◌, List, [], ◌∷◌, true, refl, sym, ap, ◌∙◌, subst, arith, nat_lt}
+use Rattle.art_schedules.proofs.words.TableLemmas.{row_begins, kind_at-base_of, base_of-once}
+use Rattle.art_schedules.proofs.writes.StoreLemmas.{stored-at}
 use Rattle.art_schedules.proofs.Common.{Some, None, if◌then◌else◌, cases_lt, lt-ltb, le-ltb, Call, Contents, Shape, Kind, Four, rows_of}
-use Rattle.art_schedules.proofs.Common.{claims_of, base_of, is_obsolete, some-words, claims-few, row_begins, kind_at-base_of, base_of-once}
+use Rattle.art_schedules.proofs.Common.{claims_of, base_of, is_obsolete, some-words, claims-few}
 use Rattle.art_schedules.proofs.Common.{Variant, Add, Asks, Setting, next_kind, store-add, HeldRow, Hold, Refused, Work, Stage, StorePair, GrowInfo}
 use Rattle.art_schedules.proofs.Common.{Unlock, setting, turn_at, stage_after, work_at, OnKey, call_turn, call_after, Process, Plan, State}
-use Rattle.art_schedules.proofs.Common.{Means, IsAtRest, IsClaimed, IsUnused, ChildrenAreRead, stored-at, rows_of_hold, Each, Knows, IsOpen}
+use Rattle.art_schedules.proofs.Common.{Means, IsAtRest, IsClaimed, IsUnused, ChildrenAreRead, rows_of_hold, Each, Knows, IsOpen}
 use Rattle.art_schedules.proofs.Common.{ComesInBy, EffectsFollow, IsAtStage, IsGoneBy, stage_of}
 use Rattle.art_schedules.proofs.versions.ChangeLemmas.{index-other}
 use Rattle.art_schedules.proofs.versions.MoveLemmas.{settled-row, true-false}

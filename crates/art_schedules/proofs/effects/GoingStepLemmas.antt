@@ -1,12 +1,16 @@
 -- A call at work, after its claim and before its first release, while it steps.
 use Rattle.art_schedules.proofs.Common.{◌≡◌, ◌≢◌, ◌⊎◌, inl, inr, ℕ, ◌+◌, ◌-◌, ◌<◌, ◌≤◌, List, [], ◌∷◌, length, Bool, false, refl, sym, ap, ◌∙◌}
+use Rattle.art_schedules.proofs.alone.AloneLemmas.{load-same}
+use Rattle.art_schedules.proofs.trees.Changes.{way_byte}
+use Rattle.art_schedules.proofs.words.TableLemmas.{row_begins, rows_apart}
+use Rattle.art_schedules.proofs.writes.StoreLemmas.{stored-long, stored-at}
 use Rattle.art_schedules.proofs.Common.{subst, arith, slice_set, Option, Some, None, same_Some, none-some, Call, Contents, Shape, Kind, Four}
 use Rattle.art_schedules.proofs.Common.{row_words, base_of, table_words, kind_at, is_obsolete, key_bytes, info_word, row_word, some-words}
-use Rattle.art_schedules.proofs.Common.{row_begins, rows_apart, Variant, Access, Load, Store, Point, Asks, Setting, key_of, next_kind, new_leaf}
+use Rattle.art_schedules.proofs.Common.{Variant, Access, Load, Store, Point, Asks, Setting, key_of, next_kind, new_leaf}
 use Rattle.art_schedules.proofs.Common.{stores-same, load-store, HeldRow, Hold, Growing, Pair, PairWord, Value, Refused, Work, Stage, Write}
 use Rattle.art_schedules.proofs.Common.{StorePair, Hang, Unlock, Obsolete, setting, row_at, byte_in, old_child, new_child, turn_at, stage_after}
 use Rattle.art_schedules.proofs.Common.{work_at, pair_after, no_value, OnKey, call_turn, call_after, Process, Plan, State, Reached, Means}
-use Rattle.art_schedules.proofs.Common.{IsAtRest, SameRow, LeadsTo, ChildrenAreRead, load-same, stored-long, stored-at, way_byte, lock_of}
+use Rattle.art_schedules.proofs.Common.{IsAtRest, SameRow, LeadsTo, ChildrenAreRead, lock_of}
 use Rattle.art_schedules.proofs.Common.{locks_of, all_of, rows_of_hold, Named, Each, Knows, KnowsKey, holds, fills, IsAmong, IsAfterVersion}
 use Rattle.art_schedules.proofs.Common.{AreDistinct, IsAtStage, IsOpen, filled_by, is_busy, stage_of}
 use Rattle.art_schedules.proofs.versions.ChangeLemmas.{index-other}

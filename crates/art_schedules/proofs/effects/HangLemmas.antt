@@ -1,14 +1,20 @@
 -- What the work left at its first release is what its last release will do to calm's tree.
 use Rattle.art_schedules.proofs.Common.{◌≡◌, ◌≢◌, inl, inr, ℕ, ◌+◌, ◌^◌, ◌<◌, ◌≤◌, List, ◌++◌, length, true, refl, sym, ap, ◌∙◌, subst, arith}
+use Rattle.art_schedules.proofs.alone.LikeLemmas.{sits}
+use Rattle.art_schedules.proofs.alone.PlaceLemmas.{sits-kind_at}
+use Rattle.art_schedules.proofs.alone.SlotLemmas.{slot-is, row-keys, form-same, IsChildWord}
+use Rattle.art_schedules.proofs.inserts.OutcomeLemmas.{child-same}
+use Rattle.art_schedules.proofs.trees.Changes.{way_byte}
+use Rattle.art_schedules.proofs.words.TableLemmas.{row_ends, rows_apart, kind_at-base_of}
 use Rattle.art_schedules.proofs.Common.{eq-eqb, ne_eqb, nat_lt, ◌&&◌, slice_set, Option, Some, None, if◌then◌else◌, cases_lt, cases_eq}
 use Rattle.art_schedules.proofs.Common.{and_parts, ltb-true, false≢true, same_Some, none-some, Call, Get, Insert, Remove, Scan, Replace, put}
 use Rattle.art_schedules.proofs.Common.{Shape, Kind, Four, Child, Empty, Row, Leaf, row_words, table_words, info_at, kind_at, key_bytes}
-use Rattle.art_schedules.proofs.Common.{child_of, child_word, leaf_word, row_word, info_word, info_of, first-some, key_byte-small, row_ends}
-use Rattle.art_schedules.proofs.Common.{rows_apart, kind_at-base_of, is_tree_call, Setting, key_of, is_insert, byte_at, new_leaf, overwriting}
+use Rattle.art_schedules.proofs.Common.{child_of, child_word, leaf_word, row_word, info_word, info_of, first-some, key_byte-small}
+use Rattle.art_schedules.proofs.Common.{is_tree_call, Setting, key_of, is_insert, byte_at, new_leaf, overwriting}
 use Rattle.art_schedules.proofs.Common.{next_kind, HeldRow, Hold, Pair, Value, Stage, Unlock, Obsolete, row_at, byte_in, old_child, new_child}
 use Rattle.art_schedules.proofs.Common.{no_value, hold_alone, Reached, slot_of, child_in, child_on, level_in, path_in, IsAtRest, SameRow}
-use Rattle.art_schedules.proofs.Common.{LeadsTo, Parts, sits-kind_at, sits, slot-is, row-keys, form-same, IsChildWord, child-same, HasPut}
-use Rattle.art_schedules.proofs.Common.{IsOutside, way_byte, rows_of_hold, Each, Effect, PutsLeaf, RemovesLeaf, HangsPair, HangsGrown, IsGone}
+use Rattle.art_schedules.proofs.Common.{LeadsTo, Parts, HasPut}
+use Rattle.art_schedules.proofs.Common.{IsOutside, rows_of_hold, Each, Effect, PutsLeaf, RemovesLeaf, HangsPair, HangsGrown, IsGone}
 use Rattle.art_schedules.proofs.Common.{IsInsert, PairHangs, GrownHangs, upper_of, upper_row, IsOverwritten, IsOld, IsEffectOf, IsReleasing}
 use Rattle.art_schedules.proofs.Common.{Last, Lower, Gone, IsHanging, HasFilledFresh, HasWordAt, IsInTree, IsSame}
 use Rattle.std.proofs.Common.{slice_index}

@@ -1,15 +1,17 @@
 -- What calm says of held rows, and of the ways to them, is kept by each step that leaves these rows as they are.
 use Rattle.art_schedules.proofs.Common.{◌≡◌, inl, inr, ℕ, ◌<◌, List, ◌∷◌, refl, sym, ap, ◌∙◌, subst, arith, Option, Some, None, Contents, Shape}
+use Rattle.art_schedules.proofs.inserts.OutcomeLemmas.{child-same}
+use Rattle.art_schedules.proofs.trees.Changes.{way_byte}
 use Rattle.art_schedules.proofs.Common.{Kind, Four, Child, Empty, Row, Leaf, info_at, key_bytes, first_difference, child_of, info_word, row_word}
 use Rattle.art_schedules.proofs.Common.{leaf_word, two-words, first-some, key_byte-small, Setting, key_of, HeldRow, Keys, Hold, Work, row_at}
 use Rattle.art_schedules.proofs.Common.{byte_in, Reached, below, slot_of, child_in, child_on, level_in, path_in, SameRow, LeadsTo, Parts}
-use Rattle.art_schedules.proofs.Common.{slot-is, row-keys, slot-same, form-same, IsChildWord, child-same, way_byte, all_of, rows_of_hold, Each}
+use Rattle.art_schedules.proofs.Common.{all_of, rows_of_hold, Each}
 use Rattle.art_schedules.proofs.Common.{Named, Effect, Keeps, Fills, PutsLeaf, RemovesLeaf, HangsPair, HangsGrown, base_of_effect}
 use Rattle.art_schedules.proofs.Common.{kind_of_effect, IsGone, Follows, LacksByte, FitsWords, upper_of, upper_row, IsOverwritten, BeginsWork}
 use Rattle.art_schedules.proofs.Common.{IsOld, fresh_of, IsPending, HasFilledFresh, HasWordAt, IsInTree, IsSame}
 use Rattle.std.proofs.Common.{slice_index}
 use Rattle.art_control_states.specs.declared.stage.Work.TheVariants as work
-use Rattle.art_sequential.proofs.alone.SlotLemmas.{keys-same, count-same}
+use Rattle.art_schedules.proofs.alone.SlotLemmas.{keys-same, count-same, slot-is, row-keys, slot-same, form-same, IsChildWord}
 use Rattle.art_schedules.proofs.changes.EffectLemmas.{parted-small}
 use Rattle.art_schedules.proofs.changes.WrittenLemmas.{children-are-of-rows}
 use Rattle.art_schedules.specs.effects.Begins.{FindsSlot}

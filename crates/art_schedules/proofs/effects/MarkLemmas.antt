@@ -1,11 +1,13 @@
 -- Marks of calls at work, and what such a call asks for.
 use Rattle.art_schedules.proofs.Common.{◌≡◌, ◌⊎◌, inl, inr, ℕ, List, [], ◌∷◌, ◌++◌, Bool, true, false, refl, sym, ap, ◌∙◌, subst, ◌==◌, Option}
+use Rattle.art_schedules.proofs.trees.Changes.{way_byte}
+use Rattle.art_schedules.proofs.words.TableLemmas.{base_of-once}
 use Rattle.art_schedules.proofs.Common.{Some, None, if◌then◌else◌, false≢true, none-some, Kind, Four, Sixteen, FortyEight, Full, Row}
-use Rattle.art_schedules.proofs.Common.{base_of-once, Swap, Turn, Asks, Answers, Setting, answers-asks, HeldRow, Hold, Pair, PairWord, Growing}
+use Rattle.art_schedules.proofs.Common.{Swap, Turn, Asks, Answers, Setting, answers-asks, HeldRow, Hold, Pair, PairWord, Growing}
 use Rattle.art_schedules.proofs.Common.{Keys, Outcome, Value, Work, Stage, Lock, Exchange, Wait, Leave, Between, Info, Find, FindKeys, FindMore}
 use Rattle.art_schedules.proofs.Common.{FindCount, Slot, Check, CheckLast, LetGo, Take, StorePair, PutKeys, GrowLeaf, GrowKeys, GrowCount}
 use Rattle.art_schedules.proofs.Common.{Obsolete, Over, Unlock, setting, turn_at, work_at, store_of, pair_turn, put_keys_turn, grow_leaf_turn}
-use Rattle.art_schedules.proofs.Common.{IsAtRest, Named, Reached, calm_of, child_on, grow_count_turn, grow_keys_turn, way_byte}
+use Rattle.art_schedules.proofs.Common.{IsAtRest, Named, Reached, calm_of, child_on, grow_count_turn, grow_keys_turn}
 use Rattle.art_schedules.proofs.versions.MoveLemmas.{true-false}
 use Rattle.art_schedules.proofs.Common.{Effect, Keeps, Fills, PutsLeaf, RemovesLeaf, HangsPair, HangsGrown, base_of_effect, kind_of_effect}
 use Rattle.art_schedules.proofs.Common.{IsGone, is_work, claims_row, hold_at, IsPending, IsReleasing, Last, Lower, Gone, AtWork, Claiming, Going}

@@ -1,9 +1,11 @@
 -- A call at work, or at its end, while another process steps.
 use Rattle.art_schedules.proofs.Common.{◌≡◌, ◌≢◌, ◌⊎◌, inl, inr, ℕ, ◌+◌, ◌<◌, ◌≤◌, List, [], ◌∷◌, ◌++◌, true, false, refl, sym, ap, ◌∙◌, subst}
+use Rattle.art_schedules.proofs.trees.Changes.{way_byte}
+use Rattle.art_schedules.proofs.words.TableLemmas.{row_begins, rows_apart}
 use Rattle.art_schedules.proofs.Common.{arith, Option, Some, None, cases_lt, cases_eq, same_Some, Call, Reply, Contents, Shape, Kind, Four, Row}
-use Rattle.art_schedules.proofs.Common.{row_words, kind_at, child_of, row_word, is_obsolete, some-words, row_begins, rows_apart, Variant}
+use Rattle.art_schedules.proofs.Common.{row_words, kind_at, child_of, row_word, is_obsolete, some-words, Variant}
 use Rattle.art_schedules.proofs.Common.{Setting, HeldRow, Hold, Growing, Work, Outcome, Value, Stage, setting, work_at, hold_alone, OnKey, Process}
-use Rattle.art_schedules.proofs.Common.{Plan, State, Reached, below, slot_of, child_on, IsAtRest, SameRow, IsClaimed, ChildrenAreRead, way_byte}
+use Rattle.art_schedules.proofs.Common.{Plan, State, Reached, below, slot_of, child_on, IsAtRest, SameRow, IsClaimed, ChildrenAreRead}
 use Rattle.art_schedules.proofs.Common.{lock_of, locks_of, rows_of_hold, Named, Each, IsNamed, Knows, child_rows, holds, fills, IsAmong}
 use Rattle.art_schedules.proofs.Common.{IsAtStage, IsAfterVersion, IsOpen, IsSettled, filled_by, held_by, stage_of}
 use Rattle.art_schedules.proofs.versions.MoveLemmas.{settled-row, true-false}

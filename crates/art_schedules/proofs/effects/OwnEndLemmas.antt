@@ -1,7 +1,8 @@
 -- One step of a call that has hung its change, or is at its end.
 use Rattle.art_schedules.proofs.Common.{◌≡◌, ◌≢◌, ◌⊎◌, inl, inr, ℕ, ◌+◌, ◌<◌, ◌≤◌, List, true, false, refl, sym, ap, ◌∙◌, subst, arith, Option}
+use Rattle.art_schedules.proofs.words.TableLemmas.{rows_apart, row_begins}
 use Rattle.art_schedules.proofs.Common.{Some, None, cases_lt, same_Some, none-some, Call, Reply, Contents, Shape, Kind, Four, row_words, kind_at}
-use Rattle.art_schedules.proofs.Common.{is_obsolete, released_word, obsolete_word, rows_apart, row_begins, some-words, Variant, Store, Point}
+use Rattle.art_schedules.proofs.Common.{is_obsolete, released_word, obsolete_word, some-words, Variant, Store, Point}
 use Rattle.art_schedules.proofs.Common.{Asks, Setting, locks, answers-asks, HeldRow, Hold, Outcome, Value, Stage, Unlock, Over, setting, reply_for}
 use Rattle.art_schedules.proofs.Common.{turn_at, stage_after, release_at, hold_alone, OnKey, call_turn, call_after, Process, Plan, State}
 use Rattle.art_schedules.proofs.Common.{Reached, Means, IsAtRest, SameRow, ChildrenAreRead, lock_of, locks_of, rows_of_hold, Named, Each, holds}

@@ -1,10 +1,15 @@
 -- What a step makes of calm's tree: nothing, or the effect of the row that it releases.
 use Rattle.art_schedules.proofs.Common.{◌≡◌, ◌≢◌, ◌⊎◌, inl, inr, ℕ, ◌+◌, ◌/◌, ◌%◌, ◌<◌, ◌≤◌, List, length, true, false, refl, sym, ap, ◌∙◌}
+use Rattle.art_schedules.proofs.alone.SlotLemmas.{slot-is, IsChildWord}
+use Rattle.art_schedules.proofs.trees.Changes.{way_byte}
+use Rattle.art_schedules.proofs.words.TableLemmas.{row_ends}
+use Rattle.art_schedules.proofs.words.VersionLemmas.{obsolete_obsolete, obsolete_released}
+use Rattle.art_schedules.proofs.writes.StoreLemmas.{stored-at}
 use Rattle.art_schedules.proofs.Common.{subst, arith, Option, Some, None, cases_lt, Call, Contents, Shape, Kind, Four, Leaf, row_words}
 use Rattle.art_schedules.proofs.Common.{claims_of, kind_at, is_obsolete, released_word, obsolete_word, row_word, leaf_word, some-words}
-use Rattle.art_schedules.proofs.Common.{claims-few, first-some, row_ends, Variant, Store, Point, Asks, Setting, locks, HeldRow, Stage, setting}
+use Rattle.art_schedules.proofs.Common.{claims-few, first-some, Variant, Store, Point, Asks, Setting, locks, HeldRow, Stage, setting}
 use Rattle.art_schedules.proofs.Common.{turn_at, OnKey, call_turn, Process, Plan, State, Means, IsAtRest, SameRow, IsClaimed, ChildrenAreRead}
-use Rattle.art_schedules.proofs.Common.{slot-is, IsChildWord, stored-at, obsolete_obsolete, obsolete_released, way_byte, lock_of, IsKept}
+use Rattle.art_schedules.proofs.Common.{lock_of, IsKept}
 use Rattle.art_schedules.proofs.Common.{IsAmong, IsAfterVersion, IsOpen, IsSettled, held_by, stage_of}
 use Rattle.art_schedules.proofs.versions.ChangeLemmas.{index-other}
 use Rattle.art_schedules.proofs.versions.KnownLemmas.{held-is-kept}
@@ -14,7 +19,7 @@ use Rattle.art_schedules.proofs.versions.WordFacts.{version-free}
 use Rattle.art_schedules.proofs.Common.{HangsGrown, base_of_effect, kind_of_effect, IsGone, HasEffect, HasFewClaims, EffectsFollow}
 use Rattle.art_schedules.proofs.Common.{KeptTreesFollow, IsUnreached, HasWordAt, IsOld, IsPending, Makes, IsSame}
 use Rattle.std.proofs.Common.{slice_index}
-use Rattle.art_sequential.specs.trees.Trees.{IsFree}
+use Rattle.art_schedules.specs.trees.Trees.{IsFree}
 use Rattle.art_schedules.specs.versions.Steady as steady
 use Rattle.art_schedules.proofs.calm.UseLemmas.{with-released}
 use Rattle.art_schedules.proofs.calm.VersionLemmas.{free-busy, free-parts, released-free, obsolete-busy}

@@ -1,7 +1,8 @@
 -- The reply that goes with an effect is the map's.
 use Rattle.art_schedules.proofs.Common.{◌≡◌, inl, inr, ℕ, List, true, refl, sym, ap, ◌∙◌, subst, if◌then◌else◌, Option, Some, None, eq-eqb, Call}
+use Rattle.art_schedules.proofs.inserts.InsertEndLemmas.{first-differs}
 use Rattle.art_schedules.proofs.Common.{Get, Insert, Remove, Scan, Replace, Contents, value_at, put, is_just, reply_to, Kind, Child, Empty, Row}
-use Rattle.art_schedules.proofs.Common.{Leaf, key_bytes, first_difference, Setting, value_reply, Means, child_on, IsAtRest, Parts, first-differs}
+use Rattle.art_schedules.proofs.Common.{Leaf, key_bytes, first_difference, Setting, value_reply, Means, child_on, IsAtRest, Parts}
 use Rattle.art_schedules.proofs.Common.{Effect, Keeps, Fills, PutsLeaf, RemovesLeaf, HangsPair, HangsGrown, WaysSayValues, IsSaidBy, IsOld}
 use Rattle.art_schedules.proofs.Common.{IsPending, IsEffectOf}
 use Rattle.map_object.specs.MapObject as map

@@ -1,8 +1,9 @@
 -- What a call knows of the rows on its way stays so where calm's tree goes on, for a row whose calm words stay and that does not leave the
 -- tree.
 use Rattle.art_schedules.proofs.Common.{◌≡◌, ℕ, ◌+◌, ◌-◌, ◌<◌, ◌≤◌, List, Bool, true, false, sym, ap, ◌∙◌, subst, arith, Contents, Kind}
+use Rattle.art_schedules.proofs.alone.SlotLemmas.{row-keys, slot-same}
 use Rattle.art_schedules.proofs.Common.{FortyEight, Child, row_words, index_at, child_of, Setting, key_of, HeldRow, Finding, Has, Lacks, Hold, Work}
-use Rattle.art_schedules.proofs.Common.{Each, Follows, HasChild, IsOnWay, SameRow, byte_in, row-keys, rows_of_hold, slot-same, slot_in}
+use Rattle.art_schedules.proofs.Common.{Each, Follows, HasChild, IsOnWay, SameRow, byte_in, rows_of_hold, slot_in}
 use Rattle.art_schedules.proofs.versions.KnownLemmas.{each-map}
 use Rattle.art_schedules.proofs.Common.{KnowsFinding, HangsOnWay, BeginsWork}
 use Rattle.std.proofs.Common.{slice_index}

@@ -1,13 +1,17 @@
 -- A step of a scan, in a run.
 use Rattle.art_schedules.proofs.Common.{◌≡◌, ◌≢◌, inl, inr, ℕ, ◌+◌, ◌<◌, ◌≤◌, List, [], ◌∷◌, ◌++◌, length, refl, sym, ap, ◌∙◌, subst, Bool, true}
+use Rattle.art_schedules.proofs.alone.AloneLemmas.{load-same}
+use Rattle.art_schedules.proofs.words.TableLemmas.{rows_apart}
+use Rattle.art_schedules.proofs.words.VersionLemmas.{taken-locked}
+use Rattle.art_schedules.proofs.writes.StoreLemmas.{stored-at}
 use Rattle.art_schedules.proofs.Common.{false, eqb-true, arith, Option, Some, None, false≢true, Call, Scan, Reply, Contents, Shape, Kind, Four}
 use Rattle.art_schedules.proofs.Common.{Sixteen, FortyEight, Full, kind_at, row_words, is_locked, is_obsolete, locked_word, released_word}
-use Rattle.art_schedules.proofs.Common.{some-words, rows_apart, Coupled, Access, Load, Store, Swap, Point, Asks, word_of, Setting, load-store}
+use Rattle.art_schedules.proofs.Common.{some-words, Coupled, Access, Load, Store, Swap, Point, Asks, word_of, Setting, load-store}
 use Rattle.art_schedules.proofs.Common.{load-add, store-word, asks-answers, load-word, load-exchange, exchange-store, exchange-word}
 use Rattle.art_schedules.proofs.Common.{exchanges-same, HeldRow, Entry, ScanStep, FirstKeys, SecondKeys, Index, LoadChild, Release, setting, Walk}
 use Rattle.art_schedules.proofs.Common.{ScanAt, at, scan_turn, scan_after, step_after, entry_base, entry_at, keys_turn, release_rows, CallAt}
-use Rattle.art_schedules.proofs.Common.{OnScan, call_turn, call_after, call_begun, told, words_after, Plan, State, SameRow, load-same, stored-at}
-use Rattle.art_schedules.proofs.Common.{taken-locked, Each, Knows, holds, fills, IsKept, lock_of, locks_of, IsAmong, IsWith, Reads, Writes, Ends}
+use Rattle.art_schedules.proofs.Common.{OnScan, call_turn, call_after, call_begun, told, words_after, Plan, State, SameRow}
+use Rattle.art_schedules.proofs.Common.{Each, Knows, holds, fills, IsKept, lock_of, locks_of, IsAmong, IsWith, Reads, Writes, Ends}
 use Rattle.art_schedules.proofs.Common.{AccessDoes, Answered, Claims, IsAtStage, IsSettled, Releases, Takes, filled_by, held_by}
 use Rattle.art_schedules.proofs.versions.KnownLemmas.{among-each}
 use Rattle.art_schedules.proofs.Common.{KeepsTree, calm_of, is_busy}

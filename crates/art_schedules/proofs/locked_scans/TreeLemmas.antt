@@ -1,10 +1,11 @@
 -- A scan that knows the calm tree, in a run.
 use Rattle.art_schedules.proofs.Common.{◌≡◌, inl, ℕ, List, [], ◌∷◌, ◌++◌, refl, sym, ap, ◌∙◌, subst, true, false, arith, slice_get, Option}
+use Rattle.art_schedules.proofs.alone.WayLemmas.{leads-root}
 use Rattle.art_schedules.proofs.Common.{false_from_ne_true, same_Some, Scan, Shape, Kind, Four, Sixteen, FortyEight, Full, root_base}
 use Rattle.art_schedules.proofs.Common.{is_obsolete, locked_word, Coupled, Swap, Point, Asks, Setting, asks-answers, load-exchange}
 use Rattle.art_schedules.proofs.Common.{store-exchange, exchange-word, HeldRow, Entry, ScanStep, FirstKeys, SecondKeys, Index, LoadChild, Release}
 use Rattle.art_schedules.proofs.Common.{setting, Walk, ScanAt, at, scan_turn, entry_base, keys_turn, OnScan, call_turn, State, root, below}
-use Rattle.art_schedules.proofs.Common.{IsAtRest, leads-root, holds, lock_of, IsAmong, stage_of, held_by, IsAtStage, calm_of, IsLeaving}
+use Rattle.art_schedules.proofs.Common.{IsAtRest, holds, lock_of, IsAmong, stage_of, held_by, IsAtStage, calm_of, IsLeaving}
 use Rattle.art_schedules.proofs.Common.{ObsoleteLeave, KnowsStep, KnowsTree, ScansTakeLive, IsOver}
 use Rattle.std.proofs.Common.{slice_index}
 use Rattle.art_control_states.specs.declared.stage.Entry.TheVariants.{Root, Below}

@@ -7,7 +7,7 @@ use Rattle.art_schedules.proofs.Common.{keys_at, more_keys_at, index_at, count_a
 use Rattle.art_schedules.proofs.Common.{FirstKeys, HeldRow, Index, LoadChild, Release, ScanStep, SecondKeys, Walk, act, held}
 use Rattle.art_control_states.specs.declared.stage.ScanStep.TheVariants.{Exchange, Keys, Lock}
 use Rattle.art_schedules.proofs.Common.{ScanAt, at, close_at, scan_start, scan_after, step_after, scan_turn, Plan}
-use Rattle.art_sequential.proofs.trees.Bytes.{next_of}
+use Rattle.art_schedules.proofs.trees.Bytes.{next_of}
 use Rattle.art_rows.specs.declared.access.Point.TheVariants as point
 use Rattle.art_control_states.specs.declared.stage.ScanStep.TheVariants.{Wait, Info, Over}
 use Rattle.art_control_states.specs.Scans.{entry_base}

@@ -1,8 +1,9 @@
 -- If an answered scan was validated, its words are those of one moment; so are those that an
 -- answered get read of its last row.
 use Rattle.art_schedules.proofs.Common.{◌≡◌, ℕ, zero, suc, ◌+◌, ◌-◌, ◌^◌, ◌<◌, ◌≤◌, List, [], ◌∷◌, ◌++◌, length, take, refl, ap, sym, subst, ◌∙◌}
+use Rattle.art_schedules.proofs.words.TableLemmas.{rows_apart}
 use Rattle.art_schedules.proofs.Common.{inl, inr, arith, false, slice_get, slice_index, Some, cases_lt, length-append, same_Some, none-some}
-use Rattle.art_schedules.proofs.Common.{take-length, Call, Get, Scan, Reply, Contents, Kind, row_words, is_locked, some-words, rows_apart}
+use Rattle.art_schedules.proofs.Common.{take-length, Call, Get, Scan, Reply, Contents, Kind, row_words, is_locked, some-words}
 use Rattle.art_schedules.proofs.Common.{Optimistic, Load, Asks, Answers, act, asks-same, scan_start, scan_turn, call_turn, call_after_words, Process}
 use Rattle.art_schedules.proofs.Common.{Plan, State, opened_on, begun, run_on, At, IsRun, HasGot, BeginsAttempt, Enters, run-steps, Knows}
 use Rattle.art_schedules.proofs.Common.{optimistic, IsSettled, IsSound, IsSteady, SameWords, GotAt, IsValidated, IsCheckedGet}

@@ -1,6 +1,7 @@
 -- The words of rows: lists that agree from one place to another have the same part there, and no row begins within another.
 use Rattle.art_schedules.proofs.Common.{◌≡◌, ℕ, zero, suc, ◌+◌, ◌<◌, ◌≤◌, List, [], ◌∷◌, length, take, refl, ap, ◌∙◌, inl, inr, arith}
-use Rattle.art_schedules.proofs.Common.{slice_index, Option, Some, None, cases_lt, take-length, rows_apart, Kind, Shape, row_words, kind_at}
+use Rattle.art_schedules.proofs.words.TableLemmas.{rows_apart}
+use Rattle.art_schedules.proofs.Common.{slice_index, Option, Some, None, cases_lt, take-length, Kind, Shape, row_words, kind_at}
 use Rattle.art_schedules.proofs.Common.{some-words}
 use Rattle.std.proofs.Common.{drop}
 use Rattle.art_rows.proofs.WriterLemmas.{take_whole}

@@ -1,11 +1,12 @@
 -- The attempt of a get that answers: the row that it entered last was checked with the version with which it was entered, and the reply is
 -- what its words say.
 use Rattle.art_schedules.proofs.Common.{◌≡◌, ◌≢◌, ℕ, zero, suc, ◌+◌, ◌-◌, ◌%◌, ◌<◌, ◌≤◌, List, [], ◌∷◌, ◌++◌, length, take, refl, ap, sym, subst}
+use Rattle.art_schedules.proofs.words.TableLemmas.{kind_at-base_of}
 use Rattle.art_schedules.proofs.Common.{Bool, None, Option, Some, append_assoc, arith, false, inl, inr, slice_index, true, ◌==◌, ◌∙◌}
 use Rattle.std.specs.Prelude.{◌⊎◌}
 use Rattle.art_schedules.proofs.Common.{append-nil, cases_lt, false≢true, if◌then◌else◌, length-append, none-some, same_Some}
 use Rattle.std.proofs.lemmas.Bool.{eqb-true}
-use Rattle.art_schedules.proofs.Common.{take-length, Get, Reply, kind_at-base_of, Kind, Four, Sixteen, FortyEight, Full, Shape, Child, Empty}
+use Rattle.art_schedules.proofs.Common.{take-length, Get, Reply, Kind, Four, Sixteen, FortyEight, Full, Shape, Child, Empty}
 use Rattle.art_schedules.proofs.Common.{ChildRow, Leaf, row_words, kind_at, root_base, info_at, keys_at, more_keys_at, index_at, count_at}
 use Rattle.art_schedules.proofs.Common.{child_at, is_locked, is_obsolete, entries_of, place_of, child_of, key_bytes, seven-words, key_byte-small}
 use Rattle.art_schedules.proofs.Common.{Load, Point, Asks, Answers, Setting, key_of, path_differs_at, loads-same, answers-asks, asks-answers}

@@ -1,8 +1,9 @@
 -- What holds of an attempt of a scan at each of its stages.
 use Rattle.art_schedules.proofs.Common.{◌≡◌, ◌≢◌, ℕ, ◌+◌, ◌%◌, ◌<◌, ◌≤◌, List, [], ◌∷◌, ◌++◌, length, take, refl, ap, sym, subst, ◌∙◌, Bool, true}
+use Rattle.art_schedules.proofs.words.TableLemmas.{kind_at-base_of}
 use Rattle.art_schedules.proofs.Common.{None, Option, Some, arith, false, if◌then◌else◌, inl, inr, length-append, map, slice_index}
 use Rattle.std.specs.Prelude.{◌⊎◌}
-use Rattle.art_schedules.proofs.Common.{false≢true, none-some, same_Some, kind_at-base_of, Kind, FortyEight, Full, Shape, row_words, kind_at}
+use Rattle.art_schedules.proofs.Common.{false≢true, none-some, same_Some, Kind, FortyEight, Full, Shape, row_words, kind_at}
 use Rattle.art_schedules.proofs.Common.{root_base, info_at, is_locked, is_obsolete, seven-words, Load, Point, Asks, Setting, bytes_of, has_row}
 use Rattle.art_schedules.proofs.Common.{FirstKeys, Frame, HeldRow, Index, LoadChild, ScanStep, SecondKeys, loads-same}
 use Rattle.art_control_states.specs.declared.stage.Entry.TheVariants.{Below}

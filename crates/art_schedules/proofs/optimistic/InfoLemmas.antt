@@ -1,8 +1,9 @@
 -- No call of the optimistic tree stores the info word of a row that is settled: the info words of calm are those of the table.
 use Rattle.art_schedules.proofs.Common.{◌≡◌, ◌≢◌, ◌⊎◌, inl, inr, ℕ, ◌+◌, ◌*◌, ◌<◌, ◌≤◌, List, [], ◌∷◌, Bool, true, false, refl, sym, ap, ◌∙◌}
+use Rattle.art_schedules.proofs.words.TableLemmas.{rows_apart, row_begins}
 use Rattle.art_schedules.proofs.Common.{subst, arith, nat_lt, Option, Some, None, cases_eq, Call, Shape, Kind, Four, Sixteen, FortyEight, Full}
 use Rattle.art_schedules.proofs.Common.{capacity, row_words, kind_at, info_at, keys_at, more_keys_at, index_at, count_at, child_at, seven-words}
-use Rattle.art_schedules.proofs.Common.{key_byte-small, rows_apart, row_begins, Optimistic, Store, Point, Asks, Setting, next_kind, store-word}
+use Rattle.art_schedules.proofs.Common.{key_byte-small, Optimistic, Store, Point, Asks, Setting, next_kind, store-word}
 use Rattle.art_schedules.proofs.Common.{load-store, exchange-store, add-store, answers-asks, HeldRow, Keys, Hold, Growing, Pair, PairWord, Stage}
 use Rattle.art_schedules.proofs.Common.{Lock, Exchange, Wait, Leave, Between, Info, Find, FindKeys, FindMore, FindCount, Slot, Check, CheckLast}
 use Rattle.art_schedules.proofs.Common.{LetGo, Take, Write, ClaimPair, StorePair, PutLoad, PutStore, PutLeaf, PutKeys, PutMore, PutCount}

@@ -1,5 +1,10 @@
 -- A step of a call that knows its way.
 use Rattle.art_schedules.proofs.Common.{◌≡◌, ◌≢◌, ◌⊎◌, inl, inr, ℕ, ◌+◌, ◌-◌, ◌%◌, ◌<◌, ◌≤◌, List, [], ◌∷◌, ◌++◌, length, Bool, true, false}
+use Rattle.art_schedules.proofs.alone.DifferLemmas.{keys-differ}
+use Rattle.art_schedules.proofs.alone.SeekLemmas.{absent-after, seek-reply}
+use Rattle.art_schedules.proofs.alone.WayLemmas.{leads-root}
+use Rattle.art_schedules.proofs.inserts.InsertEndLemmas.{first-differs}
+use Rattle.art_schedules.proofs.inserts.SmallLemmas.{path_byte-small}
 use Rattle.art_schedules.proofs.Common.{refl, sym, ap, ◌∙◌, subst, arith, eqb-true, option_map, nat_le, eqb-false, none-some, Call, Reply}
 use Rattle.art_schedules.proofs.Common.{Contents, value_at, Does, Shape, Kind, Four, Sixteen, FortyEight, Full, Empty, ChildRow, Leaf, capacity}
 use Rattle.art_schedules.proofs.Common.{row_words, root_base, info_at, keys_at, more_keys_at, index_at, count_at, child_at, is_locked}
@@ -11,8 +16,8 @@ use Rattle.art_schedules.proofs.Common.{FindMore, FindCount, Slot, Check, CheckL
 use Rattle.art_schedules.proofs.Common.{keys_among, count_in, setting, after_with, seek_unlocked, insert_unlocked, overwrite_unlocked}
 use Rattle.art_schedules.proofs.Common.{grow_unlocked, found_at, among_at, find_at, below_at, hold_alone, no_value, pair_work, beside_work}
 use Rattle.art_schedules.proofs.Common.{leaf_work, keys_one, release_at, taken_at, take_alone, Reached, Means, HasForm, level_in, path_in}
-use Rattle.art_schedules.proofs.Common.{IsAtRest, LeadsTo, WaysLeadToValues, LeavesAreSmall, is_seek, leads-root, keys-differ, absent-after}
-use Rattle.art_schedules.proofs.Common.{seek-reply, first-differs, path_byte-small, Each, IsKept, IsUnder, FitsPlace, rows_kept, FitsStage}
+use Rattle.art_schedules.proofs.Common.{IsAtRest, LeadsTo, WaysLeadToValues, LeavesAreSmall, is_seek}
+use Rattle.art_schedules.proofs.Common.{Each, IsKept, IsUnder, FitsPlace, rows_kept, FitsStage}
 use Rattle.art_schedules.proofs.Common.{BeginsWork, IsAfterVersion, LacksByte, RowsOf, all_of, held_at_stage, is_busy}
 use Rattle.art_schedules.proofs.versions.KeyLemmas.{slot-behind}
 use Rattle.art_schedules.proofs.versions.WordFacts.{count-most}

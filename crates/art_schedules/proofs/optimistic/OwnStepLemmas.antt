@@ -1,15 +1,19 @@
 -- A step of the call's own, in a run.
 use Rattle.art_schedules.proofs.Common.{◌≡◌, ◌≢◌, ◌⊎◌, inl, inr, ℕ, ◌+◌, ◌<◌, ◌≤◌, List, [], ◌∷◌, ◌++◌, Bool, true, false, refl, sym, ap, ◌∙◌}
+use Rattle.art_schedules.proofs.serial.OrderlyLemmas.{set-here}
+use Rattle.art_schedules.proofs.words.TableLemmas.{rows_apart, row_begins, row_ends}
+use Rattle.art_schedules.proofs.words.VersionLemmas.{obsolete_released}
+use Rattle.art_schedules.proofs.writes.StoreLemmas.{stored-at}
 use Rattle.art_schedules.proofs.Common.{subst, arith, eq-eqb, ne_eqb, slice_get, Option, Some, None, cases_eq, cases_lt, set-get_or, same_Some}
 use Rattle.art_schedules.proofs.Common.{Call, Reply, Contents, Shape, Kind, Four, Sixteen, FortyEight, Full, row_words, kind_at, claims_of}
-use Rattle.art_schedules.proofs.Common.{is_locked, is_obsolete, locked_word, released_word, some-words, claims-few, rows_apart, row_begins}
-use Rattle.art_schedules.proofs.Common.{row_ends, Optimistic, Access, Load, Store, Swap, Point, Asks, Answers, is_tree_call, Setting, is_insert}
+use Rattle.art_schedules.proofs.Common.{is_locked, is_obsolete, locked_word, released_word, some-words, claims-few}
+use Rattle.art_schedules.proofs.Common.{Optimistic, Access, Load, Store, Swap, Point, Asks, Answers, is_tree_call, Setting, is_insert}
 use Rattle.art_schedules.proofs.Common.{is_scan, act, word_of, asks-same, load-store, exchange-store, HeldRow, Hold, Taking, Work, Stage, Wait}
 use Rattle.art_schedules.proofs.Common.{Between, Info, Find, FindKeys, FindMore, FindCount, Slot, Check, CheckLast, Take, Unlock, Over, setting}
 use Rattle.art_schedules.proofs.Common.{turn_at, find_turn, stage_after, taken_at, release_at, OnKey, call_turn, call_after, call_begun, got_by}
 use Rattle.art_schedules.proofs.Common.{words_after, told, Process, Plan, State, opened_on, step, moved, after_move, move_of, move_from, IsRun}
-use Rattle.art_schedules.proofs.Common.{Reached, Means, is-moved, IsAtRest, SameRow, WaysLeadToValues, LeavesAreSmall, stored-at, set-here}
-use Rattle.art_schedules.proofs.Common.{obsolete_released, IsOutside, IsAmong, Each, IsKept, Knows, KnowsKey, holds, rows_kept, FitsStage}
+use Rattle.art_schedules.proofs.Common.{Reached, Means, is-moved, IsAtRest, SameRow, WaysLeadToValues, LeavesAreSmall}
+use Rattle.art_schedules.proofs.Common.{IsOutside, IsAmong, Each, IsKept, Knows, KnowsKey, holds, rows_kept, FitsStage}
 use Rattle.art_schedules.proofs.Common.{IsAtStage, IsOpen, IsSettled, all_of, held_at_stage, held_by, lock_of, stage_of}
 use Rattle.art_schedules.proofs.versions.ChangeLemmas.{index-other}
 use Rattle.art_schedules.proofs.versions.KnownLemmas.{knows-more}

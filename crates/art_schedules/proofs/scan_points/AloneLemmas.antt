@@ -1,10 +1,11 @@
 -- A scan of the optimistic tree that is answered alone on some words is answered so on calm too, and runs alone there to the end.
 use Rattle.art_schedules.proofs.Common.{◌≡◌, ℕ, zero, suc, ◌+◌, ◌<◌, ◌≤◌, List, [], ◌∷◌, ◌++◌, length, take, refl, ap, sym, subst, ◌∙◌, false}
+use Rattle.art_schedules.proofs.alone.AloneLemmas.{same-runs}
 use Rattle.art_schedules.proofs.Common.{inl, inr, arith, slice_index, Option, Some, length-append, append-nil, set-get_or, cases_lt, take-length}
 use Rattle.art_schedules.proofs.Common.{Call, Scan, Reply, Kind, Four, Sixteen, FortyEight, Full, kind_at, Optimistic, Access, Load, Point, Turn}
 use Rattle.art_schedules.proofs.Common.{Asks, Answers, Setting, act, asks-same, answers-asks, answers-same, ScanStep, FirstKeys, SecondKeys}
 use Rattle.art_schedules.proofs.Common.{Index, LoadChild, Release, HeldRow, Walk, ScanAt, at, scan_start, scan_turn, keys_turn, call_turn}
-use Rattle.art_schedules.proofs.Common.{Plan, RunsAlone, after_all, call_begun, ends, goes, got_by, is_busy, same-runs}
+use Rattle.art_schedules.proofs.Common.{Plan, RunsAlone, after_all, call_begun, ends, goes, got_by, is_busy}
 use Rattle.art_schedules.proofs.moments.AttemptLemmas.{stage}
 use Rattle.art_schedules.proofs.moments.ValidLemmas.{turn-is}
 use Rattle.art_schedules.proofs.Common.{SameWords}

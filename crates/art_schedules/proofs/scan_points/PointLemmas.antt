@@ -1,7 +1,8 @@
 -- An answered scan of the optimistic tree has its point at the one moment of its reads.
 use Rattle.art_schedules.proofs.Common.{◌≡◌, ℕ, ◌+◌, ◌<◌, ◌≤◌, List, length, take, refl, ap, sym, subst, ◌∙◌, inl, inr, arith, min, slice_get}
+use Rattle.art_schedules.proofs.alone.AloneLemmas.{runs-once}
 use Rattle.art_schedules.proofs.Common.{cases_lt, length-append, same_Some, slice_get-below, Call, Scan, Reply, operations, Contents, Does}
-use Rattle.art_schedules.proofs.Common.{reply_to, act, Plan, State, begun, history_of, known_reply, opened_on, At, runs-once, IsIn, HasCalls}
+use Rattle.art_schedules.proofs.Common.{reply_to, act, Plan, State, begun, history_of, known_reply, opened_on, At, IsIn, HasCalls}
 use Rattle.art_schedules.proofs.Common.{FrontsHaveMoments, MomentsEndRuns, RunsHaveCalls, ScansAreTheMaps, calm_of, AnsweredScansHavePoints}
 use Rattle.art_rows.proofs.TurnLemmas.{answers-of}
 use Rattle.art_schedules.proofs.moments.MomentLemmas.{scan-has-moment}

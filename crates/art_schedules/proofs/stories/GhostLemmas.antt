@@ -1,13 +1,14 @@
 -- A story is made along a schedule of a full tree, where a ghost, something of the state, and what fits each open call are led on by each
 -- step.
 use Rattle.art_schedules.proofs.Common.{◌≡◌, ◌≢◌, ℕ, ◌+◌, ◌<◌, ◌≤◌, Bool, true, false, List, [], ◌∷◌, ◌++◌, length, take, refl, sym, ap, ◌∙◌}
+use Rattle.art_schedules.proofs.serial.OrderlyLemmas.{set-here}
 use Rattle.art_schedules.proofs.Common.{subst, ⊎_elim, arith, slice_get, slice_index, Option, Some, None, false≢true, cases_lt, take-append-le}
 use Rattle.art_schedules.proofs.Common.{length-append, same_Some, none-some, take-length, Call, Invoke, Reply, pair_limit, operations, Contents}
 use Rattle.art_schedules.proofs.Common.{Kind, Four, Sixteen, FortyEight, Full, claims_of, Access, Point, Turn, Asks, Answers, reply_of, act}
 use Rattle.art_schedules.proofs.Common.{asks-answers, call_turn, call_begun, setting, Process, got_by, Plan, State, Move, Invokes, Responds}
 use Rattle.art_schedules.proofs.Common.{after_move, begun, history_of, invocation, known_reply, move_from, move_of, moved, next_call, next_move}
 use Rattle.art_schedules.proofs.Common.{opened_on, step, word_of_move, IsRun, changed-at, is-moved, begun-more, IsInCallAt, Means, IsAtRest}
-use Rattle.art_schedules.proofs.Common.{AsksFor, IsFull, IsOpen, calm_of, set-here, stage_of}
+use Rattle.art_schedules.proofs.Common.{AsksFor, IsFull, IsOpen, calm_of, stage_of}
 use Rattle.art_schedules.proofs.versions.ChangeLemmas.{index-other}
 use Rattle.art_schedules.proofs.versions.RunLemmas.{idle-idle}
 use Rattle.art_schedules.proofs.versions.StepLemmas.{after-more, next-turn}

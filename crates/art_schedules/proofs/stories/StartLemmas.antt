@@ -1,10 +1,10 @@
 -- The words before the first step: the starting pairs were inserted by one process alone, as a serial schedule.
 use Rattle.art_schedules.proofs.Common.{arith, inserts, SameTreesAreOne, ScansAreTheMaps, StartsAreAtRest}
-use Rattle.art_sequential.specs.trees.Trees.{TablesOpenAtRest}
-use Rattle.art_sequential.specs.alone.Laws.{SeeksAreTheMaps}
-use Rattle.art_sequential.specs.inserts.Laws.{InsertsAreTheMaps}
-use Rattle.art_sequential.proofs.serial.StartKeptLemmas.{start-keeps, start-within}
-use Rattle.art_sequential.proofs.maps.SerialMapLemmas.{IsMap, is-kept}
+use Rattle.art_schedules.specs.trees.Trees.{TablesOpenAtRest}
+use Rattle.art_schedules.specs.alone.Laws.{SeeksAreTheMaps}
+use Rattle.art_schedules.specs.inserts.Laws.{InsertsAreTheMaps}
+use Rattle.art_schedules.proofs.serial.StartKeptLemmas.{start-keeps, start-within}
+use Rattle.art_schedules.proofs.maps.SerialMapLemmas.{IsMap, is-kept}
 
 pub starts-at-rest : TablesOpenAtRest → SameTreesAreOne → SeeksAreTheMaps → ScansAreTheMaps → InsertsAreTheMaps → StartsAreAtRest
 starts-at-rest opens same seeks scans inserts plan start words schedule s run =

@@ -1,16 +1,18 @@
 -- Each access of an open call keeps rows and versions sound, and is steady.
 use Rattle.art_schedules.proofs.Common.{MayWrite, WritesOwn, ◌≡◌, ◌≢◌, ℕ, ◌+◌, ◌*◌, ◌^◌, ◌<◌, ◌≤◌, List, [], length, refl, ap, sym, subst, ◌∙◌}
+use Rattle.art_schedules.proofs.serial.OrderlyLemmas.{set-here}
+use Rattle.art_schedules.proofs.writes.StoreLemmas.{stored-at}
 use Rattle.art_schedules.proofs.Common.{Bool, Some, arith, cases_eq, false, inl, inr, same_Some, slice_get, slice_index, slice_set, true}
 use Rattle.std.specs.Prelude.{◌⊎◌}
 use Rattle.art_schedules.proofs.Common.{Call, Shape, Kind, row_words, claims_of, kind_at, is_locked, locked_word, some-words, claims-few}
-use Rattle.art_schedules.proofs.Common.{row_begins, rows_apart, stored-at, set-here, Variant, Setting, locks, HeldRow, setting, CallAt, Process}
+use Rattle.art_schedules.proofs.Common.{Variant, Setting, locks, HeldRow, setting, CallAt, Process}
 use Rattle.art_schedules.proofs.Common.{State, OfRows, Named, IsSlot, IsKept, Knows, holds, fills, IsGoodAt, IsAmong, IsWith, IsAfterVersion}
 use Rattle.art_schedules.proofs.Common.{AreDistinct, IsHeld, IsOpen, IsSettled, IsSound, IsSteady, SameWords, held_by, stage_of}
 use Rattle.art_schedules.specs.versions.Effects.{Has}
 use Rattle.art_schedules.specs.versions.Writers.{IsHeldBy, IsTakenBy}
 use Rattle.art_rows.specs.Words.{released_word, obsolete_word}
-use Rattle.art_sequential.proofs.words.TableLemmas.{row_ends}
-use Rattle.art_sequential.proofs.words.VersionLemmas.{even-free, taken-locked}
+use Rattle.art_schedules.proofs.words.TableLemmas.{row_ends, row_begins, rows_apart}
+use Rattle.art_schedules.proofs.words.VersionLemmas.{even-free, taken-locked}
 use Rattle.art_schedules.proofs.versions.KeyLemmas.{slot-behind}
 use Rattle.art_schedules.proofs.versions.KnownLemmas.{knows-more}
 use Rattle.art_schedules.proofs.versions.WordFacts.{version-free}

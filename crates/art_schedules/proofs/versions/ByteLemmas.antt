@@ -2,7 +2,7 @@
 use Rattle.art_schedules.proofs.Common.{◌≡◌, ℕ, zero, suc, ◌+◌, ◌/◌, ◌<◌, ◌≤◌, List, [], ◌∷◌, refl, ap, sym, subst, ◌∙◌, Bool, true, false, arith}
 use Rattle.art_schedules.proofs.Common.{Each, bytes_of, filter, if◌then◌else◌, in_word}
 use Rattle.std.proofs.lemmas.Bool.{eqb-true}
-use Rattle.art_sequential.proofs.alone.DifferLemmas.{heads}
+use Rattle.art_schedules.proofs.alone.DifferLemmas.{heads}
 use Rattle.art_rows.specs.Steps.{numbers}
 use Rattle.art_rows.specs.Rows.{Row}
 use Rattle.art_rows.specs.Scan.{can_lie}

@@ -1,9 +1,11 @@
 -- What has to be shown of a step, so that rows and versions stay sound.
 use Rattle.art_schedules.proofs.Common.{row_words, MayWrite, WritesOwn, ◌≡◌, ◌≢◌, ℕ, zero, suc, ◌+◌, ◌*◌, ◌<◌, ◌≤◌, true, List, [], ◌∷◌, length}
+use Rattle.art_schedules.proofs.serial.OrderlyLemmas.{set-here}
+use Rattle.art_schedules.proofs.writes.StoreLemmas.{stored-at}
 use Rattle.art_schedules.proofs.Common.{Some, ap, arith, inl, inr, length-set, refl, slice_get, slice_index, slice_set, subst, sym, ◌∙◌}
 use Rattle.std.specs.Prelude.{◌⊎◌}
 use Rattle.art_schedules.proofs.Common.{cases_eq, same_Some, Call, Shape, Kind, Full, claims_of, root_base, kind_at, is_locked, child_of, HeldRow}
-use Rattle.art_schedules.proofs.Common.{setting, Variant, Process, State, changed-at, stored-at, set-here, IsClaimed, OfRows, IsNamed, child_rows}
+use Rattle.art_schedules.proofs.Common.{setting, Variant, Process, State, changed-at, IsClaimed, OfRows, IsNamed, child_rows}
 use Rattle.art_schedules.proofs.Common.{Knows, IsGoodAt, IsAmong, IsOpen, stage_of, held_by, filled_by, IsSettled, IsHeld, AreDistinct, IsSound}
 use Rattle.std.proofs.Common.{get_or-set_other}
 use Rattle.art_schedules.proofs.versions.KeyLemmas.{each-weaker}

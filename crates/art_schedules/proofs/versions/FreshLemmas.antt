@@ -1,11 +1,12 @@
 -- A row that no claim has reached is written by nobody.
 use Rattle.art_schedules.proofs.Common.{◌≡◌, ◌≢◌, ℕ, ◌+◌, ◌^◌, ◌<◌, ◌≤◌, List, [], ◌∷◌, length, refl, ap, sym, subst, ◌∙◌, arith, inl, inr}
+use Rattle.art_schedules.proofs.words.TableLemmas.{kind_at-base_of, base_of-once, row_begins, rows_apart}
 use Rattle.art_schedules.proofs.Common.{slice_index, slice_set, Option, Some, None, cases_eq, same_Some, Contents, Shape, Kind, Four, Sixteen}
-use Rattle.art_schedules.proofs.Common.{FortyEight, Full, opening, rows_of, claims_of, base_of, root_base, kind_at, kind_at-base_of, base_of-once}
-use Rattle.art_schedules.proofs.Common.{row_begins, rows_apart, IsClaimed, Variant, setting, Plan, State, opened, opened_on, step, run_on}
+use Rattle.art_schedules.proofs.Common.{FortyEight, Full, opening, rows_of, claims_of, base_of, root_base, kind_at}
+use Rattle.art_schedules.proofs.Common.{IsClaimed, Variant, setting, Plan, State, opened, opened_on, step, run_on}
 use Rattle.art_schedules.proofs.Common.{StartsOn, start_plan, IsRun, nowhere, run-steps, IsHeld, IsSettled, IsSound, stage_of, IsSteady, MayWrite}
 use Rattle.art_schedules.proofs.Common.{WritesOwn, IsFull}
-use Rattle.art_sequential.specs.trees.Trees.{AreZeroPastClaims}
+use Rattle.art_schedules.specs.trees.Trees.{AreZeroPastClaims}
 use Rattle.art_schedules.proofs.versions.KnownLemmas.{held-is-kept}
 use Rattle.art_schedules.proofs.versions.ChangeLemmas.{index-other}
 use Rattle.art_schedules.proofs.versions.MoveLemmas.{differ-from}

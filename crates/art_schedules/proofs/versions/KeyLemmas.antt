@@ -1,10 +1,11 @@
 -- What each access of a call on a key does, where both full trees do the same.
 use Rattle.art_schedules.proofs.Common.{◌≡◌, ℕ, zero, suc, ◌+◌, ◌-◌, ◌*◌, ◌<◌, ◌≤◌, List, [], ◌∷◌, ◌++◌, refl, ap, sym, subst, ◌∙◌, Bool, true}
+use Rattle.art_schedules.proofs.words.TableLemmas.{kind_at-base_of, rows_apart}
 use Rattle.art_schedules.proofs.Common.{Call, Four, Kind, None, Option, Some, arith, false, if◌then◌else◌, inl, inr, slice_index, ◌==◌}
 use Rattle.std.specs.Prelude.{◌⊎◌}
 use Rattle.art_schedules.proofs.Common.{Sixteen, FortyEight, Full, Shape, Child, ChildRow, capacity, kind_at, child_at, root_base, rows_of}
 use Rattle.art_schedules.proofs.Common.{base_of, info_at, keys_at, more_keys_at, index_at, count_at, entries_of, child_of, row_word}
-use Rattle.art_schedules.proofs.Common.{new_place-most, key_byte-small, keys4-few, keys16-few, kind_at-base_of, rows_apart, Setting, key_of}
+use Rattle.art_schedules.proofs.Common.{new_place-most, key_byte-small, keys4-few, keys16-few, Setting, key_of}
 use Rattle.art_schedules.proofs.Common.{is_insert, locks, releases_early, new_leaf, HeldRow, Hold, Stage, Wait, Leave, Between, Info, Find, FindKeys}
 use Rattle.art_schedules.proofs.Common.{FindMore, FindCount, Slot, Check, CheckLast, LetGo, Take, Write, ClaimPair, StorePair, PutLoad, PutStore}
 use Rattle.art_schedules.proofs.Common.{PutLeaf, PutKeys, PutMore, PutCount, ClaimGrow, GrowInfo, GrowLoad, GrowStore, SpreadIndex, SpreadLoad}

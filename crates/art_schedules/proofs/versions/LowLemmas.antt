@@ -1,10 +1,12 @@
 -- Claims and stamps keep rows and versions sound: they change no word of a row.
 use Rattle.art_schedules.proofs.Common.{MayWrite, WritesOwn, row_words, ◌≡◌, ◌≢◌, ℕ, ◌+◌, ◌*◌, ◌^◌, ◌<◌, ◌≤◌, List, [], ◌∷◌, length, ap, sym}
+use Rattle.art_schedules.proofs.words.TableLemmas.{row_begins, base_of-once}
+use Rattle.art_schedules.proofs.writes.StoreLemmas.{stored-at}
 use Rattle.art_schedules.proofs.Common.{Call, Some, arith, cases_eq, inl, inr, same_Some, slice_get, slice_index, slice_set, subst, ◌∙◌}
 use Rattle.std.specs.Prelude.{◌⊎◌}
-use Rattle.art_schedules.proofs.Common.{Shape, Kind, Full, rows_of, claims_of, base_of, root_base, kind_at, is_locked, claims-few, row_begins}
-use Rattle.art_schedules.proofs.Common.{base_of-once, HeldRow, setting, Variant, locks, Process, State, OfRows, Named, IsKept, Knows, IsGoodAt}
-use Rattle.art_schedules.proofs.Common.{AreDistinct, IsAmong, IsOpen, IsSettled, IsSound, IsSteady, filled_by, held_by, stage_of, stored-at}
+use Rattle.art_schedules.proofs.Common.{Shape, Kind, Full, rows_of, claims_of, base_of, root_base, kind_at, is_locked, claims-few}
+use Rattle.art_schedules.proofs.Common.{HeldRow, setting, Variant, locks, Process, State, OfRows, Named, IsKept, Knows, IsGoodAt}
+use Rattle.art_schedules.proofs.Common.{AreDistinct, IsAmong, IsOpen, IsSettled, IsSound, IsSteady, filled_by, held_by, stage_of}
 use Rattle.art_schedules.specs.versions.Effects.{Has}
 use Rattle.art_schedules.proofs.Common.{IsClaimed}
 use Rattle.art_schedules.proofs.versions.ChangeLemmas.{written, index-other, held-still, Claims, settled-more, sound-now}

@@ -1,8 +1,10 @@
 -- Each access of an open call keeps rows and versions sound.
 use Rattle.art_schedules.proofs.Common.{◌≡◌, ◌≢◌, ℕ, ◌+◌, ◌*◌, ◌^◌, ◌<◌, ◌≤◌, List, [], ◌∷◌, length, refl, ap, sym, subst, ◌∙◌, inl, inr, arith}
+use Rattle.art_schedules.proofs.words.TableLemmas.{kind_at-base_of, rows_apart}
+use Rattle.art_schedules.proofs.writes.StoreLemmas.{stored-at}
 use Rattle.art_schedules.proofs.Common.{Call, Kind, Shape, Some, cases_eq, false, same_Some, slice_get, slice_index, slice_set, true}
 use Rattle.std.specs.Prelude.{◌⊎◌}
-use Rattle.art_schedules.proofs.Common.{claims_of, kind_at, is_locked, some-words, claims-few, kind_at-base_of, rows_apart, stored-at, IsClaimed}
+use Rattle.art_schedules.proofs.Common.{claims_of, kind_at, is_locked, some-words, claims-few, IsClaimed}
 use Rattle.art_schedules.proofs.Common.{Setting, locks, HeldRow, CallAt, setting, Variant, Process, State, Named, IsKept, Knows, holds, fills}
 use Rattle.art_schedules.proofs.Common.{AreDistinct, IsAmong, IsAfterVersion, IsGoodAt, IsOpen, IsSettled, filled_by, held_by, stage_of}
 use Rattle.art_schedules.specs.versions.Effects.{Has}

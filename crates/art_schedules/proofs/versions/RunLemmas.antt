@@ -1,8 +1,10 @@
 -- Every run of a full tree keeps rows and versions sound, and is steady.
 use Rattle.art_schedules.proofs.Common.{WritesOwn, ◌≡◌, ◌≢◌, ℕ, ◌+◌, ◌^◌, ◌<◌, ◌≤◌, true, List, [], ◌∷◌, ◌++◌, length, refl, ap, sym, subst, ◌∙◌}
+use Rattle.art_schedules.proofs.words.TableLemmas.{kind_at-base_of, row_begins, rows_apart}
+use Rattle.art_schedules.proofs.writes.StoreLemmas.{stored-at}
 use Rattle.art_schedules.proofs.Common.{arith, slice_get, slice_index, slice_set, Option, Some, None, length-set, length-append, same_Some}
 use Rattle.art_schedules.proofs.Common.{none-some, Call, Contents, Shape, Kind, Four, Sixteen, FortyEight, Full, opening, row_words, claims_of}
-use Rattle.art_schedules.proofs.Common.{root_base, kind_at, is_locked, child_of, some-words, kind_at-base_of, row_begins, rows_apart, stored-at}
+use Rattle.art_schedules.proofs.Common.{root_base, kind_at, is_locked, child_of, some-words}
 use Rattle.art_schedules.proofs.Common.{Variant, Process, Plan, State, move_from, opened, opened_on, step, run_on, StartsOn, start_plan, IsRun}
 use Rattle.art_schedules.proofs.Common.{nowhere, all-idle, run-steps, IsSlot, Each, IsNamed, child_rows, IsOpen, IsSettled, IsSound, IsFull}
 use Rattle.art_schedules.proofs.Common.{IsSteady}
@@ -11,7 +13,7 @@ use Rattle.std.proofs.lemmas.List.{length-replicate}
 use Rattle.art_core.proofs.RunLemmas.{run-on-append}
 use Rattle.std.proofs.lemmas.Option.{slice_get_within}
 use Rattle.art_rows.specs.Table.{table_words}
-use Rattle.art_sequential.proofs.trees.Opening.{only-zeros}
+use Rattle.art_schedules.proofs.trees.Opening.{only-zeros}
 use Rattle.art_core.proofs.HistoryLemmas.{opening-length, run-lengths}
 use Rattle.art_schedules.proofs.versions.KeyLemmas.{slot-behind}
 use Rattle.art_schedules.proofs.versions.ChangeLemmas.{index-other, good-more}

@@ -1,10 +1,11 @@
 -- Each step of a full tree keeps rows and versions sound, and is steady.
 use Rattle.art_schedules.proofs.Common.{WritesOwn, true, false, locks, ◌≡◌, ◌≢◌, ℕ, ◌+◌, ◌%◌, ◌^◌, ◌<◌, ◌≤◌, List, [], ◌∷◌, ◌++◌, length, refl}
+use Rattle.art_schedules.proofs.words.TableLemmas.{row_begins}
 use Rattle.art_schedules.proofs.Common.{ap, sym, subst, ◌∙◌, inl, inr, arith, eq-eqb, ne_eqb, slice_get, slice_index, slice_set, Option, Some}
 use Rattle.art_schedules.proofs.Common.{None, if◌then◌else◌, append-nil, cases_eq, cases_lt, same_Some, none-some, Call, Get, Insert, Remove}
 use Rattle.art_schedules.proofs.Common.{Scan, Replace, Reply, Shape, Kind, Four, Sixteen, FortyEight, Full, rows_of, claims_of, base_of}
 use Rattle.art_schedules.proofs.Common.{root_base, kind_at, locked_word, claims-few, Optimistic, Access, Load, Point, Turn, Asks, Answers}
-use Rattle.art_schedules.proofs.Common.{Setting, act, word_of, row_begins, IsClaimed, HeldRow, CallAt, OnKey, OnScan, call_turn, call_after}
+use Rattle.art_schedules.proofs.Common.{Setting, act, word_of, IsClaimed, HeldRow, CallAt, OnKey, OnScan, call_turn, call_after}
 use Rattle.art_schedules.proofs.Common.{Invokes, Move, Plan, Process, State, Variant, after_all, behind, call_begun, call_next, told}
 use Rattle.art_core.specs.Core.{Makes}
 use Rattle.art_schedules.proofs.Common.{Responds, after_move, move_of, invocation, next_call, move_from, step, is-moved, OfRows, Named, Knows}

@@ -7,7 +7,7 @@ use Rattle.art_schedules.proofs.Common.{keys4-few, keys16-few, overwriting, new_
 use Rattle.art_schedules.proofs.Common.{child_rows}
 use Rattle.art_rows.specs.Words.{count_of, leaf_word}
 use Rattle.art_rows.proofs.ByteLemmas.{entries-most, place-within}
-use Rattle.art_sequential.proofs.words.WordLemmas.{row_as}
+use Rattle.art_schedules.proofs.words.WordLemmas.{row_as}
 use Rattle.art_control_states.specs.declared.stage.Keys.{Keys}
 
 count48-most : (w : ℕ) → count_of 48 w ≤ 48

@@ -1,10 +1,12 @@
 -- Work that begins with a claim.
 use Rattle.art_schedules.proofs.Common.{◌≡◌, ℕ, ◌+◌, ◌%◌, ◌^◌, ◌<◌, ◌≤◌, List, ◌∷◌, length, refl, ap, sym, subst, ◌∙◌, Bool, true, false, inl}
+use Rattle.art_schedules.proofs.words.TableLemmas.{row_ends}
+use Rattle.art_schedules.proofs.writes.StoreLemmas.{stored-at, stored-other, stored-long}
 use Rattle.art_schedules.proofs.Common.{inr, arith, nat_lt, slice_index, slice_set, Option, Some, None, if◌then◌else◌, cases_lt, true≢false}
 use Rattle.art_schedules.proofs.Common.{lt-ltb, le-ltb, Reply, Shape, Kind, Child, Empty, row_words, rows_of, table_words, claims_of, base_of}
 use Rattle.art_schedules.proofs.Common.{kind_at, child_of, claims-few, Add, Point, Asks, Setting, is_scan, load-add, store-add, HeldRow, Hold}
 use Rattle.art_schedules.proofs.Common.{Refused, Stage, Unlock, rest_in, turn_at, stage_after, CallAt, OnKey, call_turn, call_after, RunsAlone}
-use Rattle.art_schedules.proofs.Common.{row_ends, IsOutside, stored-at, stored-other, stored-long, IsUnused, all_of, Each, IsKept, IsSlot}
+use Rattle.art_schedules.proofs.Common.{IsOutside, IsUnused, all_of, Each, IsKept, IsSlot}
 use Rattle.art_schedules.proofs.Common.{HangsIn, IsFull, IsRelease, KnowsKey, RowsOf, Solo, Step, claims, loads, stores}
 use Rattle.art_schedules.proofs.versions.KeyLemmas.{slot-behind}
 use Rattle.std.specs.Prelude.{◌≢◌, ◌⊎◌}

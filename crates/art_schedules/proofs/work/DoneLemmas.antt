@@ -1,11 +1,15 @@
 -- What is left where a slot was overwritten, and where a byte was put into a row.
 use Rattle.art_schedules.proofs.Common.{◌≡◌, ℕ, zero, suc, ◌+◌, ◌<◌, ◌≤◌, List, length, refl, ap, sym, subst, ◌∙◌, Bool, false, inl, inr, arith}
+use Rattle.art_schedules.proofs.alone.RowRunLemmas.{unlock_all-comes}
+use Rattle.art_schedules.proofs.words.TableLemmas.{row_ends}
+use Rattle.art_schedules.proofs.writes.PairLemmas.{byte_at-small}
+use Rattle.art_schedules.proofs.writes.StoreLemmas.{stored-other, stored-long}
 use Rattle.art_schedules.proofs.Common.{slice_set, Option, Some, cases_lt, Shape, Kind, Four, Sixteen, FortyEight, Full, row_words, table_words}
 use Rattle.art_schedules.proofs.Common.{kind_at, Rest, ◌>>◌, give, Setting, is_scan, unlock_all, new_leaf, act, stores-same, load-store, HeldRow}
 use Rattle.art_schedules.proofs.Common.{Keys, Hold, Stage, Write, Unlock, row_at, rows_at, rows_held, held, byte_in, keys_in, count_in}
 use Rattle.art_schedules.proofs.Common.{value_reply, finish, part_of, rest_in, no_value, moves_at, put_at, OnKey, RunsAlone, Comes}
-use Rattle.art_schedules.proofs.Common.{unlocked_rows, same-runs, give-comes, then-comes, unlock_all-comes, row_ends, HasPut, stored-other}
-use Rattle.art_schedules.proofs.Common.{IsAmong, IsFull, KnowsKey, RowsOf, Solo, byte_at-small, keys_in_row, lock_of, stored-long}
+use Rattle.art_schedules.proofs.Common.{unlocked_rows, HasPut}
+use Rattle.art_schedules.proofs.Common.{IsAmong, IsFull, KnowsKey, RowsOf, Solo, keys_in_row, lock_of}
 use Rattle.art_schedules.proofs.versions.KnownLemmas.{held-is-kept}
 use Rattle.art_schedules.proofs.Common.{FitsWords, IsRelease, IsDoneBy}
 use Rattle.events.specs.declared.event.Reply.TheVariants as reply
@@ -14,9 +18,9 @@ use Rattle.art_rows.specs.Rows.{row_of}
 use Rattle.art_rows.specs.Updates.{put, put_in, make_room}
 use Rattle.art_control_states.specs.declared.stage.Work.TheVariants as work
 use Rattle.art_control_states.specs.Stages.{ends, work_in, put_moves}
-use Rattle.art_sequential.proofs.alone.AloneLemmas.{store-comes}
-use Rattle.art_sequential.specs.writes.Writes.{IsBeside}
-use Rattle.art_sequential.proofs.writes.PutLemmas.{leaf_put}
+use Rattle.art_schedules.proofs.alone.AloneLemmas.{store-comes, same-runs, give-comes, then-comes}
+use Rattle.art_schedules.specs.writes.Writes.{IsBeside}
+use Rattle.art_schedules.proofs.writes.PutLemmas.{leaf_put}
 use Rattle.art_schedules.proofs.work.WorkLemmas.{IsPlain, behind-plain, Next, writes, put_leaf, moves-next, holds-next, Acts, Loading, Storing}
 use Rattle.art_schedules.proofs.work.WorkLemmas.{acts}
 use Rattle.art_schedules.proofs.work.GoingLemmas.{IsAlong, going-first, solo-along}

@@ -1,9 +1,11 @@
 -- Work at its first release: what its words are there.
 use Rattle.art_schedules.proofs.Common.{◌≡◌, ℕ, ◌≤◌, List, length, refl, ap, sym, subst, ◌∙◌, Bool, true, false, inl, inr, slice_index}
+use Rattle.art_schedules.proofs.alone.AloneLemmas.{runs-once, give-comes, then-comes}
+use Rattle.art_schedules.proofs.writes.StoreLemmas.{stored-other}
 use Rattle.art_schedules.proofs.Common.{slice_set, Option, Some, None, none-some, true≢false, Reply, Shape, obsolete_word, Rest, ◌>>◌, give}
 use Rattle.art_schedules.proofs.Common.{Setting, is_scan, locks, unlock_all, act, HeldRow, Hold, Outcome, Value, Refused, Stage, Obsolete, Unlock}
 use Rattle.art_schedules.proofs.Common.{Over, row_at, rows_at, rows_held, value_reply, reply_for, finish, part_of, rest_in, no_value, OnKey}
-use Rattle.art_schedules.proofs.Common.{RunsAlone, Comes, unlocked_rows, runs-once, give-comes, then-comes, unlock_all-comes, stored-other}
+use Rattle.art_schedules.proofs.Common.{RunsAlone, Comes, unlocked_rows}
 use Rattle.art_schedules.proofs.Common.{all_of, rows_of_hold, Each, IsKept, KnowsKey, IsFull, RowsOf, IsRelease}
 use Rattle.std.specs.Prelude.{◌⊎◌}
 use Rattle.std.proofs.lemmas.List.{ext_get_or}
@@ -11,8 +13,8 @@ use Rattle.events.specs.declared.event.Reply.TheVariants as reply
 use Rattle.art_rows.specs.Steps.{Part}
 use Rattle.art_rows.specs.Rows.{Row, unlock_obsolete}
 use Rattle.art_control_states.specs.Stages.{ends}
-use Rattle.art_sequential.specs.alone.Alone as alone
-use Rattle.art_sequential.proofs.alone.RowRunLemmas.{unlock_obsolete-comes}
+use Rattle.art_schedules.specs.alone.Alone as alone
+use Rattle.art_schedules.proofs.alone.RowRunLemmas.{unlock_obsolete-comes, unlock_all-comes}
 use Rattle.art_schedules.proofs.work.WorkLemmas.{IsPlain, plain-or, not-plain, IsEnd, Next, is_release, at-work}
 use Rattle.art_schedules.proofs.work.GoingLemmas.{AreRows, unlocked-plain, IsBehind, Going, IsAlong}
 use Rattle.art_schedules.proofs.work.CallLemmas.{key-same}

@@ -1,11 +1,13 @@
 -- Work that goes on alone from a stage after its claim: where it is, what its words are, and that
 -- it runs alone.
 use Rattle.art_schedules.proofs.Common.{◌≡◌, ℕ, ◌≤◌, List, [], ◌∷◌, length, refl, ap, sym, subst, ◌∙◌, Bool, true, false, inl, inr, arith}
+use Rattle.art_schedules.proofs.alone.AloneLemmas.{load-same}
+use Rattle.art_schedules.proofs.writes.StoreLemmas.{stored-at, stored-other, stored-long}
 use Rattle.art_schedules.proofs.Common.{slice_index, slice_set, Option, Some, None, get_or_past, cases_eq, cases_lt, Reply, Shape, kind_at}
 use Rattle.art_schedules.proofs.Common.{released_word, Load, Store, Point, Asks, Answers, Setting, is_scan, locks, asks-answers, load-word}
 use Rattle.art_schedules.proofs.Common.{stores-same, load-store, load-add, store-add, HeldRow, Hold, Outcome, Stage, Obsolete, Unlock, Over}
 use Rattle.art_schedules.proofs.Common.{reply_for, rest_in, turn_at, stage_after, hold_alone, release_at, no_value, CallAt, OnKey, call_turn}
-use Rattle.art_schedules.proofs.Common.{call_after, RunsAlone, unlocked_rows, load-same, stored-at, stored-other, stored-long, KnowsKey, IsFull}
+use Rattle.art_schedules.proofs.Common.{call_after, RunsAlone, unlocked_rows, KnowsKey, IsFull}
 use Rattle.art_schedules.proofs.Common.{Step, loads, stores, claims, Solo, RowsOf}
 use Rattle.std.specs.Prelude.{◌⊎◌}
 use Rattle.art_rows.specs.Rows.{Row}

@@ -1,19 +1,23 @@
 -- What is left where a grown row was hung.
 use Rattle.art_schedules.proofs.Common.{◌≡◌, ℕ, ◌+◌, ◌<◌, ◌≤◌, List, length, refl, ap, sym, subst, ◌∙◌, true, false, inl, inr, arith}
+use Rattle.art_schedules.proofs.alone.AloneLemmas.{give-comes, then-comes}
+use Rattle.art_schedules.proofs.words.TableLemmas.{row_begins, kind_at-base_of}
+use Rattle.art_schedules.proofs.writes.PairLemmas.{byte_at-small}
+use Rattle.art_schedules.proofs.writes.StoreLemmas.{stored-at, stored-other, stored-long}
 use Rattle.art_schedules.proofs.Common.{slice_index, slice_set, Some, Kind, Four, Sixteen, FortyEight, Full, Empty, ChildRow, row_words, rows_of}
 use Rattle.art_schedules.proofs.Common.{table_words, claims_of, base_of, info_at, kind_at, info_word, row_word, obsolete_word, two-words, ◌>>◌}
 use Rattle.art_schedules.proofs.Common.{give, Setting, is_scan, locks, new_leaf, next_kind, act, Keys, Hold, Growing, Stage, ClaimGrow, GrowInfo}
 use Rattle.art_schedules.proofs.Common.{row_at, rows_at, byte_in, keys_in, count_in, part_of, rest_in, OnKey, RunsAlone, Comes, unlocked_rows}
-use Rattle.art_schedules.proofs.Common.{give-comes, then-comes, row_begins, kind_at-base_of, HasSameFields, IsOutside, stored-at, stored-other}
-use Rattle.art_schedules.proofs.Common.{stored-long, byte_at-small, keys_in_row, KnowsKey, IsFull, Solo, RowsOf, FitsWords, GrownHangs}
+use Rattle.art_schedules.proofs.Common.{HasSameFields, IsOutside}
+use Rattle.art_schedules.proofs.Common.{keys_in_row, KnowsKey, IsFull, Solo, RowsOf, FitsWords, GrownHangs}
 use Rattle.art_schedules.proofs.Common.{IsRelease, IsDoneBy, IsWorkDone}
 use Rattle.std.specs.Prelude.{◌≢◌}
 use Rattle.events.specs.declared.event.Reply.TheVariants as reply
 use Rattle.art_rows.specs.Updates.{grow}
 use Rattle.art_control_states.specs.declared.stage.Work.TheVariants as work
-use Rattle.art_sequential.specs.writes.Writes.{HasFresh}
-use Rattle.art_sequential.proofs.writes.SameLemmas.{keys-same, count-same, slot-same, child-same, form-same}
-use Rattle.art_sequential.proofs.writes.GrowWholeLemmas.{row_grown}
+use Rattle.art_schedules.specs.writes.Writes.{HasFresh}
+use Rattle.art_schedules.proofs.writes.SameLemmas.{keys-same, count-same, slot-same, child-same, form-same}
+use Rattle.art_schedules.proofs.writes.GrowWholeLemmas.{row_grown}
 use Rattle.art_schedules.proofs.work.WorkLemmas.{IsPlain, behind-plain, plain-or, not-plain, Next, grow_info}
 use Rattle.art_schedules.proofs.work.GoingLemmas.{Going}
 use Rattle.art_schedules.proofs.work.EndLemmas.{comes-run, obsolete-end}

@@ -1,5 +1,6 @@
 -- A call at work touches only words of the rows that it holds or fills.
 use Rattle.art_schedules.proofs.Common.{◌≡◌, ℕ, ◌+◌, ◌-◌, ◌*◌, ◌≤◌, refl, sym, subst, Bool, true, false, inl, arith, ◌==◌, if◌then◌else◌}
+use Rattle.art_schedules.proofs.words.TableLemmas.{kind_at-base_of}
 use Rattle.art_schedules.proofs.Common.{slice_index, false≢true, Call, Shape, Kind, Four, Sixteen, FortyEight, Full, root_base, keys_at}
 use Rattle.art_schedules.proofs.Common.{more_keys_at, index_at, child_at, entries_of, keys16_word, more_keys16_word, Load, Store, Swap, Add}
 use Rattle.art_schedules.proofs.Common.{Variant, Turn, Asks, Answers, Setting, Keys, Hold, Pair, PairWord, Growing, Stage, Lock, Exchange, Wait}
@@ -7,7 +8,7 @@ use Rattle.art_schedules.proofs.Common.{Leave, Between, Info, Find, FindKeys, Fi
 use Rattle.art_schedules.proofs.Common.{ClaimPair, StorePair, PutLoad, PutStore, PutLeaf, PutKeys, PutMore, PutCount, ClaimGrow, GrowInfo}
 use Rattle.art_schedules.proofs.Common.{GrowLoad, GrowStore, SpreadIndex, SpreadLoad, SpreadStore, GrowLeaf, GrowKeys, GrowCount, Hang, Obsolete}
 use Rattle.art_schedules.proofs.Common.{Unlock, Over, setting, place_in, keys_after, turn_at, pair_turn, put_keys_turn, grow_keys_turn}
-use Rattle.art_schedules.proofs.Common.{grow_leaf_turn, grow_count_turn, store_of, CallAt, OnKey, Process, State, kind_at-base_of, IsOpen}
+use Rattle.art_schedules.proofs.Common.{grow_leaf_turn, grow_count_turn, store_of, CallAt, OnKey, Process, State, IsOpen}
 use Rattle.art_schedules.proofs.Common.{IsSettled, IsSound, Knows, KnowsKey, OfRows, RowsOf, lock_of, stage_of}
 use Rattle.art_schedules.proofs.versions.KnownLemmas.{knows-more}
 use Rattle.art_schedules.proofs.versions.MoveLemmas.{settled-row}

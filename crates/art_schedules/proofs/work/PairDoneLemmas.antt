@@ -1,18 +1,22 @@
 -- What is left where a pair was hung.
 use Rattle.art_schedules.proofs.Common.{◌≡◌, ℕ, ◌<◌, ◌≤◌, List, length, refl, ap, sym, subst, ◌∙◌, false, inl, inr, arith, slice_index, Some}
+use Rattle.art_schedules.proofs.alone.AloneLemmas.{then-comes}
+use Rattle.art_schedules.proofs.words.TableLemmas.{kind_at-base_of}
+use Rattle.art_schedules.proofs.words.WordLemmas.{child_of-stored}
+use Rattle.art_schedules.proofs.writes.StoreLemmas.{stored-at, stored-long}
 use Rattle.art_schedules.proofs.Common.{Shape, Four, rows_of, table_words, claims_of, base_of, info_at, kind_at, key_bytes, ◌>>◌, Setting}
 use Rattle.art_schedules.proofs.Common.{key_of, is_scan, locks, byte_at, new_leaf, act, Hold, Pair, Stage, ClaimPair, StorePair, Unlock}
 use Rattle.art_schedules.proofs.Common.{rows_held, old_child, new_child, finish, part_of, rest_in, OnKey, RunsAlone, Comes, unlocked_rows}
-use Rattle.art_schedules.proofs.Common.{then-comes, IsStored, child_of-stored, kind_at-base_of, HasSameFields, IsOutside, stored-at, stored-long}
-use Rattle.art_schedules.proofs.Common.{byte_at-small, KnowsKey, IsFull, Solo, RowsOf, FitsWords, PairHangs, IsRelease, IsDoneBy, IsWorkDone}
+use Rattle.art_schedules.proofs.Common.{IsStored, HasSameFields, IsOutside}
+use Rattle.art_schedules.proofs.Common.{KnowsKey, IsFull, Solo, RowsOf, FitsWords, PairHangs, IsRelease, IsDoneBy, IsWorkDone}
 use Rattle.std.specs.Prelude.{take}
 use Rattle.events.specs.declared.event.Reply.TheVariants as reply
 use Rattle.art_rows.specs.Updates.{pair_in}
 use Rattle.art_control_states.specs.declared.stage.PairWord.TheVariants as pair_word
 use Rattle.art_control_states.specs.declared.stage.Work.TheVariants as work
-use Rattle.art_sequential.specs.writes.Writes.{HasPair}
-use Rattle.art_sequential.proofs.writes.PairLemmas.{pair_is_hung}
-use Rattle.art_sequential.proofs.writes.SameLemmas.{child-same, form-same}
+use Rattle.art_schedules.specs.writes.Writes.{HasPair}
+use Rattle.art_schedules.proofs.writes.PairLemmas.{pair_is_hung, byte_at-small}
+use Rattle.art_schedules.proofs.writes.SameLemmas.{child-same, form-same}
 use Rattle.art_schedules.proofs.work.WorkLemmas.{IsPlain, behind-plain, plain-or, not-plain, Next, pairs}
 use Rattle.art_schedules.proofs.work.GoingLemmas.{Going}
 use Rattle.art_schedules.proofs.work.EndLemmas.{comes-run, finish-comes, none-outcome, unlock-end}

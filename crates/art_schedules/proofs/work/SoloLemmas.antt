@@ -1,7 +1,8 @@
 -- A call that goes on alone: what it comes to, and that it runs alone.
 use Rattle.art_schedules.proofs.Common.{◌≡◌, ℕ, List, [], ◌∷◌, ap, sym, subst, ◌∙◌, Option, Reply, Access, Point, Rest, Asks, Setting, asks-same}
+use Rattle.art_schedules.proofs.alone.AloneLemmas.{same-runs}
 use Rattle.art_schedules.proofs.Common.{asks-answers, CallAt, OnKey, OnScan, rest_at, call_turn, call_after, call_next, got_by, words_after}
-use Rattle.art_schedules.proofs.Common.{RunsAlone, ends, goes, same-runs, Step, Solo, here, further, Suits}
+use Rattle.art_schedules.proofs.Common.{RunsAlone, ends, goes, Step, Solo, here, further, Suits}
 use Rattle.art_control_states.proofs.StepLemmas.{goes_on}
 use Rattle.art_control_states.proofs.ScanLemmas.{scan_goes_on}
 

@@ -1,13 +1,15 @@
 -- The stages of work between its claim and its first release: what comes next, and what is touched there.
 use Rattle.art_schedules.proofs.Common.{◌≡◌, ℕ, zero, suc, ◌+◌, ◌<◌, ◌≤◌, List, [], ◌∷◌, length, refl, ap, sym, subst, ◌∙◌, Bool, true, false}
+use Rattle.art_schedules.proofs.words.TableLemmas.{row_begins, rows_apart}
+use Rattle.art_schedules.proofs.words.WordLemmas.{child_of-stored}
 use Rattle.art_schedules.proofs.Common.{inl, inr, arith, ◌==◌, slice_index, Option, Some, None, if◌then◌else◌, none-some, cases_lt, true≢false}
 use Rattle.art_schedules.proofs.Common.{Shape, Kind, Four, Sixteen, FortyEight, Full, Child, Empty, ChildRow, Leaf, kind_at, entries_of}
 use Rattle.art_schedules.proofs.Common.{child_of, two-words, Load, Store, Point, Asks, Setting, locks, HeldRow, Keys, Hold, Pair, PairWord, Growing}
 use Rattle.art_schedules.proofs.Common.{Spread, Outcome, Value, Stage, Write, StorePair, PutLoad, PutStore, PutLeaf, PutKeys, PutMore, PutCount}
 use Rattle.art_schedules.proofs.Common.{GrowInfo, GrowLoad, GrowStore, SpreadIndex, SpreadLoad, SpreadStore, GrowLeaf, GrowKeys, GrowCount, Hang}
 use Rattle.art_schedules.proofs.Common.{Obsolete, Unlock, no_value, turn_at, stage_after, moves_at, pair_after, put_keys_after, copies_at}
-use Rattle.art_schedules.proofs.Common.{spreads_at, entries_at, fill_at, leaf_after, keys_at_after, OnKey, IsStored, row_begins, rows_apart}
-use Rattle.art_schedules.proofs.Common.{child_of-stored, locks_of, rows_of_hold, Each, IsNamed, KnowsKey, child_rows, holds, IsGoodAt, IsWith}
+use Rattle.art_schedules.proofs.Common.{spreads_at, entries_at, fill_at, leaf_after, keys_at_after, OnKey, IsStored}
+use Rattle.art_schedules.proofs.Common.{locks_of, rows_of_hold, Each, IsNamed, KnowsKey, child_rows, holds, IsGoodAt, IsWith}
 use Rattle.art_schedules.proofs.Common.{AccessDoes, Answered, Claims, Ends, IsAfterVersion, IsFull, Reads, Releases, Takes, Writes}
 use Rattle.art_schedules.proofs.versions.KnownLemmas.{knows-more}
 use Rattle.art_schedules.proofs.Common.{IsHeldWord, RowsOf, is_claim, is_work}

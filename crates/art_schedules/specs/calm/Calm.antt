@@ -14,7 +14,7 @@ use Rattle.art_rows.specs.Steps.{numbers}
 use Rattle.art_core.specs.declared.process.Process.{Process}
 use Rattle.art_core.specs.Core.{Plan, State, opened_on, step}
 use Rattle.art_core.specs.Meaning.{Reached, AllUnlocked}
-use Rattle.art_sequential.specs.trees.Trees.{AreZeroPastClaims}
+use Rattle.art_schedules.specs.trees.Trees.{AreZeroPastClaims}
 use Rattle.art_schedules.specs.versions.Effects.{IsGoodAt}
 use Rattle.art_schedules.specs.versions.Versions.{IsOpen, filled_by, IsSettled, EachHeld}
 use Rattle.art_schedules.specs.versions.Steady.{SameWords}

@@ -18,7 +18,7 @@ use Rattle.art_control_states.specs.Stages.{setting}
 use Rattle.art_core.specs.declared.process.Process.{Process}
 use Rattle.art_core.specs.Core.{State, Plan, step}
 use Rattle.art_core.specs.Plans.{IsRun}
-use Rattle.art_sequential.specs.writes.Writes.{IsOutside}
+use Rattle.art_schedules.specs.writes.Writes.{IsOutside}
 use Rattle.art_schedules.specs.versions.Holding.{IsKept}
 use Rattle.art_schedules.specs.versions.Effects.{IsAmong, IsWith, IsAfterVersion}
 use Rattle.art_schedules.specs.versions.Versions.{IsOpen, IsHeld, stage_of, held_by, filled_by, IsSettled}

@@ -5,7 +5,7 @@ use Rattle.art_rows.specs.declared.table.Shape.{Shape}
 use Rattle.art_rows.specs.declared.table.Kind.{Kind}
 use Rattle.art_rows.specs.Words.{is_obsolete}
 use Rattle.art_control_states.specs.declared.stage.HeldRow.{HeldRow}
-use Rattle.art_sequential.specs.trees.Trees.{SameRow}
+use Rattle.art_schedules.specs.trees.Trees.{SameRow}
 use Rattle.art_schedules.specs.changes.Effects.{Effect, IsGone, ComesIn, pairs_after}
 use Rattle.art_schedules.specs.changes.Follows.{Follows}
 

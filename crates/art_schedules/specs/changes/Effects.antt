@@ -7,7 +7,7 @@ use Rattle.art_rows.specs.declared.table.Kind.TheVariants.{Four}
 use Rattle.art_rows.specs.declared.table.Child.TheVariants.{Empty, Row, Leaf}
 use Rattle.art_rows.specs.Words.{key_bytes}
 use Rattle.art_core.specs.Meaning.{Reached, child_on}
-use Rattle.art_sequential.specs.trees.Trees.{SameRow, LeadsTo, IsFree, IsPair, Parts, IsGrown, IsClaimed}
+use Rattle.art_schedules.specs.trees.Trees.{SameRow, LeadsTo, IsFree, IsPair, Parts, IsGrown, IsClaimed}
 use Rattle.art_schedules.specs.changes.Rows.{HasNewChild, IsFilled}
 
 -- The row that changes is (base, kind) in each; x is the byte of it that has another child.

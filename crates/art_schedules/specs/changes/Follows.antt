@@ -7,7 +7,7 @@ use Rattle.art_rows.specs.Table.{claims_of, info_at}
 use Rattle.art_rows.specs.Words.{is_obsolete}
 use Rattle.art_core.specs.Meaning.{Reached, Means, AllUnlocked}
 use Rattle.art_core.specs.Forms.{level_in, path_in}
-use Rattle.art_sequential.specs.trees.Trees.{IsAtRest, SameTree, LeadsTo, AreZeroPastClaims}
+use Rattle.art_schedules.specs.trees.Trees.{IsAtRest, SameTree, LeadsTo, AreZeroPastClaims}
 
 -- at most this many claims of each kind were made
 abbrev pub HasFewClaims : ℕ → List ℕ → Type 0

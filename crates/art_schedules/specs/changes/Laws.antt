@@ -8,8 +8,8 @@ use Rattle.art_rows.specs.Table.{row_words, claims_of, kind_at}
 use Rattle.art_rows.specs.Words.{key_bytes, first_difference, child_of, child_word, is_locked, is_obsolete}
 use Rattle.art_core.specs.Meaning.{Reached, Means, slot_of, child_on}
 use Rattle.art_core.specs.Forms.{IsTree, level_in, path_in}
-use Rattle.art_sequential.specs.trees.Trees.{IsAtRest, LeadsTo}
-use Rattle.art_sequential.specs.trees.Children.{IsWritable}
+use Rattle.art_schedules.specs.trees.Trees.{IsAtRest, LeadsTo}
+use Rattle.art_schedules.specs.trees.Children.{IsWritable}
 use Rattle.art_schedules.specs.changes.Rows.{OneRow, SameOutside, HasNewChild}
 use Rattle.art_schedules.specs.changes.Effects.{Effect, base_of_effect, kind_of_effect, pairs_after, IsGone, HasEffect, ComesIn}
 use Rattle.art_schedules.specs.changes.Follows.{HasFewClaims, Follows, KeepsTree}

@@ -7,8 +7,8 @@ use Rattle.art_rows.specs.Table.{row_words, claims_of, kind_at, info_at}
 use Rattle.art_rows.specs.Words.{is_locked, is_obsolete}
 use Rattle.art_core.specs.Meaning.{child_on}
 use Rattle.art_core.specs.Forms.{HasForm}
-use Rattle.art_sequential.specs.writes.Writes.{IsOutside}
-use Rattle.art_sequential.specs.trees.Trees.{IsClaimed}
+use Rattle.art_schedules.specs.writes.Writes.{IsOutside}
+use Rattle.art_schedules.specs.trees.Trees.{IsClaimed}
 
 -- Each word of each other row is the same, claims may have risen, and the row is neither locked nor
 -- obsolete. The clock may be any number.

@@ -7,7 +7,7 @@ use Rattle.art_rows.specs.declared.table.Child.TheVariants.{Empty, Row, Leaf}
 use Rattle.art_rows.specs.Words.{key_bytes, info_word, row_word, leaf_word}
 use Rattle.art_core.specs.Meaning.{child_on}
 use Rattle.art_core.specs.Forms.{level_in, path_in}
-use Rattle.art_sequential.specs.trees.Trees.{IsAtRest, SameRow, LeadsTo, IsFree, Parts}
+use Rattle.art_schedules.specs.trees.Trees.{IsAtRest, SameRow, LeadsTo, IsFree, Parts}
 use Rattle.art_schedules.specs.changes.Rows.{OneRow, IsFilled}
 use Rattle.art_schedules.specs.changes.Effects.{PutsLeaf, RemovesLeaf, HangsPair, HangsGrown, HasEffect}
 use Rattle.art_schedules.specs.changes.Written.{IsUnreached, IsPairRow, IsCopy, HasWordAt}

@@ -12,8 +12,8 @@ use Rattle.art_rows.specs.Words.{key_bytes, info_word, row_word}
 use Rattle.art_rows.specs.Updates.{Under}
 use Rattle.art_core.specs.Meaning.{Reached, slot_of, child_on}
 use Rattle.art_core.specs.Forms.{HasForm, level_in, path_in}
-use Rattle.art_sequential.specs.trees.Trees.{IsAtRest, SameRow, IsPair, IsGrown, IsClaimed}
-use Rattle.art_sequential.specs.writes.Writes.{HasPut, IsOutside}
+use Rattle.art_schedules.specs.trees.Trees.{IsAtRest, SameRow, IsPair, IsGrown, IsClaimed}
+use Rattle.art_schedules.specs.writes.Writes.{HasPut, IsOutside}
 use Rattle.art_schedules.specs.changes.Rows.{HasNewChild}
 
 -- no row of the tree begins there

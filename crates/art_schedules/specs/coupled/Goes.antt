@@ -13,7 +13,7 @@ use Rattle.art_control_states.specs.declared.stage.Work.{Work}
 use Rattle.art_control_states.specs.declared.stage.Stage.{Stage}
 use Rattle.art_control_states.specs.Automaton.{turn_at, work_at}
 use Rattle.art_core.specs.Meaning.{Reached}
-use Rattle.art_sequential.specs.trees.Trees.{SameRow}
+use Rattle.art_schedules.specs.trees.Trees.{SameRow}
 use Rattle.art_schedules.specs.versions.Holding.{Each}
 use Rattle.art_schedules.specs.versions.Locking.{rows_of_hold}
 use Rattle.art_schedules.specs.coupled.Knows.{KnowsWay, IsHeldLive}

@@ -19,7 +19,7 @@ use Rattle.art_control_states.specs.declared.stage.Stage.TheVariants.{LetGo, Unl
 use Rattle.art_control_states.specs.Stages.{byte_in, reply_for}
 use Rattle.art_core.specs.Meaning.{Reached}
 use Rattle.art_core.specs.Forms.{level_in, path_in}
-use Rattle.art_sequential.specs.trees.Trees.{LeadsTo}
+use Rattle.art_schedules.specs.trees.Trees.{LeadsTo}
 use Rattle.art_schedules.specs.versions.Holding.{Each}
 use Rattle.art_schedules.specs.versions.Locking.{held_at_stage}
 use Rattle.art_schedules.specs.work.Ways.{slot_in, KnowsFinding, IsOnWay, IsSame, HangsOnWay}

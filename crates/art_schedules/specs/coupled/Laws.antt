@@ -11,7 +11,7 @@ use Rattle.art_control_states.specs.declared.stage.Stage.{Stage}
 use Rattle.art_control_states.specs.Stages.{setting}
 use Rattle.art_control_states.specs.Automaton.{turn_at, stage_after}
 use Rattle.art_core.specs.Meaning.{Means}
-use Rattle.art_sequential.specs.trees.Trees.{IsAtRest}
+use Rattle.art_schedules.specs.trees.Trees.{IsAtRest}
 use Rattle.art_schedules.specs.versions.Holding.{FitsStage}
 use Rattle.art_schedules.specs.versions.Versions.{IsAtStage}
 use Rattle.art_rows.specs.declared.access.Access.{Access}

@@ -21,7 +21,7 @@ use Rattle.art_control_states.specs.Stages.{setting}
 use Rattle.art_control_states.specs.Scans.{ScanAt, scan_turn, scan_after}
 use Rattle.art_control_states.specs.Calls.{OnScan}
 use Rattle.art_core.specs.Meaning.{Reached, slot_of, child_on}
-use Rattle.art_sequential.specs.trees.Trees.{IsAtRest, SameRow}
+use Rattle.art_schedules.specs.trees.Trees.{IsAtRest, SameRow}
 use Rattle.map_object.specs.MapObject.{Contents}
 use Rattle.art_schedules.specs.changes.Effects.{Effect}
 use Rattle.art_schedules.specs.changes.Courses.{IsGoneBy, ComesInBy}

@@ -21,7 +21,7 @@ use Rattle.art_control_states.specs.Scans.{ScanAt}
 use Rattle.art_control_states.specs.Calls.{CallAt, OnScan, call_turn, call_after, call_begun}
 use Rattle.art_core.specs.Accesses.{got_by, words_after}
 use Rattle.art_core.specs.Meaning.{Means}
-use Rattle.art_sequential.specs.trees.Trees.{IsAtRest}
+use Rattle.art_schedules.specs.trees.Trees.{IsAtRest}
 use Rattle.art_schedules.specs.versions.Effects.{IsAmong}
 
 -- the word is one of these rows

@@ -28,7 +28,7 @@ use Rattle.art_control_states.specs.Automaton.{work_at, hold_alone}
 use Rattle.art_control_states.specs.Calls.{OnKey}
 use Rattle.art_core.specs.Meaning.{child_on}
 use Rattle.art_core.specs.Forms.{level_in, path_in}
-use Rattle.art_sequential.specs.trees.Trees.{SameRow, LeadsTo, Parts, IsClaimed}
+use Rattle.art_schedules.specs.trees.Trees.{SameRow, LeadsTo, Parts, IsClaimed}
 use Rattle.art_schedules.specs.versions.Locking.{rows_of_hold}
 use Rattle.art_schedules.specs.versions.Holding.{Named, Each, Knows}
 use Rattle.art_schedules.specs.changes.Rows.{HasNewChild}

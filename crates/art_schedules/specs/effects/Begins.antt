@@ -13,7 +13,7 @@ use Rattle.art_control_states.specs.declared.stage.Work.{Work}
 use Rattle.art_control_states.specs.declared.stage.Work.TheVariants as work
 use Rattle.art_control_states.specs.Stages.{byte_in}
 use Rattle.art_core.specs.Meaning.{slot_of, child_on}
-use Rattle.art_sequential.specs.trees.Trees.{LeadsTo, Parts}
+use Rattle.art_schedules.specs.trees.Trees.{LeadsTo, Parts}
 use Rattle.art_schedules.specs.work.Works.{FitsWords}
 
 -- the row that changes: the upper one of those that are held, which is released last

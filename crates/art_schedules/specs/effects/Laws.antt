@@ -19,7 +19,7 @@ use Rattle.art_control_states.specs.Automaton.{turn_at, work_at}
 use Rattle.art_control_states.specs.Calls.{OnKey}
 use Rattle.art_core.specs.Core.{Plan, State}
 use Rattle.art_core.specs.Meaning.{Reached, Means}
-use Rattle.art_sequential.specs.trees.Trees.{IsAtRest, IsClaimed}
+use Rattle.art_schedules.specs.trees.Trees.{IsAtRest, IsClaimed}
 use Rattle.art_schedules.specs.versions.Locking.{rows_of_hold}
 use Rattle.art_schedules.specs.versions.Holding.{Named, Each, Knows, holds}
 use Rattle.art_schedules.specs.versions.Effects.{IsAmong}

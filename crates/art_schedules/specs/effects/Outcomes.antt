@@ -15,7 +15,7 @@ use Rattle.art_control_states.specs.Stages.{setting, reply_for}
 use Rattle.art_control_states.specs.Calls.{OnKey}
 use Rattle.art_core.specs.Core.{State}
 use Rattle.art_core.specs.Meaning.{Reached}
-use Rattle.art_sequential.specs.trees.Trees.{IsClaimed}
+use Rattle.art_schedules.specs.trees.Trees.{IsClaimed}
 use Rattle.art_schedules.specs.versions.Holding.{Named}
 use Rattle.art_schedules.specs.versions.Versions.{IsAtStage, EachHeld}
 use Rattle.art_schedules.specs.versions.Writers.{IsHeldBy}

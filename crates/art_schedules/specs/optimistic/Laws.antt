@@ -15,7 +15,7 @@ use Rattle.art_control_states.specs.Automaton.{stage_after}
 use Rattle.art_core.specs.Core.{Plan, State}
 use Rattle.art_core.specs.Plans.{IsRun}
 use Rattle.art_core.specs.Meaning.{Means}
-use Rattle.art_sequential.specs.trees.Trees.{IsAtRest}
+use Rattle.art_schedules.specs.trees.Trees.{IsAtRest}
 use Rattle.art_schedules.specs.versions.Holding.{Each, KnowsKey}
 use Rattle.art_schedules.specs.versions.Versions.{IsSettled}
 use Rattle.art_schedules.specs.versions.Steady.{IsSteady}

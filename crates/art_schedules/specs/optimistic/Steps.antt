@@ -20,7 +20,7 @@ use Rattle.art_control_states.specs.Scans.{ScanAt}
 use Rattle.art_core.specs.declared.process.Process.{Process}
 use Rattle.art_core.specs.Core.{Plan, State}
 use Rattle.art_core.specs.Meaning.{Means}
-use Rattle.art_sequential.specs.trees.Trees.{IsAtRest}
+use Rattle.art_schedules.specs.trees.Trees.{IsAtRest}
 use Rattle.art_schedules.specs.versions.Versions.{IsOpen, stage_of, IsAtStage}
 use Rattle.art_schedules.specs.calm.Calm.{calm_of}
 use Rattle.art_schedules.specs.changes.Effects.{Effect}

@@ -15,7 +15,7 @@ use Rattle.art_control_states.specs.Scans.{ScanAt}
 use Rattle.art_control_states.specs.Calls.{OnKey, OnScan}
 use Rattle.art_core.specs.declared.process.Process.{Process}
 use Rattle.art_core.specs.Core.{State}
-use Rattle.art_sequential.specs.trees.Trees.{IsClaimed}
+use Rattle.art_schedules.specs.trees.Trees.{IsClaimed}
 use Rattle.art_schedules.specs.versions.Holding.{Named}
 use Rattle.art_schedules.specs.versions.Versions.{stage_of}
 use Rattle.art_schedules.specs.stories.Stories.{Status, Before, Found, Changed}

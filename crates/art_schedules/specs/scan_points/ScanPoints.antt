@@ -12,7 +12,7 @@ use Rattle.art_core.specs.Plans.{IsRun}
 use Rattle.art_core.specs.Meaning.{Means}
 use Rattle.art_core.specs.Moments.{HasGot}
 use Rattle.art_schedules.specs.calls.RunCalls.{IsIn}
-use Rattle.art_sequential.specs.trees.Trees.{IsAtRest}
+use Rattle.art_schedules.specs.trees.Trees.{IsAtRest}
 use Rattle.art_schedules.specs.calm.Calm.{calm_of}
 
 -- A moment t of the schedule, before moment u, at which process p is in this scan, the last of this

@@ -19,7 +19,7 @@ use Rattle.art_core.specs.Accesses.{got_by, words_after}
 use Rattle.art_core.specs.Core.{Plan, State, begun, next_call, opened_on}
 use Rattle.art_core.specs.Plans.{IsRun}
 use Rattle.art_core.specs.Meaning.{Means}
-use Rattle.art_sequential.specs.trees.Trees.{IsAtRest}
+use Rattle.art_schedules.specs.trees.Trees.{IsAtRest}
 use Rattle.art_schedules.specs.versions.Versions.{IsOpen, stage_of}
 use Rattle.art_schedules.specs.calm.Calm.{calm_of, IsCalm}
 use Rattle.art_schedules.specs.calm.Changes.{CalmStep, IsRunStep}

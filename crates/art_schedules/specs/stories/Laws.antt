@@ -6,7 +6,7 @@ use Rattle.orders.specs.Orders.{IsLinearizable}
 use Rattle.art_core.specs.Core.{Plan, State, history_of, opened_on}
 use Rattle.art_core.specs.Plans.{IsRun}
 use Rattle.art_core.specs.Meaning.{Means}
-use Rattle.art_sequential.specs.trees.Trees.{IsAtRest}
+use Rattle.art_schedules.specs.trees.Trees.{IsAtRest}
 use Rattle.art_schedules.specs.calls.Effects.{HaveEffects}
 use Rattle.art_schedules.specs.stories.Stories.{Trace, IsStory}
 

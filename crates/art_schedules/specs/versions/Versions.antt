@@ -12,7 +12,7 @@ use Rattle.art_control_states.specs.Stages.{setting}
 use Rattle.art_control_states.specs.Calls.{CallAt, call_after_words}
 use Rattle.art_core.specs.declared.process.Process.{Process}
 use Rattle.art_core.specs.Core.{State}
-use Rattle.art_sequential.specs.trees.Trees.{IsClaimed}
+use Rattle.art_schedules.specs.trees.Trees.{IsClaimed}
 use Rattle.art_schedules.specs.versions.Holding.{Named, Knows, holds, fills}
 use Rattle.art_schedules.specs.versions.Effects.{IsGoodAt, IsAmong}
 

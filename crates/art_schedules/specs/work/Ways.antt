@@ -11,7 +11,7 @@ use Rattle.art_control_states.specs.declared.stage.Finding.{Finding}
 use Rattle.art_control_states.specs.declared.stage.Finding.TheVariants.{Has, Lacks}
 use Rattle.art_control_states.specs.Stages.{byte_in}
 use Rattle.art_core.specs.Meaning.{slot_of, Reached}
-use Rattle.art_sequential.specs.trees.Trees.{LeadsTo, SameRow}
+use Rattle.art_schedules.specs.trees.Trees.{LeadsTo, SameRow}
 use Rattle.art_schedules.specs.work.Works.{LacksByte}
 
 -- The key's way leads to the row, whose info the call has read, so that level, path and byte are those of the calm table.

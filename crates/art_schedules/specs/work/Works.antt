@@ -23,9 +23,9 @@ use Rattle.art_control_states.specs.Stages.{row_at, byte_in, old_child, new_chil
 use Rattle.art_control_states.specs.Automaton.{no_value}
 use Rattle.art_core.specs.Meaning.{slot_of, child_on}
 use Rattle.art_core.specs.Forms.{HasForm}
-use Rattle.art_sequential.specs.writes.Writes.{HasPut, IsOutside}
-use Rattle.art_sequential.specs.trees.Trees.{IsUnused}
-use Rattle.art_sequential.specs.alone.Finding.{count_in_row, keys_in_row}
+use Rattle.art_schedules.specs.writes.Writes.{HasPut, IsOutside}
+use Rattle.art_schedules.specs.trees.Trees.{IsUnused}
+use Rattle.art_schedules.specs.alone.Finding.{count_in_row, keys_in_row}
 use Rattle.art_schedules.specs.versions.Holding.{OfRows}
 
 -- the rows of the table

@@ -2,7 +2,7 @@
 ghost use Rattle.art_schedules.specs.changes.Laws.{EffectsFollow, KeptTreesFollow};
 ghost use Rattle.art_schedules.specs.changes.Laws.{WaysSayValues};
 
-use art_sequential::{
+use crate::laws::trees::{
     grown_rows_are_hung, leaves_are_put, leaves_are_removed, pairs_are_hung, same_trees_are_one,
     ways_lead_to_values,
 };

@@ -6,7 +6,8 @@ ghost use Rattle.art_schedules.specs.coupled.Good.{GoodRowsStay, OthersLeaveGood
 ghost use Rattle.art_schedules.specs.coupled.Walks.{WalksAreTheMaps, WalksStay};
 
 use crate::laws::changes::kept_trees_follow;
-use art_sequential::{leaves_are_small, scans_are_the_maps, ways_lead_to_values};
+use crate::laws::trees::{leaves_are_small, ways_lead_to_values};
+use crate::laws::walks::scans_are_the_maps;
 
 /// A call on a key begins at the lock of the root, where it knows nothing yet.
 pub fn calls_begin()

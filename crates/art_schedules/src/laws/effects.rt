@@ -6,8 +6,8 @@ ghost use Rattle.art_schedules.specs.effects.Laws.{EndersGoOn, ObsoleteRowsHang,
 ghost use Rattle.art_schedules.specs.effects.Laws.{WorkersOnlyWork};
 
 use crate::laws::changes::{effects_follow, kept_trees_follow, ways_say_values};
+use crate::laws::trees::children_are_read;
 use crate::laws::work::work_is_done;
-use art_sequential::children_are_read;
 
 /// A call whose work begins is at work.
 pub fn work_begins()

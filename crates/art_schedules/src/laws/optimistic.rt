@@ -3,7 +3,7 @@ ghost use Rattle.art_schedules.specs.optimistic.Laws.{WaysBegin};
 ghost use Rattle.art_schedules.specs.optimistic.Steps.{OtherStepsKeepWays, OwnFindingsStay, OwnStepsGoOn, QuietStepsKeepTrees};
 ghost use Rattle.art_schedules.specs.optimistic.Steps.{ScansStoreNothing};
 
-use art_sequential::{leaves_are_small, ways_lead_to_values};
+use crate::laws::trees::{leaves_are_small, ways_lead_to_values};
 
 /// Before its first access a call knows its way.
 pub fn ways_begin()

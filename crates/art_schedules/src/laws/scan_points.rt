@@ -2,7 +2,7 @@
 ghost use Rattle.art_schedules.specs.scan_points.ScanPoints.{AnsweredScansHavePoints};
 
 use crate::laws::calls::{fronts_have_moments, moments_end_runs, runs_have_calls};
-use art_sequential::scans_are_the_maps;
+use crate::laws::walks::scans_are_the_maps;
 
 /// A scan of the optimistic tree whose reply is known has a moment within it at which the reply is that of the map that calm
 /// means then.

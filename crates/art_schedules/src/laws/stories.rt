@@ -1,11 +1,11 @@
 // Laws of stories: each function only carries its clause.
 ghost use Rattle.art_schedules.specs.stories.Laws.{StartsAreAtRest, StoriesGiveEffects, StoriesGiveOrders};
 
+use crate::laws::alone::seeks_are_the_maps;
 use crate::laws::calls::effects_give_orders;
-use art_sequential::{
-    inserts_are_the_maps, same_trees_are_one, scans_are_the_maps, seeks_are_the_maps,
-    tables_open_at_rest,
-};
+use crate::laws::inserts::inserts_are_the_maps;
+use crate::laws::trees::{same_trees_are_one, tables_open_at_rest};
+use crate::laws::walks::scans_are_the_maps;
 
 /// Before the first step of a run the words are a tree at rest, and mean the pairs that the run starts with.
 pub fn starts_are_at_rest()

@@ -1,5 +1,5 @@
 use Rattle.cli_plans.proofs.Common.{rules, text_limit, IsRun-read, IsTreeDriveAnswer, IsDriveRefusal, WasPassedForPlan}
-use Rattle.drives.specs.ArenaDrives.{IsArenaDriveOf}
+use Rattle.running.specs.ArenaDrives.{IsArenaDriveOf}
 use Rattle.cli_outcome.proofs.Reading.{made-status}
 use Rattle.cli_plans.proofs.WholePlans.{IsDrivenAnswer-whole, IsDriveRefusal-whole, planned-whole}
 use Rattle.cli_plans.proofs.tree_drive.run_tree_drive.Goals as goal

@@ -1,5 +1,0 @@
-use Rattle.art_sequential.proofs.trees.Grown.{grown-rows-are-hung}
-use Rattle.art_sequential.proofs.laws.trees.grown_rows_are_hung.Goals as goal
-
-pub returns : goal.returns
-returns c = grown-rows-are-hung

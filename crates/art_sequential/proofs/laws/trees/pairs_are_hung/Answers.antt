@@ -1,5 +1,0 @@
-use Rattle.art_sequential.proofs.trees.Pairs.{pairs-are-hung}
-use Rattle.art_sequential.proofs.laws.trees.pairs_are_hung.Goals as goal
-
-pub returns : goal.returns
-returns c = pairs-are-hung

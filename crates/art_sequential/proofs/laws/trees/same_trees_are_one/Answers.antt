@@ -1,5 +1,0 @@
-use Rattle.art_sequential.proofs.trees.SameTrees.{same-trees}
-use Rattle.art_sequential.proofs.laws.trees.same_trees_are_one.Goals as goal
-
-pub returns : goal.returns
-returns c = same-trees

@@ -1,5 +1,0 @@
-use Rattle.art_sequential.proofs.walks.ScanLemmas.{scans-are-the-maps}
-use Rattle.art_sequential.proofs.laws.walks.scans_are_the_maps.Goals as goal
-
-pub returns : goal.returns
-returns c = scans-are-the-maps c.same_trees_are_one.ensures c.maps_are_one.ensures c.trees_are_walked.ensures

@@ -1,4 +1,0 @@
-pub mod ArenaDrives
-pub mod Drives
-pub mod Groups
-pub mod Passes

@@ -1,5 +1,0 @@
-use Rattle.follow_key_laws.proofs.UniteLemmas.{left_calls_unite}
-use Rattle.follow_key_laws.proofs.call_laws.left_calls_unite.Goals as goal
-
-pub returns : goal.returns
-returns c = left_calls_unite

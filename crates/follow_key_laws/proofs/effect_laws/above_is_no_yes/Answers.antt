@@ -1,5 +1,0 @@
-use Rattle.follow_key_laws.proofs.WiderRuleLemmas.{no_yes}
-use Rattle.follow_key_laws.proofs.effect_laws.above_is_no_yes.Goals as goal
-
-pub returns : goal.returns
-returns c = no_yes

@@ -1,5 +1,0 @@
-use Rattle.follow_key_laws.proofs.WiderRuleLemmas.{no_no}
-use Rattle.follow_key_laws.proofs.effect_laws.below_is_no_no.Goals as goal
-
-pub returns : goal.returns
-returns c = no_no

@@ -1,5 +1,0 @@
-use Rattle.follow_key_laws.proofs.GrowLemmas.{grow}
-use Rattle.follow_key_laws.proofs.effect_laws.calls_grow.Goals as goal
-
-pub returns : goal.returns
-returns c = grow

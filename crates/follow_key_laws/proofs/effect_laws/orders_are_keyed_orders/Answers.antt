@@ -1,5 +1,0 @@
-use Rattle.follow_key_laws.proofs.BridgeLemmas.{keyed_orders}
-use Rattle.follow_key_laws.proofs.effect_laws.orders_are_keyed_orders.Goals as goal
-
-pub returns : goal.returns
-returns c = keyed_orders

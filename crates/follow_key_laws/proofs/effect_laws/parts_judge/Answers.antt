@@ -1,5 +1,0 @@
-use Rattle.follow_key_laws.proofs.EffectPartLemmas.{parts_judge}
-use Rattle.follow_key_laws.proofs.effect_laws.parts_judge.Goals as goal
-
-pub returns : goal.returns
-returns c = parts_judge

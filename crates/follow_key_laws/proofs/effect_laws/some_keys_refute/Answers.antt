@@ -1,5 +1,0 @@
-use Rattle.follow_key_laws.proofs.ApartLemmas.{some_refute}
-use Rattle.follow_key_laws.proofs.effect_laws.some_keys_refute.Goals as goal
-
-pub returns : goal.returns
-returns c = some_refute

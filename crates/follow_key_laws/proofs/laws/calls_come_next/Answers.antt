@@ -1,5 +1,0 @@
-use Rattle.follow_key_laws.proofs.CallLemmas.{calls_come_next}
-use Rattle.follow_key_laws.proofs.laws.calls_come_next.Goals as goal
-
-pub returns : goal.returns
-returns c = calls_come_next

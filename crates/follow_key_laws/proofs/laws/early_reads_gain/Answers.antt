@@ -1,5 +1,0 @@
-use Rattle.follow_key_laws.proofs.WiderLemmas.{early_reads_gain}
-use Rattle.follow_key_laws.proofs.laws.early_reads_gain.Goals as goal
-
-pub returns : goal.returns
-returns c = early_reads_gain

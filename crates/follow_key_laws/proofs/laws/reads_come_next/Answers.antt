@@ -1,5 +1,0 @@
-use Rattle.follow_key_laws.proofs.CallLemmas.{reads_come_next}
-use Rattle.follow_key_laws.proofs.laws.reads_come_next.Goals as goal
-
-pub returns : goal.returns
-returns c = reads_come_next

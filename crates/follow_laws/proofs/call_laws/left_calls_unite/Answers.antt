@@ -1,0 +1,5 @@
+use Rattle.follow_laws.proofs.UniteLemmas.{left_calls_unite}
+use Rattle.follow_laws.proofs.call_laws.left_calls_unite.Goals as goal
+
+pub returns : goal.returns
+returns c = left_calls_unite

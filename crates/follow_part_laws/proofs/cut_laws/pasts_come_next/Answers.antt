@@ -1,5 +1,0 @@
-use Rattle.follow_part_laws.proofs.NextLemmas.{pasts_come_next}
-use Rattle.follow_part_laws.proofs.cut_laws.pasts_come_next.Goals as goal
-
-pub returns : goal.returns
-returns c = pasts_come_next

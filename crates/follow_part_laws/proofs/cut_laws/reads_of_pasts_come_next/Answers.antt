@@ -1,5 +1,0 @@
-use Rattle.follow_part_laws.proofs.NextLemmas.{reads_of_pasts_come_next}
-use Rattle.follow_part_laws.proofs.cut_laws.reads_of_pasts_come_next.Goals as goal
-
-pub returns : goal.returns
-returns c = reads_of_pasts_come_next

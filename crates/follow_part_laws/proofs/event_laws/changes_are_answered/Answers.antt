@@ -1,5 +1,0 @@
-use Rattle.follow_part_laws.proofs.AnswerLemmas.{changes_are_answered}
-use Rattle.follow_part_laws.proofs.event_laws.changes_are_answered.Goals as goal
-
-pub returns : goal.returns
-returns c = changes_are_answered

@@ -1,5 +1,0 @@
-use Rattle.follow_part_laws.proofs.RestLemmas.{reads_without_report_are_taken}
-use Rattle.follow_part_laws.proofs.event_laws.reads_without_report_are_taken.Goals as goal
-
-pub returns : goal.returns
-returns c = reads_without_report_are_taken

@@ -1,5 +1,0 @@
-use Rattle.follow_part_laws.proofs.PastEventLemmas.{nothing_is_kept}
-use Rattle.follow_part_laws.proofs.past_event_laws.nothing_is_kept.Goals as goal
-
-pub returns : goal.returns
-returns c = nothing_is_kept

@@ -1,5 +1,0 @@
-use Rattle.follow_part_laws.proofs.PastEventLemmas.{others_are_answered}
-use Rattle.follow_part_laws.proofs.past_event_laws.others_are_answered.Goals as goal
-
-pub returns : goal.returns
-returns c = others_are_answered

@@ -1,5 +1,0 @@
-use Rattle.follow_part_laws.proofs.StepLemmas.{dead_pasts_are_lost}
-use Rattle.follow_part_laws.proofs.step_laws.dead_pasts_are_lost.Goals as goal
-
-pub returns : goal.returns
-returns c = dead_pasts_are_lost

@@ -1,5 +1,0 @@
-use Rattle.follow_part_laws.proofs.DecideLemmas.{kept_parts_decide}
-use Rattle.follow_part_laws.proofs.step_laws.kept_parts_decide.Goals as goal
-
-pub returns : goal.returns
-returns c = kept_parts_decide

@@ -1,5 +1,0 @@
-use Rattle.follow_part_laws.proofs.UniteLemmas.{kept_parts_unite}
-use Rattle.follow_part_laws.proofs.step_laws.kept_parts_unite.Goals as goal
-
-pub returns : goal.returns
-returns c = kept_parts_unite

@@ -1,5 +1,0 @@
-use Rattle.follow_part_laws.proofs.ReachLemmas.{kept_pasts_are_reached}
-use Rattle.follow_part_laws.proofs.step_laws.kept_pasts_are_reached.Goals as goal
-
-pub returns : goal.returns
-returns c = kept_pasts_are_reached

@@ -1,5 +1,0 @@
-use Rattle.follow_part_laws.proofs.PastLemmas.{open_changes_are_kept}
-use Rattle.follow_part_laws.proofs.step_laws.open_changes_are_kept.Goals as goal
-
-pub returns : goal.returns
-returns c = open_changes_are_kept

@@ -1,9 +1,0 @@
-pub mod Pasts
-pub mod Cuts
-pub mod PastEvents
-pub mod Unions
-pub mod Leads
-pub mod KeptParts
-pub mod Events
-pub mod Steps
-pub mod Reached
