@@ -2,9 +2,8 @@
 use Rattle.follow_laws.proofs.Common.{◌≡◌, ℕ, true, false, List, [], ◌∷◌, Option, None, inl, inr, sym, ◌∙◌, subst, ⊎_elim, ◌≢◌, ◌⊎◌, Contains}
 use Rattle.follow_laws.proofs.Common.{All-contains, AllPairs-cons, AllPairs-nil, AllPairs-head, AllPairs-tail, All-from_contains, Contains-nil}
 use Rattle.follow_laws.proofs.Common.{Contains-first, Contains-later, Contains-cases, KeyedCall, ends_before, precedes, is_completed, FitInTurn}
-use Rattle.follow_laws.proofs.Common.{AreDistinct, KeepPrecedence, IsKeyedOrder, HasKeyedOrder, Keys, IsAlikeAt, AlikeCallsDecide}
+use Rattle.follow_laws.proofs.Common.{AreDistinct, KeepPrecedence, IsKeyedOrder, HasKeyedOrder, Keys, IsAlikeAt, AlikeCallsDecide, AllZip}
 use Rattle.std.proofs.Common.{is_some}
-use Rattle.std.specs.List.{AllZip}
 use Rattle.follow_laws.proofs.DeadLemmas.{bool_cases}
 use Rattle.follow_laws.proofs.OrderLemmas.{same_call}
 

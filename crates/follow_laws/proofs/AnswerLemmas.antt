@@ -1,13 +1,13 @@
 -- What is left at some keys before any event; and as a call is answered that was not left, or is refused.
 use Rattle.follow_laws.proofs.Common.{◌≡◌, ℕ, ◌<◌, true, false, List, ◌∷◌, ◌++◌, inl, inr, refl, sym, ap, ◌∙◌, subst, ⊎_elim, arith, ◌≢◌, ◌⊎◌, All}
+use Rattle.follow_laws.proofs.Common.{AllPairs, Contains, All-nil, All-cons, All-tail, All-append, All-contains, Contains-append_cases, AllPairs-cons}
+use Rattle.follow_laws.proofs.Common.{AllPairs-weaker, AllPairs-nil, AllPairs-tail, AllPairs-append, AllPairs-front, AllPairs-back, AllPairs-across}
+use Rattle.follow_laws.proofs.Common.{All-front, All-back, All-from_contains, Contains-nil, Contains-around, Operation, value_at, KeyedCall}
+use Rattle.follow_laws.proofs.Common.{IsNoEffect, keyed, HasForm, HaveForms, Choice, at_first, Keys, AgreesAt, left_at, IsNotTakenAt, answered}
+use Rattle.follow_laws.proofs.Common.{NothingIsLeft, AnsweredReadsAreLeft, RefusedCallsAreNotLeft}
 use Rattle.follow_laws.proofs.DeadLemmas.{bool_cases}
 use Rattle.follow_laws.proofs.EffectRestLemmas.{none_or}
 use Rattle.follow_laws.proofs.GrowLemmas.{formed}
-use Rattle.follow_laws.proofs.Common.{AllPairs, Contains, All-nil, All-cons, All-tail, All-append, All-contains, Contains-append_cases, AllPairs-cons}
-use Rattle.follow_laws.proofs.Common.{AllPairs-weaker, AllPairs-nil, AllPairs-tail, AllPairs-append, AllPairs-front, AllPairs-back, AllPairs-across}
-use Rattle.follow_laws.proofs.Common.{All-front, All-back, All-from_contains, Contains-nil, Contains-around, Operation, value_at, KeyedCall, IsNoEffect}
-use Rattle.follow_laws.proofs.Common.{keyed, HasForm, HaveForms, Choice, at_first, Keys, AgreesAt, left_at, IsNotTakenAt}
-use Rattle.follow_laws.proofs.Common.{answered, NothingIsLeft, AnsweredReadsAreLeft, RefusedCallsAreNotLeft}
 use Rattle.follow_laws.proofs.PartLemmas.{none_left_out}
 use Rattle.follow_laws.proofs.EventLemmas.{IsKnown, IsOf, left_instead, not_both, beside, middle, differ, own_alike, own_known}
 

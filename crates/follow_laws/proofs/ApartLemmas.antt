@@ -6,8 +6,7 @@ use Rattle.follow_laws.proofs.Common.{AllPairs-from_map, AllPairs-head, AllPairs
 use Rattle.follow_laws.proofs.Common.{Contains-later, Contains-cases, Contains-split, Contains-filter, Contains-from_filter, KeyedCall, no_effect}
 use Rattle.follow_laws.proofs.Common.{IsNoEffect, IsFormed, precedes, is_completed, FitInTurn, left_by, AreDistinct, KeepPrecedence, IsKeyedOrder}
 use Rattle.follow_laws.proofs.Common.{HasKeyedOrder, AreKeyedCalls, Keys, IsWithin, IsOutside, only, other_keys, IsQuiet, IsRead, IsUndisturbed}
-use Rattle.follow_laws.proofs.Common.{Parts, SomeKeysRefute, SetsOfKeysJudge}
-use Rattle.std.proofs.lemmas.List.{append_assoc}
+use Rattle.follow_laws.proofs.Common.{Parts, SomeKeysRefute, SetsOfKeysJudge, append_assoc}
 use Rattle.events.specs.Lists.{has_number}
 use Rattle.follow_laws.proofs.CutLemmas.{fit_only}
 use Rattle.follow_laws.proofs.DeadLemmas.{bool_cases}

@@ -1,12 +1,12 @@
 -- Orders in which a call comes first at some keys: it is put before all that is left there.
 use Rattle.follow_laws.proofs.Common.{◌≡◌, ℕ, ◌<◌, ◌≤◌, Bool, true, false, not, ◌&&◌, ◌||◌, ◌==◌, cond, List, Option, Some, None, inl, inr, refl, sym}
+use Rattle.follow_laws.proofs.Common.{ap, ◌∙◌, subst, ⊎_elim, arith, ◌≢◌, ◌⊎◌, All, Contains, ltb-true, and_parts, and_from, or_left, or_right}
+use Rattle.follow_laws.proofs.Common.{not_from_false, false_from_ne_true, eqb-true, eq-eqb, All-contains, KeyedCall, no_effect, IsNoEffect, IsFormed}
+use Rattle.follow_laws.proofs.Common.{ends_before, IsLater, HaveGrown, Choice, rest_of, Agrees, Keys, IsWithin, IsOutside, other_keys, IsAt}
+use Rattle.follow_laws.proofs.Common.{IsAfterCall, MayComeNext}
 use Rattle.follow_laws.proofs.CutLemmas.{outside_none, within_none}
 use Rattle.follow_laws.proofs.DeadLemmas.{bool_cases}
 use Rattle.follow_laws.proofs.EffectRestLemmas.{none_or, refused_none}
-use Rattle.follow_laws.proofs.Common.{ap, ◌∙◌, subst, ⊎_elim, arith, ◌≢◌, ◌⊎◌, All, Contains, ltb-true, and_parts, and_from, or_left, or_right}
-use Rattle.follow_laws.proofs.Common.{not_from_false, false_from_ne_true, eqb-true, eq-eqb, All-contains, KeyedCall, no_effect, IsNoEffect, IsFormed}
-use Rattle.follow_laws.proofs.Common.{ends_before, IsLater, HaveGrown, Choice, rest_of, Agrees, Keys, IsWithin, IsOutside, other_keys}
-use Rattle.follow_laws.proofs.Common.{IsAt, IsAfterCall, MayComeNext}
 use Rattle.follow_laws.proofs.WalkLemmas.{within_later, outside_later}
 use Rattle.follow_laws.proofs.FirstLemmas.{none_outside, accepted_now}
 use Rattle.follow_laws.proofs.MaskLemmas.{masked_by, rest_masked, masked_same}

@@ -1,14 +1,14 @@
 -- A part takes a step at some of its keys, though calls that are left there have other keys of the part: they are barred there.
 use Rattle.follow_laws.proofs.Common.{◌≡◌, ℕ, ◌+◌, ◌<◌, true, false, not, ◌&&◌, List, ◌∷◌, ◌++◌, Some, sym, ap, ◌∙◌, subst, ⊎_elim, arith, ◌⊎◌}
+use Rattle.follow_laws.proofs.Common.{Contains, and_parts, and_from, not-true, not_from_false, All-head, All-contains, Contains-append_left}
+use Rattle.follow_laws.proofs.Common.{Contains-append_right, Contains-append_cases, Contains-first, Contains-later, Contains-cases, KeyedCall}
+use Rattle.follow_laws.proofs.Common.{IsFormed, ends_before, precedes, IsLater, HaveGrown, Choice, rest_of, GoesOn, Keys, IsWithin, Part, IsAt}
+use Rattle.follow_laws.proofs.Common.{IsOneOf, ShareKeys, choices_of, left_at, IsLeftAt, NoneIsLeftAt, MayComeNext, IsAfterCall, AreKnownAt}
+use Rattle.follow_laws.proofs.Common.{AreOwnOrBarred, UnbarredCallsComeNext}
 use Rattle.follow_laws.proofs.CutLemmas.{outside_none}
 use Rattle.follow_laws.proofs.DeadLemmas.{bool_cases}
 use Rattle.follow_laws.proofs.EffectRestLemmas.{later_stands}
 use Rattle.follow_laws.proofs.OrderLemmas.{ends_at, ends_sooner}
-use Rattle.follow_laws.proofs.Common.{Contains, and_parts, and_from, not-true, not_from_false, All-head, All-contains, Contains-append_left}
-use Rattle.follow_laws.proofs.Common.{Contains-append_right, Contains-append_cases, Contains-first, Contains-later, Contains-cases, KeyedCall, IsFormed}
-use Rattle.follow_laws.proofs.Common.{ends_before, precedes, IsLater, HaveGrown, Choice, rest_of, GoesOn, Keys, IsWithin}
-use Rattle.follow_laws.proofs.Common.{Part, IsAt, IsOneOf, ShareKeys, choices_of, left_at, IsLeftAt, NoneIsLeftAt}
-use Rattle.follow_laws.proofs.Common.{MayComeNext, IsAfterCall, AreKnownAt, AreOwnOrBarred, UnbarredCallsComeNext}
 use Rattle.follow_laws.proofs.CallLemmas.{first_fits, first_goes_on, begun_first, goes_before}
 use Rattle.follow_laws.proofs.FewerLemmas.{AreAmong, but_for, after_fewer, steps_forth, at_few}
 use Rattle.follow_laws.proofs.FirstLemmas.{AtEnded, first_left, left_later, may_come}

@@ -5,10 +5,9 @@ use Rattle.follow_laws.proofs.Common.{AllPairs-from_filter_map, AllPairs-map, Al
 use Rattle.follow_laws.proofs.Common.{Contains-filter_map, Contains-from_filter_map, All-from_contains, Contains-first, Contains-later, Contains-at}
 use Rattle.follow_laws.proofs.Common.{place_of-Contains, Call, Get, Insert, Remove, Scan, Replace, Operation, Response, operations, inv_rises}
 use Rattle.follow_laws.proofs.Common.{same_number, Contents, IsRising, value_at, calls_at, IsOrder, IsLinearizable, KeyedCall, keyed, place_of}
-use Rattle.follow_laws.proofs.Common.{ends_before, precedes, is_completed, IsKeyedOrder, HasForm, HaveForms, OrdersAreKeyedOrders}
+use Rattle.follow_laws.proofs.Common.{ends_before, precedes, is_completed, IsKeyedOrder, HasForm, HaveForms, OrdersAreKeyedOrders, is_before}
 use Rattle.std.proofs.Common.{is_some}
 use Rattle.events.proofs.NumberLemmas.{slice_get-below, some_at, IsSomeAnd-within}
-use Rattle.events.specs.Precedence.{is_before}
 use Rattle.follow_laws.proofs.EffectLemmas.{legal_fits, fits_legal}
 use Rattle.events.specs.Precedence as events
 

@@ -1,12 +1,12 @@
 -- A part takes a step: one more call is taken at its keys.
 use Rattle.follow_laws.proofs.Common.{◌≡◌, ℕ, ◌<◌, true, false, not, ◌&&◌, ◌==◌, List, [], ◌∷◌, ◌++◌, map, Option, inl, refl, sym, ap, ◌∙◌, subst}
-use Rattle.follow_laws.proofs.AfterLemmas.{none_left}
-use Rattle.follow_laws.proofs.TurnLemmas.{fit-back}
 use Rattle.follow_laws.proofs.Common.{⊎_elim, ◌≢◌, Contains, and_parts, false_from_ne_true, eqb-true, All-head, All-contains, Contains-append_left}
 use Rattle.follow_laws.proofs.Common.{Contains-append_right, Contains-append_cases, AllPairs-head, AllPairs-back, Contains-first, Contains-later}
-use Rattle.follow_laws.proofs.Common.{Contains-cases, KeyedCall, IsNoEffect, ends_before, precedes, FitInTurn, AreDistinct, IsLater, HaveGrown, Choice}
-use Rattle.follow_laws.proofs.Common.{rest_of, GoesOn, SomeGoesOn, Keys, Part, IsAt, IsOneOf, ShareKeys, choices_of, IsLeftAt}
-use Rattle.follow_laws.proofs.Common.{MayComeNext, IsAfterCall, ArePartedBefore, CallsComeNext, ReadsComeNext}
+use Rattle.follow_laws.proofs.Common.{Contains-cases, KeyedCall, IsNoEffect, ends_before, precedes, FitInTurn, AreDistinct, IsLater, HaveGrown}
+use Rattle.follow_laws.proofs.Common.{Choice, rest_of, GoesOn, SomeGoesOn, Keys, Part, IsAt, IsOneOf, ShareKeys, choices_of, IsLeftAt, MayComeNext}
+use Rattle.follow_laws.proofs.Common.{IsAfterCall, ArePartedBefore, CallsComeNext, ReadsComeNext}
+use Rattle.follow_laws.proofs.AfterLemmas.{none_left}
+use Rattle.follow_laws.proofs.TurnLemmas.{fit-back}
 use Rattle.follow_laws.proofs.FewerLemmas.{AreAmong, AtSome, after_fewer, is_alone, steps_forth, steps_back, taken_then, takes_less, at_few}
 use Rattle.follow_laws.proofs.FewerLemmas.{goes_on_before}
 use Rattle.follow_laws.proofs.FirstLemmas.{begun_before, completed_stays, AtEnded, IsNotLeft, not_left_none, first_left, may_come}

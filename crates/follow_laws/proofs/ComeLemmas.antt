@@ -1,18 +1,17 @@
 -- Operations that may come next: what they do to a map is what their calls do at the keys.
 use Rattle.follow_laws.proofs.Common.{◌≡◌, ℕ, ◌<◌, ◌==◌, Bool, true, false, nat_lt, not, ◌||◌, ◌&&◌, cond, List, Option, Some, None, inl, inr, refl}
+use Rattle.follow_laws.proofs.Common.{sym, ap, ◌∙◌, subst, ⊎_elim, arith, ◌⊎◌, All, Contains, ltb-true, ltb-false, eqb-true, eq-eqb, ne_eqb, not-true}
+use Rattle.follow_laws.proofs.Common.{and_parts, or_cases, cases_eq, All-contains, AllPairs-filter, All-from_contains, Contains-filter}
+use Rattle.follow_laws.proofs.Common.{Contains-from_filter, Operation, Contents, value_at, IsLegalCall, after_call, KeyedCall, Effect, IsFormed}
+use Rattle.follow_laws.proofs.Common.{IsNoEffect, no_effect, ends_before, precedes, concerns_key, keyed, AreKeyedCalls, HasForm, Choice, rest_of}
+use Rattle.follow_laws.proofs.Common.{Keys, IsWithin, IsAlikeAt, OperationsMayCome, OperationsComeNext, AreLeftCalls, AreOfLeftCalls, AreAllLeft}
+use Rattle.follow_laws.proofs.Common.{HasSomeKeyIn, OperationMayCome, without_call, HasKeysIn, HaveTheirKeys, AgreesAt, left_at, IsLeftAt}
+use Rattle.follow_laws.proofs.Common.{NoneIsLeftAt, MayComeNext, IsAfterCall, rising_kept}
 use Rattle.follow_laws.proofs.BridgeLemmas.{same_precedes}
 use Rattle.follow_laws.proofs.DeadLemmas.{bool_cases}
 use Rattle.follow_laws.proofs.EffectLemmas.{step_of}
 use Rattle.follow_laws.proofs.EffectRestLemmas.{none_none, none_or}
 use Rattle.follow_laws.proofs.OrderLemmas.{same_call}
-use Rattle.follow_laws.proofs.Common.{sym, ap, ◌∙◌, subst, ⊎_elim, arith, ◌⊎◌, All, Contains, ltb-true, ltb-false, eqb-true, eq-eqb, ne_eqb, not-true}
-use Rattle.follow_laws.proofs.Common.{and_parts, or_cases, cases_eq, All-contains, AllPairs-filter, All-from_contains, Contains-filter}
-use Rattle.follow_laws.proofs.Common.{Contains-from_filter, Operation, Contents, value_at, IsLegalCall, after_call, KeyedCall, Effect, IsFormed}
-use Rattle.follow_laws.proofs.Common.{IsNoEffect, no_effect, ends_before, precedes, concerns_key, keyed, AreKeyedCalls, HasForm, Choice, rest_of, Keys}
-use Rattle.follow_laws.proofs.Common.{IsWithin, IsAlikeAt, OperationsMayCome}
-use Rattle.follow_laws.proofs.Common.{OperationsComeNext, AreLeftCalls, AreOfLeftCalls, AreAllLeft, HasSomeKeyIn, OperationMayCome, without_call}
-use Rattle.follow_laws.proofs.Common.{HasKeysIn, HaveTheirKeys, AgreesAt, left_at, IsLeftAt, NoneIsLeftAt, MayComeNext, IsAfterCall}
-use Rattle.call_effects.proofs.ValueLemmas.{rising_kept}
 use Rattle.follow_laws.proofs.DecideLemmas.{formed_rest}
 use Rattle.follow_laws.proofs.PartLemmas.{none_left_out}
 use Rattle.follow_laws.proofs.UniteLemmas.{outside}

@@ -1,13 +1,13 @@
 -- The parts decide: each has a past that goes on at its keys exactly if the calls have an order.
-use Rattle.follow_laws.proofs.Common.{◌≡◌, ℕ, ◌<◌, Bool, true, false, not, ◌&&◌, cond, List, [], ◌∷◌, map, Option, inl, inr, refl, sym, ap, ◌∙◌, subst}
+use Rattle.follow_laws.proofs.Common.{◌≡◌, ℕ, ◌<◌, Bool, true, false, not, ◌&&◌, cond, List, [], ◌∷◌, map, Option, inl, inr, refl, sym, ap, ◌∙◌}
+use Rattle.follow_laws.proofs.Common.{subst, ⊎_elim, ◌⊎◌, ◌↔◌, All, AllPairs, Contains, filter, All-nil, All-cons, All-head, All-tail, All-contains}
+use Rattle.follow_laws.proofs.Common.{All-map, AllPairs-filter, AllPairs-map, Contains-map, Contains-from_map, AllPairs-head, AllPairs-tail}
+use Rattle.follow_laws.proofs.Common.{All-from_contains, Contains-nil, Contains-cases, Contains-from_filter, KeyedCall, Effect, IsNoEffect, IsFormed}
+use Rattle.follow_laws.proofs.Common.{no_effect, AreKeyedCalls, HasKeyedOrder, HaveGrown, Choice, at_first, rest_of, Agrees, Keys, IsWithin, only}
+use Rattle.follow_laws.proofs.Common.{AreApart, AreParts, Parts, PartsDecide, Part, IsAt, IsOneOf, choices_of, ShareKeys, left_at, AgreesAt, GoesOnAt}
+use Rattle.follow_laws.proofs.Common.{SomePastGoesOn, IsOfOnePart, AreOfOnePart}
 use Rattle.follow_laws.proofs.DeadLemmas.{bool_cases}
 use Rattle.follow_laws.proofs.EffectRestLemmas.{none_none, none_or, refused_none}
-use Rattle.follow_laws.proofs.Common.{⊎_elim, ◌⊎◌, ◌↔◌, All, AllPairs, Contains, filter, All-nil, All-cons, All-head, All-tail, All-contains, All-map}
-use Rattle.follow_laws.proofs.Common.{AllPairs-filter, AllPairs-map, Contains-map, Contains-from_map, AllPairs-head, AllPairs-tail, All-from_contains}
-use Rattle.follow_laws.proofs.Common.{Contains-nil, Contains-cases, Contains-from_filter, KeyedCall, Effect, IsNoEffect, IsFormed, no_effect}
-use Rattle.follow_laws.proofs.Common.{AreKeyedCalls, HasKeyedOrder, HaveGrown, Choice, at_first, rest_of, Agrees, Keys, IsWithin, only, AreApart}
-use Rattle.follow_laws.proofs.Common.{AreParts, Parts, PartsDecide, Part, IsAt, IsOneOf, choices_of}
-use Rattle.follow_laws.proofs.Common.{ShareKeys, left_at, AgreesAt, GoesOnAt, SomePastGoesOn, IsOfOnePart, AreOfOnePart}
 use Rattle.follow_laws.proofs.EffectPartLemmas.{none_at, parts_judge}
 use Rattle.follow_laws.proofs.PartLemmas.{all_keys, at_back, at_next, goes_on_there, instead, instead_here, instead_there, same_goes_on_there}
 use Rattle.follow_laws.proofs.PartLemmas.{stand_below}

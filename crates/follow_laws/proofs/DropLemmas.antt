@@ -1,7 +1,7 @@
 -- Pasts of a part that are listed in another order, or dropped.
 use Rattle.follow_laws.proofs.Common.{◌∷◌, inl, inr, subst, ⊎_elim, Contains-later, Contains-cases, Choice, GoesOnAt, PastsInAnyOrder}
-use Rattle.follow_laws.proofs.PartLemmas.{at_self}
 use Rattle.follow_laws.proofs.Common.{PastsWithoutOrderGo}
+use Rattle.follow_laws.proofs.PartLemmas.{at_self}
 use Rattle.follow_laws.proofs.OperationLemmas.{operations_decide}
 use Rattle.follow_laws.proofs.StepLemmas.{dead_pasts_go as pasts_of_part_go}
 

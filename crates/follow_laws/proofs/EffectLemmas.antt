@@ -6,11 +6,10 @@ use Rattle.follow_laws.proofs.Common.{and_parts, and_from, All-nil, All-cons, Al
 use Rattle.follow_laws.proofs.Common.{Scan, Replace, Reply, Operation, Response, Contents, IsRising, value_at, within, below, above, put, is_just}
 use Rattle.follow_laws.proofs.Common.{value_reply, reply_to, after, after_reply, IsAllOrPartOf, IsLegalReply, after_call, IsLegalCall, IsLegal}
 use Rattle.follow_laws.proofs.Common.{value_after, value_after_reply, Effect, no_effect, is_same_value, is_answer, point_effect, told_effect}
-use Rattle.follow_laws.proofs.Common.{effect_of_key, effect_at, read_of, keyed, FitInTurn, ArePairsOf, HasForm, HaveForms}
-use Rattle.events.specs.Keys.{low_key, high_key}
+use Rattle.follow_laws.proofs.Common.{effect_of_key, effect_at, read_of, keyed, FitInTurn, ArePairsOf, HasForm, HaveForms, low_key, high_key, IsOut}
+use Rattle.follow_laws.proofs.Common.{same_within, within_rises, within_bounds, value_left, rising_kept}
 use Rattle.map_object.proofs.MapLemmas.{AreBelow-below, AreAbove-above, value_at_found, value_at_gap}
 use Rattle.orders.proofs.RangeLemmas.{value_at-within, in_range, in_range_from}
-use Rattle.call_effects.proofs.ValueLemmas.{IsOut, same_within, within_rises, within_bounds, value_left, rising_kept}
 
 -- ---- answers
 

@@ -2,21 +2,20 @@
 -- call and each operation on its own. `known_of`, `known_on`: what is known of a call stays known.
 -- `left_as_before`: nothing changes if the calls that change are idle at the keys. `left_instead`:
 -- one call replaces another.
-use Rattle.follow_laws.proofs.Common.{◌≡◌, ℕ, ◌<◌, ◌≤◌, Bool, true, false, not, ◌&&◌, List, [], ◌∷◌, ◌++◌, Option, Some, None, inl, inr, refl, sym, ap}
+use Rattle.follow_laws.proofs.Common.{◌≡◌, ℕ, ◌<◌, ◌≤◌, Bool, true, false, not, ◌&&◌, List, [], ◌∷◌, ◌++◌, Option, Some, None, inl, inr, refl, sym}
+use Rattle.follow_laws.proofs.Common.{ap, ◌∙◌, subst, ⊎_elim, arith, ◌≢◌, ◌⊎◌, All, AllPairs, Contains, All-nil, All-cons, All-head, All-tail}
+use Rattle.follow_laws.proofs.Common.{All-append, All-contains, Contains-append_left, Contains-append_right, Contains-append_cases, AllPairs-cons}
+use Rattle.follow_laws.proofs.Common.{AllPairs-weaker, AllPairs-nil, AllPairs-head, AllPairs-tail, AllPairs-append, AllPairs-front, AllPairs-back}
+use Rattle.follow_laws.proofs.Common.{AllPairs-across, All-front, All-back, All-from_contains, Contains-nil, Contains-first, Contains-later}
+use Rattle.follow_laws.proofs.Common.{Contains-cases, Contains-around, Call, Get, Insert, Remove, Scan, Replace, Operation, Contents, KeyedCall}
+use Rattle.follow_laws.proofs.Common.{IsNoEffect, IsFormed, is_refused, is_refusal, concerns_key, effect_at, keyed, AreKeyedCalls, HasForm, HaveForms}
+use Rattle.follow_laws.proofs.Common.{Choice, rest_of, Keys, IsRead, IsAlikeAt, AgreesAt, left_at, IsLeftAt, NoneIsLeftAt, AreOfLeftCalls, IsLeft}
+use Rattle.follow_laws.proofs.Common.{HasKeysIn, HasNoKeyIn, IsNotTakenAt, IsTakenAt, answered, BegunCallsAreLeft, OtherCallsBegin}
+use Rattle.follow_laws.proofs.Common.{AnsweredCallsAreLeft, TakenCallsAreAnswered, OtherCallsAreAnswered, Response}
 use Rattle.follow_laws.proofs.CutLemmas.{outside_none}
 use Rattle.follow_laws.proofs.DeadLemmas.{bool_cases}
 use Rattle.follow_laws.proofs.EffectRestLemmas.{none_or}
 use Rattle.follow_laws.proofs.GrowLemmas.{formed, open_fits}
-use Rattle.follow_laws.proofs.Common.{◌∙◌, subst, ⊎_elim, arith, ◌≢◌, ◌⊎◌, All, AllPairs, Contains, All-nil, All-cons, All-head, All-tail, All-append}
-use Rattle.follow_laws.proofs.Common.{All-contains, Contains-append_left, Contains-append_right, Contains-append_cases, AllPairs-cons, AllPairs-weaker}
-use Rattle.follow_laws.proofs.Common.{AllPairs-nil, AllPairs-head, AllPairs-tail, AllPairs-append, AllPairs-front, AllPairs-back, AllPairs-across}
-use Rattle.follow_laws.proofs.Common.{All-front, All-back, All-from_contains, Contains-nil, Contains-first, Contains-later, Contains-cases}
-use Rattle.follow_laws.proofs.Common.{Contains-around, Call, Get, Insert, Remove, Scan, Replace, Operation, Contents, KeyedCall, IsNoEffect, IsFormed}
-use Rattle.follow_laws.proofs.Common.{is_refused, is_refusal, concerns_key, effect_at, keyed, AreKeyedCalls, HasForm, HaveForms, Choice, rest_of, Keys}
-use Rattle.follow_laws.proofs.Common.{IsRead, IsAlikeAt, AgreesAt, left_at, IsLeftAt}
-use Rattle.follow_laws.proofs.Common.{NoneIsLeftAt, AreOfLeftCalls, IsLeft, HasKeysIn, HasNoKeyIn, IsNotTakenAt, IsTakenAt, answered, BegunCallsAreLeft}
-use Rattle.follow_laws.proofs.Common.{OtherCallsBegin, AnsweredCallsAreLeft, TakenCallsAreAnswered, OtherCallsAreAnswered}
-use Rattle.events.specs.declared.operation.Response.{Response}
 use Rattle.follow_laws.proofs.PartLemmas.{none_left_out}
 
 pub not_both : (b : Bool) → b ≡ true → b ≡ false → ⊥

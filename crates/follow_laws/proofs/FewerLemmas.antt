@@ -1,12 +1,12 @@
 -- Steps at some of a part's keys: at its others nothing is left of the call, and they stay what they are.
 use Rattle.follow_laws.proofs.Common.{◌≡◌, ℕ, ◌<◌, Bool, true, false, not, ◌||◌, ◌&&◌, ◌==◌, cond, List, [], ◌∷◌, inl, inr, refl, sym, ◌∙◌, subst}
+use Rattle.follow_laws.proofs.Common.{⊎_elim, ◌⊎◌, Contains, and_parts, and_from, or_left, or_right, not-true, eqb-true, eq-eqb, All-contains}
+use Rattle.follow_laws.proofs.Common.{Contains-first, KeyedCall, IsFormed, IsNoEffect, IsLater, HaveGrown, Choice, rest_of, GoesOn, Agrees, Keys}
+use Rattle.follow_laws.proofs.Common.{IsWithin, IsOutside, other_keys, Part, IsAt, ShareKeys, AreSomeOf, choices_of, NoneIsLeftAt, MayComeNext}
+use Rattle.follow_laws.proofs.Common.{IsAfterCall, ArePartedBefore}
 use Rattle.follow_laws.proofs.CutLemmas.{outside_none}
 use Rattle.follow_laws.proofs.DeadLemmas.{bool_cases}
 use Rattle.follow_laws.proofs.EffectRestLemmas.{later_stands}
-use Rattle.follow_laws.proofs.Common.{⊎_elim, ◌⊎◌, Contains, and_parts, and_from, or_left, or_right, not-true, eqb-true, eq-eqb, All-contains}
-use Rattle.follow_laws.proofs.Common.{Contains-first, KeyedCall, IsFormed, IsNoEffect, IsLater, HaveGrown, Choice, rest_of, GoesOn, Agrees, Keys}
-use Rattle.follow_laws.proofs.Common.{IsWithin, IsOutside, other_keys, Part, IsAt, ShareKeys, AreSomeOf}
-use Rattle.follow_laws.proofs.Common.{choices_of, NoneIsLeftAt, MayComeNext, IsAfterCall, ArePartedBefore}
 use Rattle.follow_laws.proofs.FirstLemmas.{left_later}
 use Rattle.follow_laws.proofs.InsertLemmas.{goes_back}
 use Rattle.follow_laws.proofs.PartLemmas.{at_back, at_next, at_fewer, at_both, instead, instead_here, instead_there, with_past, with_instead}

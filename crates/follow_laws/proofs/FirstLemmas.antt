@@ -1,15 +1,14 @@
 -- The first call of an order that has something left at some keys.
 use Rattle.follow_laws.proofs.Common.{◌≡◌, ℕ, ◌<◌, ◌≤◌, Bool, true, false, not, ◌&&◌, cond, List, [], ◌∷◌, ◌++◌, map, Option, Some, None, inl, inr}
+use Rattle.follow_laws.proofs.Common.{refl, sym, ap, subst, ⊎_elim, arith, ◌⊎◌, Contains, is_some, ltb-true, ltb-false, All-contains}
+use Rattle.follow_laws.proofs.Common.{Contains-append_cases, Contains-map, Contains-from_map, AllPairs-head, AllPairs-tail, AllPairs-back}
+use Rattle.follow_laws.proofs.Common.{Contains-nil, Contains-first, Contains-later, Contains-cases, KeyedCall, no_effect, IsNoEffect, IsFormed}
+use Rattle.follow_laws.proofs.Common.{ends_before, precedes, is_completed, KeepPrecedence, IsKeyedOrder, IsLater, HaveGrown, Choice, rest_of, Keys}
+use Rattle.follow_laws.proofs.Common.{IsOutside, IsAt, IsLeftAt, NoneIsLeftAt, AreKnownAt, MayComeNext}
 use Rattle.follow_laws.proofs.CutLemmas.{outside_none}
 use Rattle.follow_laws.proofs.DeadLemmas.{bool_cases, response_of}
 use Rattle.follow_laws.proofs.EffectRestLemmas.{refused_none, later_stands}
 use Rattle.follow_laws.proofs.OrderLemmas.{same_call, ends_at}
-use Rattle.follow_laws.proofs.Common.{refl, sym, ap, subst, ⊎_elim, arith, ◌⊎◌, Contains, is_some, ltb-true, ltb-false, All-contains}
-use Rattle.follow_laws.proofs.Common.{Contains-append_cases, Contains-map, Contains-from_map, AllPairs-head, AllPairs-tail, AllPairs-back, Contains-nil}
-use Rattle.follow_laws.proofs.Common.{Contains-first, Contains-later, Contains-cases, KeyedCall, no_effect, IsNoEffect, IsFormed, ends_before, precedes}
-use Rattle.follow_laws.proofs.Common.{is_completed, KeepPrecedence, IsKeyedOrder, IsLater, HaveGrown, Choice, rest_of, Keys, IsOutside}
-use Rattle.follow_laws.proofs.Common.{IsAt, IsLeftAt, NoneIsLeftAt, AreKnownAt}
-use Rattle.follow_laws.proofs.Common.{MayComeNext}
 
 -- the first of one kind, if each up to some call is of that kind or of another
 pub find_first : (P Q : KeyedCall → Type 0) (xs : List KeyedCall) (e : KeyedCall) → Contains xs e → KeepPrecedence xs → precedes e e ≡ false

@@ -1,17 +1,17 @@
 -- The order that is made: what began before the call and has no effect at the keys, the call, what else began before it, and the others.
-use Rattle.follow_laws.proofs.Common.{◌≡◌, ℕ, ◌<◌, ◌≤◌, Bool, true, false, not, ◌==◌, List, ◌∷◌, ◌++◌, map, Option, inl, inr, refl, sym, ap, ◌∙◌, subst}
+use Rattle.follow_laws.proofs.Common.{◌≡◌, ℕ, ◌<◌, ◌≤◌, Bool, true, false, not, ◌==◌, List, ◌∷◌, ◌++◌, map, Option, inl, inr, refl, sym, ap, ◌∙◌}
+use Rattle.follow_laws.proofs.Common.{subst, ⊎_elim, arith, ◌≢◌, ◌⊎◌, All, Contains, filter, not-true, not-false, not_from_true, not_from_false}
+use Rattle.follow_laws.proofs.Common.{false_from_ne_true, eqb-true, eq-eqb, All-contains, Contains-append_left, Contains-append_right}
+use Rattle.follow_laws.proofs.Common.{Contains-append_cases, AllPairs-filter, Contains-map, Contains-from_map, All-from_contains, AllPairs-front}
+use Rattle.follow_laws.proofs.Common.{AllPairs-back, AllPairs-across, Contains-first, Contains-later, Contains-cases, Contains-filter}
+use Rattle.follow_laws.proofs.Common.{Contains-from_filter, KeyedCall, IsNoEffect, ends_before, precedes, is_completed, FitInTurn, left_by}
+use Rattle.follow_laws.proofs.Common.{AreDistinct, KeepPrecedence, IsKeyedOrder, Choice, rest_of, Agrees, GoesOn, Keys}
 use Rattle.follow_laws.proofs.AfterLemmas.{none_left}
 use Rattle.follow_laws.proofs.DeadLemmas.{bool_cases}
 use Rattle.follow_laws.proofs.OrderLemmas.{same_call, ends_sooner, IsSplitAt, split_at, ended_early}
 use Rattle.follow_laws.proofs.TurnLemmas.{fit-front, fit-back, fit-append}
-use Rattle.follow_laws.proofs.Common.{⊎_elim, arith, ◌≢◌, ◌⊎◌, All, Contains, filter, not-true, not-false, not_from_true, not_from_false}
-use Rattle.follow_laws.proofs.Common.{false_from_ne_true, eqb-true, eq-eqb, All-contains, Contains-append_left, Contains-append_right}
-use Rattle.follow_laws.proofs.Common.{Contains-append_cases, AllPairs-filter, Contains-map, Contains-from_map, All-from_contains, AllPairs-front}
-use Rattle.follow_laws.proofs.Common.{AllPairs-back, AllPairs-across, Contains-first, Contains-later, Contains-cases, Contains-filter}
-use Rattle.follow_laws.proofs.Common.{Contains-from_filter, KeyedCall, IsNoEffect, ends_before, precedes, is_completed, FitInTurn, left_by, AreDistinct}
-use Rattle.follow_laws.proofs.Common.{KeepPrecedence, IsKeyedOrder, Choice, rest_of, Agrees, GoesOn, Keys}
-use Rattle.follow_laws.proofs.BackLemmas.{AtBack, IsApartFrom, IsOpenWithin, none_elsewhere, fits_here, holds_here, none_back, rest_other, agrees_back}
-use Rattle.follow_laws.proofs.BackLemmas.{early_cases}
+use Rattle.follow_laws.proofs.BackLemmas.{AtBack, IsApartFrom, IsOpenWithin, none_elsewhere, fits_here, holds_here, none_back, rest_other}
+use Rattle.follow_laws.proofs.BackLemmas.{agrees_back, early_cases}
 use Rattle.follow_laws.proofs.PartLemmas.{fit_none}
 use Rattle.follow_laws.proofs.SiftLemmas.{choose, filter_turn, inserted}
 

@@ -1,17 +1,14 @@
 -- What is kept of a past after an operation that is left.
-use Rattle.follow_laws.proofs.Common.{◌≡◌, ℕ, ◌==◌, true, false, not, ◌&&◌, List, [], Option, Some, None, inl, inr, refl, sym, ap, ◌∙◌, subst}
-use Rattle.follow_laws.proofs.Common.{⊎_elim}
+use Rattle.follow_laws.proofs.Common.{◌≡◌, ℕ, ◌==◌, true, false, not, ◌&&◌, List, [], Option, Some, None, inl, inr, refl, sym, ap, ◌∙◌, subst, ⊎_elim}
+use Rattle.follow_laws.proofs.Common.{◌⊎◌, ◌↔◌, All, Contains, is_some, and_parts, and_from, or_right, or_cases, not-true, eqb-true, eq-eqb, ne_eqb}
+use Rattle.follow_laws.proofs.Common.{All-contains, All-from_contains, Contains-nil, Contains-first, Contains-cases, Contains-filter}
+use Rattle.follow_laws.proofs.Common.{Contains-from_filter, Operation, Response, low_key, high_key, Contents, value_at, KeyedCall, is_completed}
+use Rattle.follow_laws.proofs.Common.{place_of, keyed, AreKeyedCalls, Choice, rest_of, Keys, IsAlikeAt, AgreesAt, left_at, IsLeftAt, IsAfterCall}
+use Rattle.follow_laws.proofs.Common.{AreLeftCalls, AreOfLeftCalls, without_call, HasKeysIn, HaveTheirKeys, FoundAt, KeptPast, AreAllKept}
+use Rattle.follow_laws.proofs.Common.{ArePointsOrAnswered, AreFound, IsPast, found_by, IsPastAfter, after_call}
 use Rattle.follow_laws.proofs.DeadLemmas.{bool_cases}
 use Rattle.follow_laws.proofs.EventLemmas.{not_both}
 use Rattle.follow_laws.proofs.OrderLemmas.{same_call}
-use Rattle.follow_laws.proofs.Common.{◌⊎◌, ◌↔◌, All, Contains, is_some, and_parts, and_from, or_right, or_cases, not-true, eqb-true, eq-eqb}
-use Rattle.follow_laws.proofs.Common.{ne_eqb}
-use Rattle.follow_laws.proofs.Common.{All-contains, All-from_contains, Contains-nil, Contains-first, Contains-cases, Contains-filter}
-use Rattle.follow_laws.proofs.Common.{Contains-from_filter, Operation, Response, low_key, high_key, Contents, value_at, KeyedCall, is_completed}
-use Rattle.follow_laws.proofs.Common.{place_of, keyed, AreKeyedCalls, Choice, rest_of, Keys, IsAlikeAt, AgreesAt, left_at}
-use Rattle.follow_laws.proofs.Common.{IsLeftAt, IsAfterCall, AreLeftCalls, AreOfLeftCalls, without_call, HasKeysIn, HaveTheirKeys, FoundAt}
-use Rattle.follow_laws.proofs.Common.{KeptPast, AreAllKept, ArePointsOrAnswered, AreFound, IsPast, found_by, IsPastAfter}
-use Rattle.orders.specs.Orders.{after_call}
 use Rattle.follow_laws.proofs.OnePastLemmas.{one_key}
 
 -- what an operation found that is pending

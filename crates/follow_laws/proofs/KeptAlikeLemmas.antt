@@ -1,18 +1,13 @@
 -- Two pasts that are alike: each goes on exactly if the other does.
-use Rattle.follow_laws.proofs.Common.{◌≡◌, ℕ, Bool, true, false, cond, List, ◌∷◌, Option, inl, inr, refl, sym, ap, ◌∙◌, subst, ⊎_elim, ◌⊎◌}
-use Rattle.follow_laws.proofs.Common.{Contains}
+use Rattle.follow_laws.proofs.Common.{◌≡◌, ℕ, Bool, true, false, cond, List, ◌∷◌, Option, inl, inr, refl, sym, ap, ◌∙◌, subst, ⊎_elim, ◌⊎◌, Contains}
+use Rattle.follow_laws.proofs.Common.{GoesOn, not-true, All-head, All-contains, All-from_contains, Contains-first, Contains-later, Contains-cases}
+use Rattle.follow_laws.proofs.Common.{Operation, Contents, value_at, KeyedCall, is_completed, keyed, Choice, Agrees, SomeGoesOn, Keys, other_keys}
+use Rattle.follow_laws.proofs.Common.{IsAlikeAt, Part, IsAt, IsOneOf, choices_of, ShareKeys, AgreesAt, left_at, KeptPast, IsOpenRead, IsPast}
+use Rattle.follow_laws.proofs.Common.{AreKeptAlike, AlikePastsStand, AlikePastsGo, HaveGrown}
 use Rattle.follow_laws.proofs.DeadLemmas.{bool_cases}
 use Rattle.follow_laws.proofs.EventLemmas.{not_both}
 use Rattle.follow_laws.proofs.OrderLemmas.{same_call}
 use Rattle.follow_laws.proofs.PartLemmas.{keys_shared, with_past, with_other, TakesNoMore, part_steps}
-use Rattle.follow_laws.specs.Choices.{GoesOn}
-use Rattle.follow_laws.proofs.Common.{not-true, All-head, All-contains, All-from_contains, Contains-first, Contains-later, Contains-cases}
-use Rattle.follow_laws.proofs.Common.{Operation}
-use Rattle.follow_laws.proofs.Common.{Contents, value_at, KeyedCall, is_completed, keyed, Choice, Agrees, SomeGoesOn, Keys, other_keys}
-use Rattle.follow_laws.proofs.Common.{IsAlikeAt, Part, IsAt, IsOneOf, choices_of, ShareKeys, AgreesAt, left_at}
-use Rattle.follow_laws.proofs.Common.{KeptPast, IsOpenRead, IsPast, AreKeptAlike}
-use Rattle.follow_laws.proofs.Common.{AlikePastsStand, AlikePastsGo}
-use Rattle.follow_laws.specs.Growth.{HaveGrown}
 use Rattle.follow_laws.proofs.DropLemmas.{pasts_in_any_order}
 
 alike_back : (kept other : KeptPast) → AreKeptAlike kept other → AreKeptAlike other kept

@@ -1,25 +1,23 @@
 -- Parts that are kept, as calls are answered. `all_become`: the pasts of the first part become
 -- others, each on its own.
-use Rattle.follow_laws.proofs.Common.{◌≡◌, ℕ, suc, ◌<◌, true, false, not, List, [], ◌∷◌, ◌++◌, map, Option, None, Some, append-nil, inl, inr, sym}
-use Rattle.follow_laws.proofs.Common.{ap}
+use Rattle.follow_laws.proofs.Common.{◌≡◌, ℕ, suc, ◌<◌, true, false, not, List, [], ◌∷◌, ◌++◌, map, Option, None, Some, append-nil, inl, inr, sym, ap}
+use Rattle.follow_laws.proofs.Common.{◌∙◌, subst, ⊎_elim, arith, ◌≢◌, AllPairs, Contains, AllZip, and_parts, append_assoc, All-nil, All-cons}
+use Rattle.follow_laws.proofs.Common.{All-head, All-tail, All-append, All-weaker, All-contains, Contains-append_left, Contains-append_right}
+use Rattle.follow_laws.proofs.Common.{Contains-append_cases, none-some, AllPairs-weaker, All-from_contains, Contains-around, Operation, Response}
+use Rattle.follow_laws.proofs.Common.{low_key, may_change, Contents, value_at, KeyedCall, concerns_key, is_refusal, keyed, AreKeyedCalls, HasForm}
+use Rattle.follow_laws.proofs.Common.{Choice, Keys, AreApart, Part, Represent, HasSomeKeyIn, HasKeysIn, HasNoKeyIn, answered, KeptPast, FoundAt}
+use Rattle.follow_laws.proofs.Common.{IsPast, IsLeftOrFound, KeptPart, AreCallsBefore, IsOfCalls, IsOwn, IsKeptAs, ChangesAreAnswered}
+use Rattle.follow_laws.proofs.Common.{ReadsAreAnswered, IsLeftWithAnswer, IsLeftNoMore, FoundAsAnswered, FoundOtherwise, IsAfterAnswer}
+use Rattle.follow_laws.proofs.Common.{AreAfterAnswer, IsWithRead}
 use Rattle.follow_laws.proofs.EventLemmas.{not_both, beside, middle, differ}
 use Rattle.follow_laws.proofs.OrderLemmas.{same_call}
 use Rattle.follow_laws.proofs.DropLemmas.{pasts_in_any_order}
 use Rattle.follow_laws.proofs.OnePastLemmas.{taken_concerns}
 use Rattle.follow_laws.proofs.PastEventLemmas.{answered_calls_are_kept, answered_reads_are_kept, others_are_answered, refused_calls_are_not_kept}
 use Rattle.follow_laws.proofs.TakenLemmas.{taken_calls_agree, taken_calls_disagree}
-use Rattle.follow_laws.proofs.Common.{◌∙◌, subst, ⊎_elim, arith, ◌≢◌, AllPairs, Contains, AllZip, and_parts, append_assoc, All-nil, All-cons}
-use Rattle.follow_laws.proofs.Common.{All-head}
-use Rattle.follow_laws.proofs.Common.{All-tail, All-append, All-weaker, All-contains, Contains-append_left, Contains-append_right}
-use Rattle.follow_laws.proofs.Common.{Contains-append_cases, none-some, AllPairs-weaker, All-from_contains, Contains-around, Operation, Response}
-use Rattle.follow_laws.proofs.Common.{low_key, may_change, Contents, value_at, KeyedCall, concerns_key, is_refusal, keyed, AreKeyedCalls, HasForm}
-use Rattle.follow_laws.proofs.Common.{Choice, Keys, AreApart, Part, Represent, HasSomeKeyIn, HasKeysIn, HasNoKeyIn, answered}
-use Rattle.follow_laws.proofs.Common.{KeptPast, FoundAt, IsPast, IsLeftOrFound}
-use Rattle.follow_laws.proofs.Common.{KeptPart, AreCallsBefore, IsOfCalls, IsOwn, IsKeptAs, ChangesAreAnswered, ReadsAreAnswered}
-use Rattle.follow_laws.proofs.Common.{IsLeftWithAnswer, IsLeftNoMore, FoundAsAnswered, FoundOtherwise, IsAfterAnswer, AreAfterAnswer, IsWithRead}
 use Rattle.follow_laws.proofs.KeptCallLemmas.{one_key_of, form_of, has_low_key, calls_answered, keyed_around}
-use Rattle.follow_laws.proofs.KeptPartLemmas.{keys_in, no_key_in, IsKeptFirst, first_of, from_first, others_apart, stand_after, IsKeptPast, AreKeptPasts}
-use Rattle.follow_laws.proofs.KeptPartLemmas.{pasts_go, parts_go}
+use Rattle.follow_laws.proofs.KeptPartLemmas.{keys_in, no_key_in, IsKeptFirst, first_of, from_first, others_apart, stand_after, IsKeptPast}
+use Rattle.follow_laws.proofs.KeptPartLemmas.{AreKeptPasts, pasts_go, parts_go}
 
 -- ---- pasts that become others
 

@@ -1,6 +1,10 @@
 -- Pasts at a past moment: those that come next at some keys, though operations that have some of these have others too. They are barred there.
 use Rattle.follow_laws.proofs.Common.{◌≡◌, ℕ, ◌+◌, ◌<◌, ◌==◌, true, false, not, List, Option, Some, inl, inr, refl, sym, ap, ◌∙◌, subst, ⊎_elim}
-use Rattle.follow_laws.proofs.Common.{arith}
+use Rattle.follow_laws.proofs.Common.{arith, ◌⊎◌, All, Contains, AllZip, and_parts, eqb-true, eq-eqb, All-contains, Operation, value_at, KeyedCall}
+use Rattle.follow_laws.proofs.Common.{Effect, IsFormed, IsNoEffect, ends_before, precedes, place_of, keyed, AreKeyedCalls, Choice, rest_of, Keys}
+use Rattle.follow_laws.proofs.Common.{IsAlikeAt, left_at, IsLeftAt, NoneIsLeftAt, MayComeNext, IsAfterCall, AreKnownAt, IsBarredAt, AreOwnOrBarred}
+use Rattle.follow_laws.proofs.Common.{AreAllLeft, HasSomeKeyIn, OperationMayCome, HasKeysIn, KeptPast, IsPast, IsPastAfter, OpenReadsBeganAfter}
+use Rattle.follow_laws.proofs.Common.{UnbarredPastsComeNext, IsBarredBy, AreOwnOrBarredBy, is_before}
 use Rattle.follow_laws.proofs.BridgeLemmas.{same_precedes}
 use Rattle.follow_laws.proofs.CallLemmas.{begun_first}
 use Rattle.follow_laws.proofs.ComeLemmas.{operations_may_come}
@@ -9,15 +13,6 @@ use Rattle.follow_laws.proofs.EventLemmas.{not_both}
 use Rattle.follow_laws.proofs.FewerLemmas.{AreAmong}
 use Rattle.follow_laws.proofs.FirstLemmas.{begun_before}
 use Rattle.follow_laws.proofs.OrderLemmas.{same_call, ends_at, ends_sooner}
-use Rattle.follow_laws.proofs.Common.{◌⊎◌, All, Contains, AllZip, and_parts, eqb-true, eq-eqb, All-contains, Operation, value_at, KeyedCall}
-use Rattle.follow_laws.proofs.Common.{Effect}
-use Rattle.follow_laws.proofs.Common.{IsFormed, IsNoEffect, ends_before, precedes, place_of, keyed, AreKeyedCalls, Choice, rest_of, Keys}
-use Rattle.follow_laws.proofs.Common.{IsAlikeAt}
-use Rattle.follow_laws.proofs.Common.{left_at, IsLeftAt, NoneIsLeftAt, MayComeNext}
-use Rattle.follow_laws.proofs.Common.{IsAfterCall, AreKnownAt, IsBarredAt, AreOwnOrBarred, AreAllLeft, HasSomeKeyIn, OperationMayCome, HasKeysIn}
-use Rattle.follow_laws.proofs.Common.{KeptPast, IsPast, IsPastAfter}
-use Rattle.follow_laws.proofs.Common.{OpenReadsBeganAfter, UnbarredPastsComeNext, IsBarredBy, AreOwnOrBarredBy}
-use Rattle.events.specs.Precedence.{is_before}
 use Rattle.follow_laws.proofs.CutLemmas.{outside_none}
 use Rattle.follow_laws.proofs.BarredLemmas.{unbarred_calls_come_next}
 use Rattle.follow_laws.proofs.LimitLemmas.{IsPastBefore, named_or_none, all_left, parted_before}

@@ -1,25 +1,19 @@
 -- The calls of a stream before an event, and after it: a call began (`calls_begun`), or was answered (`calls_answered`). And what a call is by
 -- its kind: `reads_leave`, `one_key_of`, `own_key_of`, `form_of`.
 use Rattle.events.specs.declared.event.Reply.TheVariants as replies
-use Rattle.follow_laws.proofs.Common.{◌≡◌, ℕ, suc, ◌<◌, ◌≤◌, ◌==◌, ◌&&◌, nat_le, nat_lt, Bool, true, false, cond, List, [], ◌∷◌, ◌++◌, map}
-use Rattle.follow_laws.proofs.Common.{Option}
-use Rattle.follow_laws.proofs.EventLemmas.{beside, middle}
-use Rattle.follow_laws.proofs.GrowLemmas.{formed, open_fits}
-use Rattle.follow_laws.proofs.OnePastLemmas.{one_key}
+use Rattle.follow_laws.proofs.Common.{◌≡◌, ℕ, suc, ◌<◌, ◌≤◌, ◌==◌, ◌&&◌, nat_le, nat_lt, Bool, true, false, cond, List, [], ◌∷◌, ◌++◌, map, Option}
 use Rattle.follow_laws.proofs.Common.{None, Some, inl, inr, refl, sym, ap, ◌∙◌, subst, ⊎_elim, arith, ◌≢◌, ◌⊎◌, All, AllPairs, Contains, eq-eqb}
 use Rattle.follow_laws.proofs.Common.{leb-true, le-leb, ltb-true, and_parts, and_from, false_from_ne_true, map-append, All-nil, All-cons}
-use Rattle.follow_laws.proofs.Common.{All-contains}
-use Rattle.follow_laws.proofs.Common.{Contains-append_left, Contains-append_cases, AllPairs-cons, none-some, same_Some, AllPairs-map}
+use Rattle.follow_laws.proofs.Common.{All-contains, Contains-append_left, Contains-append_cases, AllPairs-cons, none-some, same_Some, AllPairs-map}
 use Rattle.follow_laws.proofs.Common.{AllPairs-from_map, AllPairs-weaker, Contains-map, Contains-from_map, AllPairs-nil, AllPairs-append}
 use Rattle.follow_laws.proofs.Common.{All-from_contains, Contains-nil, Contains-cases, Contains-around, Operation, Response, low_key, high_key}
 use Rattle.follow_laws.proofs.Common.{may_change, Contents, value_at, after, after_call, after_call_cases, KeyedCall, IsFormed, no_effect}
 use Rattle.follow_laws.proofs.Common.{point_effect, effect_of_key, told_effect, read_of, effect_at, concerns_key, place_of, is_refusal, keyed}
-use Rattle.follow_laws.proofs.Common.{precedes, AreDistinct, HasForm, IsRead, answered, AreCallsBefore}
-use Rattle.events.specs.declared.event.Call.{Call}
-use Rattle.events.specs.declared.event.Call.TheVariants.{Get, Insert, Remove, Scan, Replace}
-use Rattle.events.specs.declared.event.Reply.{Reply}
-use Rattle.call_effects.specs.Values.{value_after, value_after_reply}
-use Rattle.follow_laws.specs.Growth.{LeaveTheSame, IsLater, HaveGrown}
+use Rattle.follow_laws.proofs.Common.{precedes, AreDistinct, HasForm, IsRead, answered, AreCallsBefore, Call, Get, Insert, Remove, Scan, Replace}
+use Rattle.follow_laws.proofs.Common.{Reply, value_after, value_after_reply, LeaveTheSame, IsLater, HaveGrown}
+use Rattle.follow_laws.proofs.EventLemmas.{beside, middle}
+use Rattle.follow_laws.proofs.GrowLemmas.{formed, open_fits}
+use Rattle.follow_laws.proofs.OnePastLemmas.{one_key}
 
 -- ---- kinds of calls
 

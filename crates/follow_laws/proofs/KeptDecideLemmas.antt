@@ -1,16 +1,14 @@
 -- The calls so far have an order exactly if each part goes on (`kept_parts_decide`).
 use Rattle.follow_laws.proofs.Common.{◌≡◌, ℕ, ◌<◌, true, false, not, ◌&&◌, List, [], ◌∷◌, map, inl, inr, sym, subst, ⊎_elim, ◌⊎◌, ◌↔◌, All, Any}
+use Rattle.follow_laws.proofs.Common.{Contains, AllZip, and_parts, false_from_ne_true, All-nil, All-cons, All-head, All-tail, All-contains}
+use Rattle.follow_laws.proofs.Common.{Contains-nil, Contains-first, Contains-later, Contains-cases, Operation, value_at, IsLinearizable, KeyedCall}
+use Rattle.follow_laws.proofs.Common.{keyed, Choice, rest_of, Keys, IsWithin, Part, IsAt, IsOneOf, ShareKeys, GoesOnAt, SomePastGoesOn, IsOfOnePart}
+use Rattle.follow_laws.proofs.Common.{AreOfOnePart, IsLeftAt, KeptPast, IsOpenRead, IsPast, KeptPart, AreCallsBefore, IsKeptAs, PartGoesOn}
+use Rattle.follow_laws.proofs.Common.{KeptPartsDecide, operations}
 use Rattle.follow_laws.proofs.BridgeLemmas.{keyed_orders}
 use Rattle.follow_laws.proofs.DeadLemmas.{bool_cases}
 use Rattle.follow_laws.proofs.DecideLemmas.{parts_decide}
 use Rattle.follow_laws.proofs.EventLemmas.{not_both}
-use Rattle.follow_laws.proofs.Common.{Contains, AllZip, and_parts, false_from_ne_true, All-nil, All-cons, All-head, All-tail, All-contains}
-use Rattle.follow_laws.proofs.Common.{Contains-nil, Contains-first, Contains-later, Contains-cases, Operation, value_at, IsLinearizable}
-use Rattle.follow_laws.proofs.Common.{KeyedCall}
-use Rattle.follow_laws.proofs.Common.{keyed, Choice, rest_of, Keys, IsWithin, Part, IsAt, IsOneOf, ShareKeys, GoesOnAt}
-use Rattle.follow_laws.proofs.Common.{SomePastGoesOn, IsOfOnePart, AreOfOnePart, IsLeftAt, KeptPast, IsOpenRead, IsPast}
-use Rattle.follow_laws.proofs.Common.{KeptPart, AreCallsBefore, IsKeptAs, PartGoesOn, KeptPartsDecide}
-use Rattle.events.specs.Operations.{operations}
 use Rattle.follow_laws.proofs.KnownLemmas.{calls_are_known}
 use Rattle.follow_laws.proofs.OperationLemmas.{operations_decide}
 use Rattle.follow_laws.proofs.PastLemmas.{zip_forth, zip_back}

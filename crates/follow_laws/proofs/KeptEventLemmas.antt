@@ -1,13 +1,12 @@
 -- Parts that are kept before any event, and as calls begin.
 use Rattle.follow_laws.proofs.Common.{◌≡◌, ℕ, suc, ◌<◌, true, false, List, [], ◌∷◌, ◌++◌, map, None, inl, inr, refl, sym, subst, ⊎_elim, ◌⊎◌, All}
+use Rattle.follow_laws.proofs.Common.{Contains, All-nil, All-cons, All-append, All-weaker, Contains-append_left, All-from_contains, Contains-nil}
+use Rattle.follow_laws.proofs.Common.{Operation, low_key, may_change, value_at, KeyedCall, concerns_key, keyed, Choice, at_first, Keys, AreApart}
+use Rattle.follow_laws.proofs.Common.{IsRead, HasNoKeyIn, KeptPast, IsPast, IsLeftOrFound, AreCallsBefore, IsOfCalls, IsOwn, at_rest, AllIsKept}
+use Rattle.follow_laws.proofs.Common.{ChangesBegin, ReadsBegin, with_begun}
 use Rattle.follow_laws.proofs.EventLemmas.{not_both, middle}
 use Rattle.follow_laws.proofs.StepLemmas.{parts_begin}
 use Rattle.follow_laws.proofs.PastEventLemmas.{nothing_is_kept, begun_calls_are_kept, others_begin}
-use Rattle.follow_laws.proofs.Common.{Contains, All-nil, All-cons, All-append, All-weaker, Contains-append_left, All-from_contains, Contains-nil}
-use Rattle.follow_laws.proofs.Common.{Operation, low_key, may_change, value_at, KeyedCall, concerns_key, keyed, Choice, at_first, Keys, AreApart}
-use Rattle.follow_laws.proofs.Common.{IsRead, HasNoKeyIn, KeptPast, IsPast, IsLeftOrFound}
-use Rattle.follow_laws.proofs.Common.{AreCallsBefore, IsOfCalls, IsOwn, at_rest, AllIsKept, ChangesBegin}
-use Rattle.follow_laws.proofs.Common.{ReadsBegin, with_begun}
 use Rattle.follow_laws.proofs.KeptCallLemmas.{one_key_of, has_low_key, low_is_not_above, reads_leave, last_or_old, no_calls, calls_begun, keyed_begun}
 use Rattle.follow_laws.proofs.KeptPartLemmas.{keys_in, no_key_in, own_at_rest, first_of, from_first, others_apart, stand_after, IsKeptPast, pasts_go}
 use Rattle.follow_laws.proofs.KeptPartLemmas.{zip_map, parts_go}

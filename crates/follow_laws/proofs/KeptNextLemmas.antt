@@ -1,17 +1,15 @@
 -- Pasts at a past moment: those that come next, as they are kept.
-use Rattle.follow_laws.proofs.Common.{◌≡◌, ℕ, ◌+◌, ◌<◌, true, false, List, [], ◌∷◌, refl, sym, ap, ◌∙◌, subst, ⊎_elim, arith, All, Contains}
-use Rattle.follow_laws.proofs.Common.{is_some}
+use Rattle.follow_laws.proofs.Common.{◌≡◌, ℕ, ◌+◌, ◌<◌, true, false, List, [], ◌∷◌, refl, sym, ap, ◌∙◌, subst, ⊎_elim, arith, All, Contains, is_some}
+use Rattle.follow_laws.proofs.Common.{AllZip, false_from_ne_true, cases_eq, All-contains, Contains-first, Contains-later, Contains-at}
+use Rattle.follow_laws.proofs.Common.{place_of-Contains, Operation, KeyedCall, Effect, IsFormed, ends_before, precedes, place_of, keyed, Choice}
+use Rattle.follow_laws.proofs.Common.{rest_of, Keys, IsAlikeAt, IsRead, left_at, MayComeNext, IsAfterCall, IsReadAt, OperationMayCome, KeptPast}
+use Rattle.follow_laws.proofs.Common.{IsPast, IsPastAfter, PastsComeNext, ReadsOfPastsComeNext}
 use Rattle.follow_laws.proofs.BridgeLemmas.{same_precedes}
 use Rattle.follow_laws.proofs.CallLemmas.{calls_come_next, reads_come_next}
 use Rattle.follow_laws.proofs.ComeLemmas.{operations_may_come, operations_come_next}
 use Rattle.follow_laws.proofs.EventLemmas.{not_both}
 use Rattle.follow_laws.proofs.FirstLemmas.{begun_before}
 use Rattle.follow_laws.proofs.OrderLemmas.{same_call, ends_at}
-use Rattle.follow_laws.proofs.Common.{AllZip, false_from_ne_true, cases_eq, All-contains, Contains-first, Contains-later, Contains-at}
-use Rattle.follow_laws.proofs.Common.{place_of-Contains, Operation, KeyedCall, Effect, IsFormed, ends_before, precedes, place_of, keyed, Choice}
-use Rattle.follow_laws.proofs.Common.{rest_of, Keys, IsAlikeAt, IsRead, left_at, MayComeNext, IsAfterCall, IsReadAt}
-use Rattle.follow_laws.proofs.Common.{OperationMayCome}
-use Rattle.follow_laws.proofs.Common.{KeptPast, IsPast, IsPastAfter, PastsComeNext, ReadsOfPastsComeNext}
 use Rattle.events.proofs.ZipLemmas.{zip_left, zip_right}
 use Rattle.follow_laws.proofs.KeptAfterLemmas.{from_others, other_operation, is_past_after}
 use Rattle.follow_laws.proofs.LimitLemmas.{IsPastBefore, all_left, left_there, known_at, parted_before}

@@ -1,12 +1,11 @@
 -- Kept parts: `first_of`, `from_first`: the first part; `pasts_go`: pasts that are kept in another
 -- way after an event; `parts_go`: parts whose pasts are kept as before.
 use Rattle.follow_laws.proofs.Common.{◌≡◌, ℕ, suc, true, List, [], ◌∷◌, map, None, refl, subst, arith, All, Contains, AllZip, false_from_ne_true}
+use Rattle.follow_laws.proofs.Common.{All-nil, All-cons, All-head, All-tail, AllPairs-head, Contains-nil, Operation, low_key, may_change, Contents}
+use Rattle.follow_laws.proofs.Common.{value_at, concerns_key, keyed, Choice, Keys, AreApart, Part, Represent, HasKeysIn, HasNoKeyIn, KeptPast, IsPast}
+use Rattle.follow_laws.proofs.Common.{ArePasts, KeptPart, AreCallsBefore, IsOfCalls, IsOwn, IsKeptAs, AreKept, at_rest}
 use Rattle.follow_laws.proofs.EventLemmas.{not_both}
 use Rattle.follow_laws.proofs.StepLemmas.{parts_stay}
-use Rattle.follow_laws.proofs.Common.{All-nil, All-cons, All-head, All-tail, AllPairs-head, Contains-nil, Operation, low_key, may_change}
-use Rattle.follow_laws.proofs.Common.{Contents}
-use Rattle.follow_laws.proofs.Common.{value_at, concerns_key, keyed, Choice, Keys, AreApart, Part, Represent, HasKeysIn, HasNoKeyIn}
-use Rattle.follow_laws.proofs.Common.{KeptPast, IsPast, ArePasts, KeptPart, AreCallsBefore, IsOfCalls, IsOwn, IsKeptAs, AreKept, at_rest}
 use Rattle.follow_laws.proofs.KeptCallLemmas.{AreCallsAfter, own_key_of}
 
 -- ---- keys

@@ -1,31 +1,23 @@
 -- Pasts that are reached. Of each part one past is picked. The calls that were taken are those that are left in none of these, and were
 -- answered or found something.
-use Rattle.follow_laws.proofs.Common.{◌≡◌, ℕ, ◌<◌, Bool, true, false, not, ◌&&◌, ◌||◌, ◌==◌, cond, List, [], ◌∷◌, ◌++◌, map, Option, Some, None}
-use Rattle.follow_laws.proofs.Common.{inl}
+use Rattle.follow_laws.proofs.Common.{◌≡◌, ℕ, ◌<◌, Bool, true, false, not, ◌&&◌, ◌||◌, ◌==◌, cond, List, [], ◌∷◌, ◌++◌, map, Option, Some, None, inl}
+use Rattle.follow_laws.proofs.Common.{inr, refl, sym, ap, ◌∙◌, subst, ⊎_elim, arith, ◌≢◌, ◌⊎◌, All, AllPairs, Contains, filter, IsTrue, AllZip}
+use Rattle.follow_laws.proofs.Common.{list_any, and_parts, and_from, or_left, or_right, not-true, not_from_false, false_from_ne_true, eqb-true}
+use Rattle.follow_laws.proofs.Common.{eq-eqb, map-append, All-nil, All-cons, All-head, All-tail, All-contains, AllPairs-cons, AllPairs-filter}
+use Rattle.follow_laws.proofs.Common.{AllPairs-map, AllPairs-from_map, AllPairs-weaker, Contains-map, Contains-from_map, AllPairs-nil, AllPairs-head}
+use Rattle.follow_laws.proofs.Common.{AllPairs-tail, All-from_contains, Contains-nil, Contains-first, Contains-later, Contains-cases, Contains-split}
+use Rattle.follow_laws.proofs.Common.{Contains-filter, Contains-from_filter, Operation, Response, may_change, Contents, IsRising, value_at}
+use Rattle.follow_laws.proofs.Common.{after_call, after_calls, rising_kept, KeyedCall, IsNoEffect, no_effect, concerns_key, is_completed, is_refused}
+use Rattle.follow_laws.proofs.Common.{place_of, precedes, effect_at, keyed, left_by, AreDistinct, FitInTurn, HasForm, Choice, Agrees, at_first}
+use Rattle.follow_laws.proofs.Common.{rest_of, Keys, AreApart, Part, IsAt, IsOneOf, choices_of, AgreesAt, HasSomeKeyIn, FoundAt, KeptPast, IsPast}
+use Rattle.follow_laws.proofs.Common.{KeptPart, AreCallsBefore, IsOwn, IsKeptAs, Lead, IsOpen, AreAllTaken}
 use Rattle.follow_laws.proofs.BridgeLemmas.{same_precedes}
 use Rattle.follow_laws.proofs.DeadLemmas.{bool_cases}
 use Rattle.follow_laws.proofs.EffectLemmas.{step_of, fits_legal}
 use Rattle.follow_laws.proofs.EffectRestLemmas.{none_none}
 use Rattle.follow_laws.proofs.GrowLemmas.{formed, open_fits}
 use Rattle.follow_laws.proofs.OrderLemmas.{same_call}
-use Rattle.follow_laws.proofs.Common.{inr, refl, sym, ap, ◌∙◌, subst, ⊎_elim, arith, ◌≢◌, ◌⊎◌, All, AllPairs, Contains, filter, IsTrue, AllZip}
-use Rattle.follow_laws.proofs.Common.{list_any, and_parts, and_from, or_left, or_right, not-true, not_from_false, false_from_ne_true, eqb-true}
-use Rattle.follow_laws.proofs.Common.{eq-eqb}
-use Rattle.follow_laws.proofs.Common.{map-append, All-nil, All-cons, All-head, All-tail, All-contains, AllPairs-cons, AllPairs-filter}
-use Rattle.follow_laws.proofs.Common.{AllPairs-map}
-use Rattle.follow_laws.proofs.Common.{AllPairs-from_map, AllPairs-weaker, Contains-map, Contains-from_map, AllPairs-nil, AllPairs-head}
-use Rattle.follow_laws.proofs.Common.{AllPairs-tail}
-use Rattle.follow_laws.proofs.Common.{All-from_contains, Contains-nil, Contains-first, Contains-later, Contains-cases, Contains-split}
-use Rattle.follow_laws.proofs.Common.{Contains-filter}
-use Rattle.follow_laws.proofs.Common.{Contains-from_filter, Operation, Response, may_change, Contents, IsRising, value_at, after_call}
-use Rattle.follow_laws.proofs.Common.{after_calls}
-use Rattle.follow_laws.proofs.Common.{rising_kept, KeyedCall, IsNoEffect, no_effect, concerns_key, is_completed, is_refused, place_of, precedes}
-use Rattle.follow_laws.proofs.Common.{effect_at, keyed, left_by, AreDistinct, FitInTurn, HasForm, Choice, Agrees, at_first, rest_of, Keys}
-use Rattle.follow_laws.proofs.Common.{AreApart}
-use Rattle.follow_laws.proofs.Common.{Part, IsAt, IsOneOf}
-use Rattle.follow_laws.proofs.Common.{choices_of, AgreesAt, HasSomeKeyIn, FoundAt, KeptPast, IsPast, KeptPart, AreCallsBefore, IsOwn, IsKeptAs}
 use Rattle.std.proofs.Common.{is_some}
-use Rattle.follow_laws.specs.Reached.{Lead, IsOpen, AreAllTaken}
 use Rattle.follow_laws.proofs.PartLemmas.{at_next, instead, instead_here, instead_there, or_cases}
 use Rattle.follow_laws.proofs.ReachLemmas.{choices_are_reached}
 use Rattle.follow_laws.proofs.KeptNextLemmas.{zip_there}

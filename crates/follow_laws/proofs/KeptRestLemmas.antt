@@ -1,7 +1,15 @@
 -- Reads that are taken as they are answered: such as report nothing (`reads_without_report`), and such as report what keys at rest hold
 -- (`reads_at_rest`).
-use Rattle.follow_laws.proofs.Common.{◌≡◌, ℕ, suc, ◌<◌, Bool, true, false, not, cond, List, [], ◌∷◌, ◌++◌, map, Option, None, Some, append-nil}
-use Rattle.follow_laws.proofs.Common.{inl}
+use Rattle.follow_laws.proofs.Common.{◌≡◌, ℕ, suc, ◌<◌, Bool, true, false, not, cond, List, [], ◌∷◌, ◌++◌, map, Option, None, Some, append-nil, inl}
+use Rattle.follow_laws.proofs.Common.{inr, refl, sym, ap, ◌∙◌, subst, ⊎_elim, ◌⊎◌, All, AllPairs, Contains, AllZip, eq-eqb, and_from}
+use Rattle.follow_laws.proofs.Common.{false_from_ne_true, All-nil, All-cons, All-head, All-append, All-contains, AllPairs-cons, Contains-map}
+use Rattle.follow_laws.proofs.Common.{Contains-from_map, AllPairs-head, AllPairs-tail, AllPairs-append, AllPairs-front, AllPairs-back}
+use Rattle.follow_laws.proofs.Common.{AllPairs-across, All-back, All-front, All-from_contains, Contains-nil, Contains-first, Contains-later}
+use Rattle.follow_laws.proofs.Common.{Contains-cases, Contains-around, Operation, Response, low_key, may_change, Contents, value_at, IsLegalCall}
+use Rattle.follow_laws.proofs.Common.{KeyedCall, Effect, IsFormed, IsNoEffect, no_effect, concerns_key, effect_at, is_refusal, keyed, precedes}
+use Rattle.follow_laws.proofs.Common.{HasForm, Choice, rest_of, Keys, AreApart, IsQuiet, Part, Represent, IsLeftAt, NoneIsLeftAt, MayComeNext}
+use Rattle.follow_laws.proofs.Common.{IsReadAt, IsAtRest, HasSomeKeyIn, HasKeysIn, IsNotTakenAt, answered, KeptPast, IsOpenRead, IsPast, KeptPart}
+use Rattle.follow_laws.proofs.Common.{AreCallsBefore, IsOwn, IsKeptAs, AreKept, at_rest, ReadsAtRestAreTaken, ReadsWithoutReportAreTaken}
 use Rattle.follow_laws.proofs.DeadLemmas.{bool_cases}
 use Rattle.follow_laws.proofs.DecideLemmas.{formed_rest}
 use Rattle.follow_laws.proofs.EffectLemmas.{step_of}
@@ -12,20 +20,6 @@ use Rattle.follow_laws.proofs.StepLemmas.{parts_in_any_order}
 use Rattle.follow_laws.proofs.OnePastLemmas.{left_of}
 use Rattle.follow_laws.proofs.PastEventLemmas.{refused_reads_are_not_kept}
 use Rattle.follow_laws.proofs.TakenLemmas.{silent_reads_are_taken}
-use Rattle.follow_laws.proofs.Common.{inr, refl, sym, ap, ◌∙◌, subst, ⊎_elim, ◌⊎◌, All, AllPairs, Contains, AllZip, eq-eqb, and_from}
-use Rattle.follow_laws.proofs.Common.{false_from_ne_true, All-nil, All-cons, All-head, All-append, All-contains, AllPairs-cons, Contains-map}
-use Rattle.follow_laws.proofs.Common.{Contains-from_map, AllPairs-head, AllPairs-tail, AllPairs-append, AllPairs-front, AllPairs-back}
-use Rattle.follow_laws.proofs.Common.{AllPairs-across}
-use Rattle.follow_laws.proofs.Common.{All-back, All-front, All-from_contains, Contains-nil, Contains-first, Contains-later, Contains-cases}
-use Rattle.follow_laws.proofs.Common.{Contains-around, Operation, Response, low_key, may_change, Contents, value_at, IsLegalCall, KeyedCall}
-use Rattle.follow_laws.proofs.Common.{Effect}
-use Rattle.follow_laws.proofs.Common.{IsFormed, IsNoEffect, no_effect, concerns_key, effect_at, is_refusal, keyed, precedes, HasForm, Choice}
-use Rattle.follow_laws.proofs.Common.{rest_of}
-use Rattle.follow_laws.proofs.Common.{Keys, AreApart, IsQuiet, Part, Represent, IsLeftAt, NoneIsLeftAt}
-use Rattle.follow_laws.proofs.Common.{MayComeNext, IsReadAt, IsAtRest, HasSomeKeyIn, HasKeysIn, IsNotTakenAt, answered}
-use Rattle.follow_laws.proofs.Common.{KeptPast, IsOpenRead, IsPast}
-use Rattle.follow_laws.proofs.Common.{KeptPart, AreCallsBefore, IsOwn, IsKeptAs, AreKept, at_rest, ReadsAtRestAreTaken}
-use Rattle.follow_laws.proofs.Common.{ReadsWithoutReportAreTaken}
 use Rattle.follow_laws.proofs.ComeLemmas.{operations_come_next}
 use Rattle.follow_laws.proofs.RestLemmas.{reads_at_rest as reads_of_parts_at_rest}
 use Rattle.follow_laws.proofs.KeptAfterLemmas.{is_past_after}

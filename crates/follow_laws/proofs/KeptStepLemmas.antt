@@ -1,11 +1,11 @@
 -- Parts in another order (`parts_move`); pasts of a part that are dropped (`dead_pasts_are_lost`), or become others (`pasts_move_on`).
 use Rattle.follow_laws.proofs.Common.{◌≡◌, ℕ, ◌<◌, ◌≤◌, Bool, true, false, List, [], ◌∷◌, ◌++◌, map, Option, None, Some, inl, inr, refl, sym, ◌∙◌}
-use Rattle.follow_laws.proofs.DropLemmas.{pasts_without_order_go}
 use Rattle.follow_laws.proofs.Common.{subst, ⊎_elim, false≢true, ◌⊎◌, is_some, AllPairs, Any, Contains, AllZip, All-nil, All-contains, AllPairs-map}
 use Rattle.follow_laws.proofs.Common.{Contains-from_map, All-from_contains, Operation, Response, low_key, may_change, value_at, IsLinearizable}
 use Rattle.follow_laws.proofs.Common.{KeyedCall, concerns_key, is_completed, keyed, place_of, Choice, Keys, Part, Represent, KeptPast, IsNameKept}
-use Rattle.follow_laws.proofs.Common.{OpenReadsBeganAfter, AreCallsBefore, IsOfCalls, IsOwn, IsKeptAs, AreKept, PartsMove}
-use Rattle.follow_laws.proofs.Common.{DeadPastsAreLost, ReadsBeganAfter, PastsMoveOn}
+use Rattle.follow_laws.proofs.Common.{OpenReadsBeganAfter, AreCallsBefore, IsOfCalls, IsOwn, IsKeptAs, AreKept, PartsMove, DeadPastsAreLost}
+use Rattle.follow_laws.proofs.Common.{ReadsBeganAfter, PastsMoveOn}
+use Rattle.follow_laws.proofs.DropLemmas.{pasts_without_order_go}
 use Rattle.follow_laws.specs.Leads.{Setting, IsMadeOf}
 use Rattle.follow_laws.proofs.KeptCallLemmas.{own_key_of}
 use Rattle.follow_laws.proofs.KeptPartLemmas.{IsKeptFirst, first_of, from_first, IsKeptPast, AreKeptPasts}

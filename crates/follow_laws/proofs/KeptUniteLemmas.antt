@@ -2,8 +2,7 @@
 use Rattle.follow_laws.proofs.Common.{◌≡◌, ℕ, true, List, [], ◌∷◌, map, None, inl, inr, refl, sym, subst, ⊎_elim, ◌≢◌, All, Contains, AllZip, or_left}
 use Rattle.follow_laws.proofs.Common.{or_right, or_cases, All-nil, All-cons, All-head, All-tail, All-append, All-contains, All-from_contains}
 use Rattle.follow_laws.proofs.Common.{Operation, low_key, may_change, value_at, keyed, Keys, AreApart, Part, Represent, KeptPast, IsOfCalls, IsOwn}
-use Rattle.follow_laws.proofs.Common.{IsKeptAs, AreKept, KeptPartsUnite, KeptPartsFallApart}
-use Rattle.follow_laws.specs.Unions.{both_keys, IsTogether, ArePairs, FallsApart}
+use Rattle.follow_laws.proofs.Common.{IsKeptAs, AreKept, KeptPartsUnite, KeptPartsFallApart, both_keys, IsTogether, ArePairs, FallsApart}
 use Rattle.follow_laws.proofs.UnionLemmas.{pasts_unite, pasts_fall_apart}
 use Rattle.follow_laws.proofs.KeptPartLemmas.{keys_in, IsKeptFirst, first_of, from_first, others_apart}
 use Rattle.follow_laws.proofs.KeptAnswerLemmas.{own_fewer}

@@ -1,9 +1,9 @@
 -- For a call of a history it is known whether something is left of it at some keys: there is a key
 -- above all that it concerns.
 use Rattle.follow_laws.proofs.Common.{◌≡◌, ℕ, zero, suc, ◌+◌, ◌<◌, Bool, true, false, not, nat_le, ◌&&◌, inl, inr, subst, ⊎_elim, arith, sym, ◌⊎◌}
-use Rattle.follow_laws.proofs.DeadLemmas.{bool_cases}
 use Rattle.follow_laws.proofs.Common.{and_parts, and_from, false_from_ne_true, eqb-true, leb-true, Contains-from_map, Call, Get, Insert, Remove, Scan}
 use Rattle.follow_laws.proofs.Common.{Replace, KeyedCall, concerns_key, keyed, Choice, Keys, CallsAreKnown, IsLeftAt, NoneIsLeftAt}
+use Rattle.follow_laws.proofs.DeadLemmas.{bool_cases}
 use Rattle.std.specs.Prelude.{◌≤◌}
 
 up_to : (key n : ℕ) → key < suc n → (key ≡ n) ⊎ (key < n)

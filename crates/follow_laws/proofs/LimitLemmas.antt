@@ -1,15 +1,14 @@
 -- A kept past at some of its keys, up to a limit before which no pending read of these keys began. The operations say what is left there of the
 -- calls that began before the limit.
 use Rattle.follow_laws.proofs.Common.{◌≡◌, ℕ, ◌+◌, ◌<◌, ◌≤◌, Bool, true, false, not, ◌&&◌, List, [], ◌∷◌, None, inl, inr, refl, sym, ◌∙◌, subst}
+use Rattle.follow_laws.proofs.Common.{⊎_elim, arith, ◌⊎◌, Contains, and_parts, cases_eq, All-head, Contains-nil, Contains-first, Contains-later}
+use Rattle.follow_laws.proofs.Common.{Contains-cases, Operation, KeyedCall, concerns_key, keyed, AreKeyedCalls, Choice, at_first, rest_of, Keys}
+use Rattle.follow_laws.proofs.Common.{IsAlikeAt, Part, IsAt, IsOneOf, choices_of, left_at, IsLeftAt, AreKnownAt, ArePartedBefore, AreAllLeft}
+use Rattle.follow_laws.proofs.Common.{HasSomeKeyIn, HaveKeysTogether, KeptPast, IsPast, IsNameKept, OpenReadsBeganAfter}
 use Rattle.follow_laws.proofs.DeadLemmas.{bool_cases}
 use Rattle.follow_laws.proofs.EventLemmas.{not_both}
 use Rattle.follow_laws.proofs.FewerLemmas.{AreAmong}
 use Rattle.follow_laws.proofs.OrderLemmas.{same_call}
-use Rattle.follow_laws.proofs.Common.{⊎_elim, arith, ◌⊎◌, Contains, and_parts, cases_eq, All-head, Contains-nil, Contains-first, Contains-later}
-use Rattle.follow_laws.proofs.Common.{Contains-cases, Operation, KeyedCall, concerns_key, keyed, AreKeyedCalls, Choice, at_first, rest_of, Keys}
-use Rattle.follow_laws.proofs.Common.{IsAlikeAt, Part, IsAt, IsOneOf, choices_of, left_at, IsLeftAt, AreKnownAt}
-use Rattle.follow_laws.proofs.Common.{ArePartedBefore, AreAllLeft, HasSomeKeyIn, HaveKeysTogether, KeptPast, IsPast, IsNameKept}
-use Rattle.follow_laws.proofs.Common.{OpenReadsBeganAfter}
 use Rattle.follow_laws.proofs.KnownLemmas.{calls_are_known}
 
 -- ---- an operation of a name that has some key among these, or none

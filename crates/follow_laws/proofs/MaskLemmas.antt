@@ -1,10 +1,10 @@
 -- What is left of calls if more is taken.
-use Rattle.follow_laws.proofs.Common.{◌≡◌, ℕ, Bool, true, false, not, ◌&&◌, ◌||◌, cond, List, [], ◌∷◌, ◌++◌, map, Option, inl, inr, refl, sym, ap, ◌∙◌}
+use Rattle.follow_laws.proofs.Common.{◌≡◌, ℕ, Bool, true, false, not, ◌&&◌, ◌||◌, cond, List, [], ◌∷◌, ◌++◌, map, Option, inl, inr, refl, sym, ap}
+use Rattle.follow_laws.proofs.Common.{◌∙◌, subst, ⊎_elim, ◌≢◌, ◌⊎◌, Contains, Contains-map, Contains-from_map, AllPairs-map, Contains-first}
+use Rattle.follow_laws.proofs.Common.{Contains-later, KeyedCall, Effect, no_effect, IsNoEffect, precedes, is_completed, FitInTurn, IsKeyedOrder}
+use Rattle.follow_laws.proofs.Common.{Choice, rest_of, IsQuiet}
 use Rattle.follow_laws.proofs.DeadLemmas.{bool_cases}
 use Rattle.follow_laws.proofs.EffectRestLemmas.{none_or}
-use Rattle.follow_laws.proofs.Common.{subst, ⊎_elim, ◌≢◌, ◌⊎◌, Contains, Contains-map, Contains-from_map, AllPairs-map, Contains-first, Contains-later}
-use Rattle.follow_laws.proofs.Common.{KeyedCall, Effect, no_effect, IsNoEffect, precedes, is_completed, FitInTurn, IsKeyedOrder, Choice, rest_of}
-use Rattle.follow_laws.proofs.Common.{IsQuiet}
 use mathlib.Core.Path.{fun_ext}
 
 -- what is left of a call if more is taken

@@ -1,11 +1,10 @@
 -- Orders that go on by a call that is taken at some keys.
 use Rattle.follow_laws.proofs.Common.{◌≡◌, ℕ, Bool, true, false, ◌&&◌, ◌||◌, ◌==◌, cond, List, map, Option, inl, inr, refl, sym, ap, ◌∙◌, subst, ◌⊎◌}
+use Rattle.follow_laws.proofs.Common.{Contains, and_parts, eqb-true, eq-eqb, All-contains, All-from_contains, KeyedCall, no_effect, IsNoEffect}
+use Rattle.follow_laws.proofs.Common.{IsFormed, FitInTurn, IsLater, HaveGrown, Choice, rest_of, Agrees, GoesOn, Keys, IsAt, IsAfterCall}
 use Rattle.follow_laws.proofs.DeadLemmas.{bool_cases}
 use Rattle.follow_laws.proofs.EffectRestLemmas.{none_none, later_stands}
 use Rattle.follow_laws.proofs.OrderLemmas.{same_call}
-use Rattle.follow_laws.proofs.Common.{Contains, and_parts, eqb-true, eq-eqb, All-contains, All-from_contains, KeyedCall, no_effect, IsNoEffect}
-use Rattle.follow_laws.proofs.Common.{IsFormed, FitInTurn, IsLater, HaveGrown, Choice, rest_of, Agrees, GoesOn, Keys}
-use Rattle.follow_laws.proofs.Common.{IsAt, IsAfterCall}
 use Rattle.follow_laws.proofs.MaskLemmas.{masked_by, order_masked, quiet_masked}
 use Rattle.follow_laws.proofs.PartLemmas.{instead}
 

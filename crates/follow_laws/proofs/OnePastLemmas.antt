@@ -2,16 +2,13 @@
 -- back. `fit_on`, `known_on`, `found_on`, `whole_on`: the parts stay known as a pending call is answered. `found_is_free`, `taken_concerns`:
 -- what a past says of one call.
 use Rattle.follow_laws.proofs.Common.{◌≡◌, ℕ, ◌≤◌, true, false, nat_le, List, ◌∷◌, ◌++◌, Option, None, Some, inl, inr, refl, sym, ap, ◌∙◌, subst}
+use Rattle.follow_laws.proofs.Common.{⊎_elim, arith, ◌≢◌, ◌⊎◌, Contains, is_some, eqb-true, eq-eqb, leb-true, le-leb, and_parts, and_from}
+use Rattle.follow_laws.proofs.Common.{false_from_ne_true, All-contains, All-from_contains, Contains-around, Operation, Response, low_key, high_key}
+use Rattle.follow_laws.proofs.Common.{KeyedCall, is_completed, is_refusal, concerns_key, place_of, keyed, AreKeyedCalls, Choice, Keys, IsAlikeAt}
+use Rattle.follow_laws.proofs.Common.{left_at, IsLeftAt, IsLeft, HasKeysIn, IsNotTakenAt, answered, KeptPast, FoundAt, AreFound, AreAllKept}
+use Rattle.follow_laws.proofs.Common.{IsOpenRead, IsPast, Call, Get, Insert, Remove, Scan, Replace}
 use Rattle.follow_laws.proofs.EventLemmas.{IsShown, beside, middle}
 use Rattle.follow_laws.proofs.OrderLemmas.{same_call}
-use Rattle.follow_laws.proofs.Common.{⊎_elim, arith, ◌≢◌, ◌⊎◌, Contains, is_some, eqb-true, eq-eqb, leb-true, le-leb, and_parts, and_from}
-use Rattle.follow_laws.proofs.Common.{false_from_ne_true, All-contains, All-from_contains, Contains-around, Operation, Response, low_key}
-use Rattle.follow_laws.proofs.Common.{high_key}
-use Rattle.follow_laws.proofs.Common.{KeyedCall, is_completed, is_refusal, concerns_key, place_of, keyed, AreKeyedCalls, Choice, Keys, IsAlikeAt}
-use Rattle.follow_laws.proofs.Common.{left_at, IsLeftAt, IsLeft, HasKeysIn, IsNotTakenAt, answered, KeptPast}
-use Rattle.follow_laws.proofs.Common.{FoundAt, AreFound, AreAllKept, IsOpenRead, IsPast}
-use Rattle.events.specs.declared.event.Call.{Call}
-use Rattle.events.specs.declared.event.Call.TheVariants.{Get, Insert, Remove, Scan, Replace}
 
 -- ---- calls of one key
 

@@ -1,12 +1,11 @@
 -- What is left at some keys, as calls of a map that has only these keys.
 use Rattle.follow_laws.proofs.Common.{◌≡◌, ℕ, ◌<◌, Bool, true, List, map, inl, inr, sym, ap, ◌∙◌, subst, ⊎_elim, arith, ◌≢◌, ◌⊎◌, ◌↔◌, AllPairs}
+use Rattle.follow_laws.proofs.Common.{Contains, filter, AllPairs-map, AllPairs-weaker, Contains-map, Contains-from_map, Contains-filter}
+use Rattle.follow_laws.proofs.Common.{Contains-from_filter, Operation, Contents, value_at, calls_at, KeyedCall, IsNoEffect, keyed, AreKeyedCalls}
+use Rattle.follow_laws.proofs.Common.{HasKeyedOrder, Choice, Keys, has_call, IsAlikeAt, AreAlike, OperationsDecide, AreLeftCalls, left_at}
 use Rattle.follow_laws.proofs.AfterLemmas.{named_in, from_named}
 use Rattle.follow_laws.proofs.BridgeLemmas.{keyed_order, plain_order}
 use Rattle.follow_laws.proofs.OrderLemmas.{same_call}
-use Rattle.follow_laws.proofs.Common.{Contains, filter, AllPairs-map, AllPairs-weaker, Contains-map, Contains-from_map, Contains-filter}
-use Rattle.follow_laws.proofs.Common.{Contains-from_filter, Operation, Contents, value_at, calls_at, KeyedCall, IsNoEffect, keyed, AreKeyedCalls}
-use Rattle.follow_laws.proofs.Common.{HasKeyedOrder, Choice, Keys, has_call, IsAlikeAt, AreAlike}
-use Rattle.follow_laws.proofs.Common.{OperationsDecide, AreLeftCalls, left_at}
 use Rattle.follow_laws.proofs.AlikeLemmas.{alike_decide}
 use Rattle.follow_laws.proofs.SomeLemmas.{keyed_left, keyed_some, some_decide}
 

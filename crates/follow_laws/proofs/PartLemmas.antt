@@ -4,16 +4,16 @@
 -- `with_instead`, `with_other`: a part with other pasts. `stand_below`: choices that are reached are below the calls. `few_are`, `few_grown`:
 -- the calls that some grew from. `part_steps`: parts represent the calls if one of them took a step.
 use Rattle.follow_laws.proofs.Common.{◌≡◌, ℕ, ◌<◌, Bool, true, false, not, ◌||◌, ◌&&◌, cond, List, [], ◌∷◌, map, Option, inl, inr, refl, sym, ap, ◌∙◌}
-use Rattle.follow_laws.proofs.AfterLemmas.{named_in, from_named}
-use Rattle.follow_laws.proofs.DeadLemmas.{bool_cases}
-use Rattle.follow_laws.proofs.EffectRestLemmas.{none_none}
-use Rattle.follow_laws.proofs.OrderLemmas.{same_call}
 use Rattle.follow_laws.proofs.Common.{subst, ⊎_elim, ◌≢◌, ◌⊎◌, Contains, filter, All-cons, All-tail, All-contains, AllPairs-cons, AllPairs-filter}
 use Rattle.follow_laws.proofs.Common.{Contains-from_map, AllPairs-head, AllPairs-tail, All-from_contains, Contains-first, Contains-later}
 use Rattle.follow_laws.proofs.Common.{Contains-cases, Contains-filter, Contains-from_filter, KeyedCall, Effect, no_effect, IsFormed, IsNoEffect}
 use Rattle.follow_laws.proofs.Common.{precedes, AreDistinct, FitInTurn, HasKeyedOrder, HaveGrown, Choice, Agrees, rest_of, GoesOn, SomeGoesOn}
-use Rattle.follow_laws.proofs.Common.{AddNoOrder, Keys, has_call, only, other_keys, AreApart}
-use Rattle.follow_laws.proofs.Common.{Part, IsAt, IsOneOf, choices_of, ShareKeys, AreSomeOf, Represent, left_at, AgreesAt, GoesOnAt}
+use Rattle.follow_laws.proofs.Common.{AddNoOrder, Keys, has_call, only, other_keys, AreApart, Part, IsAt, IsOneOf, choices_of, ShareKeys, AreSomeOf}
+use Rattle.follow_laws.proofs.Common.{Represent, left_at, AgreesAt, GoesOnAt}
+use Rattle.follow_laws.proofs.AfterLemmas.{named_in, from_named}
+use Rattle.follow_laws.proofs.DeadLemmas.{bool_cases}
+use Rattle.follow_laws.proofs.EffectRestLemmas.{none_none}
+use Rattle.follow_laws.proofs.OrderLemmas.{same_call}
 use mathlib.Core.Path.{fun_ext}
 use Rattle.follow_laws.proofs.ApartLemmas.{some_refute}
 

@@ -1,18 +1,12 @@
 -- What is kept of a past before any event; and as calls begin, are answered, or are refused.
-use Rattle.follow_laws.proofs.Common.{◌≡◌, ℕ, ◌<◌, true, false, not, List, [], ◌∷◌, ◌++◌, Option, None, Some, inl, inr, sym, ap, ◌∙◌, subst}
-use Rattle.follow_laws.proofs.Common.{⊎_elim}
+use Rattle.follow_laws.proofs.Common.{◌≡◌, ℕ, ◌<◌, true, false, not, List, [], ◌∷◌, ◌++◌, Option, None, Some, inl, inr, sym, ap, ◌∙◌, subst, ⊎_elim}
+use Rattle.follow_laws.proofs.Common.{arith, ◌⊎◌, All, Contains, is_some, and_parts, false_from_ne_true, All-contains, Contains-append_left}
+use Rattle.follow_laws.proofs.Common.{Contains-append_cases, Contains-nil, Contains-cases, Contains-around, Operation, Response, low_key, value_at}
+use Rattle.follow_laws.proofs.Common.{KeyedCall, concerns_key, is_refusal, place_of, keyed, Choice, at_first, Keys, IsLeftAt, HasKeysIn, IsNotTakenAt}
+use Rattle.follow_laws.proofs.Common.{answered, NothingIsKept, BegunCallsAreKept, OthersBegin, AnsweredCallsAreKept, AnsweredReadsAreKept}
+use Rattle.follow_laws.proofs.Common.{OthersAreAnswered, RefusedCallsAreNotKept, RefusedReadsAreNotKept, KeptPast, AreFound, IsOpenRead, IsPast}
 use Rattle.follow_laws.proofs.EventLemmas.{IsShown, not_both, beside, middle, differ, own_alike, begun_calls_are_left, other_calls_begin}
 use Rattle.follow_laws.proofs.EventLemmas.{other_calls_are_answered, answered_calls_are_left}
-use Rattle.follow_laws.proofs.Common.{arith, ◌⊎◌, All, Contains, is_some, and_parts, false_from_ne_true, All-contains, Contains-append_left}
-use Rattle.follow_laws.proofs.Common.{Contains-append_cases, Contains-nil, Contains-cases, Contains-around, Operation, Response, low_key}
-use Rattle.follow_laws.proofs.Common.{value_at}
-use Rattle.follow_laws.proofs.Common.{KeyedCall, concerns_key, is_refusal, place_of, keyed, Choice, at_first, Keys, IsLeftAt, HasKeysIn}
-use Rattle.follow_laws.proofs.Common.{IsNotTakenAt}
-use Rattle.follow_laws.proofs.Common.{answered}
-use Rattle.follow_laws.proofs.Common.{NothingIsKept, BegunCallsAreKept, OthersBegin}
-use Rattle.follow_laws.proofs.Common.{AnsweredCallsAreKept, AnsweredReadsAreKept, OthersAreAnswered, RefusedCallsAreNotKept}
-use Rattle.follow_laws.proofs.Common.{RefusedReadsAreNotKept}
-use Rattle.follow_laws.proofs.Common.{KeptPast, AreFound, IsOpenRead, IsPast}
 use Rattle.follow_laws.proofs.AnswerLemmas.{nothing_is_left, answered_reads_are_left, refused_calls_are_not_left}
 use Rattle.follow_laws.proofs.OnePastLemmas.{one_key, has_its_key, IsFit, AreKnown, fit_of, left_of, past_from, found_is_free, taken_concerns, fit_on}
 use Rattle.follow_laws.proofs.OnePastLemmas.{fit_now, known_on, found_on, whole_on}

@@ -1,14 +1,13 @@
 -- The pasts of a part, each with its choice: in another order (`pasts_in_any_order_are_kept`), of
 -- the part's keys (`kept_pasts_are_within`), and what they keep of a pending call
 -- (`open_changes_are_kept`). `zip_forth`, `zip_back`: the partner of an item.
-use Rattle.follow_laws.proofs.Common.{◌≡◌, ℕ, true, List, [], ◌∷◌, ◌++◌, map, Option, inl, inr, refl, sym, ◌∙◌, subst, ⊎_elim, ◌≢◌, Contains}
-use Rattle.follow_laws.proofs.Common.{AllZip}
-use Rattle.follow_laws.proofs.EventLemmas.{not_both}
-use Rattle.follow_laws.proofs.DropLemmas.{pasts_in_any_order}
+use Rattle.follow_laws.proofs.Common.{◌≡◌, ℕ, true, List, [], ◌∷◌, ◌++◌, map, Option, inl, inr, refl, sym, ◌∙◌, subst, ⊎_elim, ◌≢◌, Contains, AllZip}
 use Rattle.follow_laws.proofs.Common.{All-contains, Contains-append_left, Contains-append_right, Contains-append_cases, All-from_contains}
 use Rattle.follow_laws.proofs.Common.{Contains-nil, Contains-first, Contains-later, Contains-cases, Operation, value_at, KeyedCall, keyed, Choice}
-use Rattle.follow_laws.proofs.Common.{Keys, Part, Represent, KeptPast, IsPast, ArePasts, AreKeptAlike, IsLeftOrFound}
-use Rattle.follow_laws.proofs.Common.{IsOwn, PastsInAnyOrderAreKept, IsWithinKeys, KeptPastsAreWithin, IsKnownIn, OpenChangesAreKept}
+use Rattle.follow_laws.proofs.Common.{Keys, Part, Represent, KeptPast, IsPast, ArePasts, AreKeptAlike, IsLeftOrFound, IsOwn, PastsInAnyOrderAreKept}
+use Rattle.follow_laws.proofs.Common.{IsWithinKeys, KeptPastsAreWithin, IsKnownIn, OpenChangesAreKept}
+use Rattle.follow_laws.proofs.EventLemmas.{not_both}
+use Rattle.follow_laws.proofs.DropLemmas.{pasts_in_any_order}
 use Rattle.follow_laws.proofs.KeptAlikeLemmas.{alike_pasts_go}
 use Rattle.follow_laws.proofs.KeptPartLemmas.{IsKeptFirst, first_of, from_first}
 

@@ -1,22 +1,21 @@
 -- Choices that are reached. A pending call that was taken is answered with what it found. After all calls there is a read of all keys that
 -- finds what these hold. The choice goes on to an order of these, so they have one.
 use Rattle.follow_laws.proofs.Common.{◌≡◌, ℕ, suc, ◌<◌, ◌≤◌, Bool, true, false, not, ◌&&◌, nat_lt, cond, List, [], ◌∷◌, ◌++◌, map, Option, Some, None}
+use Rattle.follow_laws.proofs.Common.{inl, inr, refl, sym, ap, ◌∙◌, subst, ⊎_elim, arith, ◌≢◌, ◌⊎◌, All, Contains, ltb-true, lt-ltb}
+use Rattle.follow_laws.proofs.Common.{false_from_ne_true, All-nil, All-cons, All-contains, Contains-append_left, Contains-append_right}
+use Rattle.follow_laws.proofs.Common.{Contains-append_cases, AllPairs-cons, AllPairs-map, AllPairs-from_map, AllPairs-weaker, Contains-map}
+use Rattle.follow_laws.proofs.Common.{Contains-from_map, AllPairs-nil, AllPairs-head, AllPairs-back, AllPairs-front, AllPairs-across, AllPairs-append}
+use Rattle.follow_laws.proofs.Common.{All-from_contains, Contains-nil, Contains-first, Contains-later, Contains-cases, Contains-split, KeyedCall}
+use Rattle.follow_laws.proofs.Common.{Effect, IsFormed, IsNoEffect, no_effect, read_of, is_same_value, is_completed, ends_before, precedes, FitInTurn}
+use Rattle.follow_laws.proofs.Common.{left_by, AreDistinct, AreKeyedCalls, KeepPrecedence, IsKeyedOrder, HasKeyedOrder, HaveGrown, IsLater, Choice}
+use Rattle.follow_laws.proofs.Common.{Agrees, GoesOn, rest_of, AreSomeOf, Lead, IsOpen, AreAllTaken, ChoicesAreReached}
 use Rattle.follow_laws.proofs.DeadLemmas.{bool_cases}
 use Rattle.follow_laws.proofs.EffectLemmas.{same_values}
 use Rattle.follow_laws.proofs.EffectRestLemmas.{none_none}
 use Rattle.follow_laws.proofs.OrderLemmas.{same_call, ends_sooner}
 use Rattle.follow_laws.proofs.TurnLemmas.{fit-back, fit-front}
-use Rattle.follow_laws.proofs.Common.{inl, inr, refl, sym, ap, ◌∙◌, subst, ⊎_elim, arith, ◌≢◌, ◌⊎◌, All, Contains, ltb-true, lt-ltb, false_from_ne_true}
-use Rattle.follow_laws.proofs.Common.{All-nil, All-cons, All-contains, Contains-append_left, Contains-append_right, Contains-append_cases}
-use Rattle.follow_laws.proofs.Common.{AllPairs-cons, AllPairs-map, AllPairs-from_map, AllPairs-weaker, Contains-map, Contains-from_map, AllPairs-nil}
-use Rattle.follow_laws.proofs.Common.{AllPairs-head, AllPairs-back, AllPairs-front, AllPairs-across, AllPairs-append, All-from_contains, Contains-nil}
-use Rattle.follow_laws.proofs.Common.{Contains-first, Contains-later, Contains-cases, Contains-split, KeyedCall, Effect, IsFormed, IsNoEffect}
-use Rattle.follow_laws.proofs.Common.{no_effect, read_of, is_same_value, is_completed, ends_before, precedes, FitInTurn, left_by, AreDistinct}
-use Rattle.follow_laws.proofs.Common.{AreKeyedCalls, KeepPrecedence, IsKeyedOrder, HasKeyedOrder, HaveGrown, IsLater, Choice, Agrees, GoesOn, rest_of}
-use Rattle.follow_laws.proofs.Common.{AreSomeOf}
 use Rattle.std.proofs.Common.{is_some}
 use mathlib.Core.Path.{fun_ext}
-use Rattle.follow_laws.specs.Reached.{Lead, IsOpen, AreAllTaken, ChoicesAreReached}
 
 -- ---- a call with what it found as its answer
 

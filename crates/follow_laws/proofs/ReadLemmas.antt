@@ -1,11 +1,11 @@
 -- A read that was answered is taken out of an order: `read_comes`, if it fits what the keys hold. `read_fits` and `read_quiet`: what is left of
 -- it by a choice fits, and is quiet.
-use Rattle.follow_laws.proofs.Common.{◌≡◌, ℕ, Bool, true, false, ◌&&◌, ◌==◌, cond, List, ◌∷◌, map, Option, inl, inr, refl, sym, ap, ◌∙◌, subst, ⊎_elim}
+use Rattle.follow_laws.proofs.Common.{◌≡◌, ℕ, Bool, true, false, ◌&&◌, ◌==◌, cond, List, ◌∷◌, map, Option, inl, inr, refl, sym, ap, ◌∙◌, subst}
+use Rattle.follow_laws.proofs.Common.{⊎_elim, ◌⊎◌, Contains, and_parts, eqb-true, All-head, Contains-from_map, Contains-first, Contains-later}
+use Rattle.follow_laws.proofs.Common.{Contains-cases, KeyedCall, is_completed, no_effect, FitInTurn, HaveGrown, Choice, rest_of, GoesOn, SomeGoesOn}
+use Rattle.follow_laws.proofs.Common.{Keys, IsQuiet, Part, IsAt, IsOneOf, ShareKeys, choices_of, IsAfterCall, IsReadAt}
 use Rattle.follow_laws.proofs.DeadLemmas.{bool_cases}
 use Rattle.follow_laws.proofs.OrderLemmas.{same_call}
-use Rattle.follow_laws.proofs.Common.{◌⊎◌, Contains, and_parts, eqb-true, All-head, Contains-from_map, Contains-first, Contains-later, Contains-cases}
-use Rattle.follow_laws.proofs.Common.{KeyedCall, is_completed, no_effect, FitInTurn, HaveGrown, Choice, rest_of, GoesOn, SomeGoesOn, Keys, IsQuiet}
-use Rattle.follow_laws.proofs.Common.{Part, IsAt, IsOneOf, ShareKeys, choices_of, IsAfterCall, IsReadAt}
 use Rattle.follow_laws.proofs.FirstLemmas.{completed_stays}
 use Rattle.follow_laws.proofs.MaskLemmas.{masked_by, quiet_masked}
 use Rattle.follow_laws.proofs.NextLemmas.{taken_by, IsTaken, rest_leaves, goes_on_next}

@@ -1,20 +1,21 @@
 -- A read that was answered, taken at keys at rest, and a call without effect, taken at any time. `at_taken`: two choices that differ by it.
 -- `read_back`, `none_back`: a choice goes on if the other does, which has taken it.
 use Rattle.follow_laws.proofs.Common.{◌≡◌, ℕ, ◌==◌, ◌<◌, Bool, true, false, not, ◌&&◌, ◌||◌, cond, List, [], ◌∷◌, ◌++◌, map, Option, inl, inr, refl}
-use Rattle.follow_laws.proofs.AfterLemmas.{named_in, from_named}
-use Rattle.follow_laws.proofs.DeadLemmas.{bool_cases, response_of}
-use Rattle.follow_laws.proofs.EffectRestLemmas.{none_none, refused_none}
-use Rattle.follow_laws.proofs.OrderLemmas.{same_call, ends_at}
 use Rattle.follow_laws.proofs.Common.{sym, ap, ◌∙◌, subst, ⊎_elim, arith, ◌≢◌, ◌⊎◌, All, Contains, eqb-true, eq-eqb, and_parts, or_left, or_right}
 use Rattle.follow_laws.proofs.Common.{All-head, All-contains, Contains-append_left, AllPairs-map, Contains-map, Contains-from_map, AllPairs-across}
 use Rattle.follow_laws.proofs.Common.{AllPairs-back, AllPairs-head, All-from_contains, Contains-first, Contains-later, Contains-cases, Contains-split}
 use Rattle.follow_laws.proofs.Common.{KeyedCall, Effect, IsNoEffect, IsFormed, no_effect, is_completed, ends_before, precedes, FitInTurn, AreDistinct}
 use Rattle.follow_laws.proofs.Common.{KeepPrecedence, IsKeyedOrder, AreKeyedCalls, LeaveTheSame, IsAnsweredAs, IsLater, HaveGrown, Choice, rest_of}
-use Rattle.follow_laws.proofs.Common.{Agrees, GoesOn, SomeGoesOn, Keys, has_call, other_keys, AreApart, IsQuiet}
-use Rattle.follow_laws.proofs.Common.{ReadsAreTakenAtRest, CallsWithoutEffectAreTaken, Part}
-use Rattle.follow_laws.proofs.Common.{IsAt, IsOneOf, AreSomeOf, choices_of, Represent, IsAfterCall, IsReadAt, IsAtRest}
+use Rattle.follow_laws.proofs.Common.{Agrees, GoesOn, SomeGoesOn, Keys, has_call, other_keys, AreApart, IsQuiet, ReadsAreTakenAtRest}
+use Rattle.follow_laws.proofs.Common.{CallsWithoutEffectAreTaken, Part, IsAt, IsOneOf, AreSomeOf, choices_of, Represent, IsAfterCall, IsReadAt}
+use Rattle.follow_laws.proofs.Common.{IsAtRest}
+use Rattle.follow_laws.proofs.AfterLemmas.{named_in, from_named}
+use Rattle.follow_laws.proofs.DeadLemmas.{bool_cases, response_of}
+use Rattle.follow_laws.proofs.EffectRestLemmas.{none_none, refused_none}
+use Rattle.follow_laws.proofs.OrderLemmas.{same_call, ends_at}
 use mathlib.Core.Path.{fun_ext}
-use Rattle.follow_laws.proofs.PartLemmas.{at_back, instead, instead_here, instead_there, keys_shared, with_instead, with_other, TakesNoMore, part_steps}
+use Rattle.follow_laws.proofs.PartLemmas.{at_back, instead, instead_here, instead_there, keys_shared, with_instead, with_other, TakesNoMore}
+use Rattle.follow_laws.proofs.PartLemmas.{part_steps}
 use Rattle.follow_laws.proofs.FewerLemmas.{takes_less}
 use Rattle.follow_laws.proofs.FirstLemmas.{completed_stays}
 use Rattle.follow_laws.proofs.ReadLemmas.{read_comes, read_fits, read_quiet}

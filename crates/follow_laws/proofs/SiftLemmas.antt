@@ -1,9 +1,9 @@
 -- Calls, one after another, split into two lists, and with one more between them.
 use Rattle.follow_laws.proofs.Common.{◌≡◌, ℕ, Bool, true, false, ◌==◌, cond, List, [], ◌∷◌, ◌++◌, Option, inl, inr, refl, sym, ap, ◌∙◌, subst, ⊎_elim}
-use Rattle.follow_laws.proofs.DeadLemmas.{bool_cases}
 use Rattle.follow_laws.proofs.Common.{◌≢◌, ◌⊎◌, All, AllPairs, Contains, filter, eqb-true, eq-eqb, All-contains, Contains-append_cases, AllPairs-cons}
 use Rattle.follow_laws.proofs.Common.{All-from_contains, AllPairs-head, AllPairs-tail, AllPairs-append, Contains-nil, Contains-first, Contains-later}
 use Rattle.follow_laws.proofs.Common.{Contains-cases, KeyedCall, IsNoEffect, FitInTurn, left_by, AreDistinct}
+use Rattle.follow_laws.proofs.DeadLemmas.{bool_cases}
 
 -- if each call is of one kind or of another, some test of its name says which
 pub choose : (P Q : KeyedCall → Type 0) (xs : List KeyedCall) → AreDistinct xs → ((x : KeyedCall) → Contains xs x → P x ⊎ Q x)

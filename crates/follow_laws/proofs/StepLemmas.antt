@@ -1,10 +1,10 @@
 -- Laws of parts that look at no order.
 use Rattle.follow_laws.proofs.Common.{◌≡◌, ℕ, Bool, true, false, ◌||◌, List, [], ◌∷◌, refl, sym, ◌∙◌, subst, ⊎_elim, ◌⊎◌, AllPairs, Contains, All-nil}
-use Rattle.follow_laws.proofs.DeadLemmas.{dead_stay_dead}
 use Rattle.follow_laws.proofs.Common.{All-cons, All-head, All-tail, All-contains, AllPairs-cons, AllPairs-nil, AllPairs-head, AllPairs-tail}
 use Rattle.follow_laws.proofs.Common.{All-from_contains, Contains-nil, Contains-first, Contains-later, Contains-cases, Choice, at_first, GoesOn, Keys}
-use Rattle.follow_laws.proofs.Common.{AreApart, Part, IsAt, IsOneOf, choices_of, ShareKeys, AreJoined, PartsBegin, PartsStay}
-use Rattle.follow_laws.proofs.Common.{PartsInAnyOrder, PartsUnite, DeadPastsGo}
+use Rattle.follow_laws.proofs.Common.{AreApart, Part, IsAt, IsOneOf, choices_of, ShareKeys, AreJoined, PartsBegin, PartsStay, PartsInAnyOrder}
+use Rattle.follow_laws.proofs.Common.{PartsUnite, DeadPastsGo}
+use Rattle.follow_laws.proofs.DeadLemmas.{dead_stay_dead}
 use Rattle.follow_laws.proofs.ChoiceLemmas.{begin}
 use Rattle.follow_laws.proofs.GrowthLemmas.{growth_on}
 use Rattle.follow_laws.proofs.PartLemmas.{all_keys, at_self, at_back, at_next, at_fewer, at_both, or_cases, same_goes_on, goes_on_there, few_grown}

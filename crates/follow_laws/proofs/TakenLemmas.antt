@@ -1,19 +1,15 @@
 -- What is kept of a past as calls are answered that were taken, or are taken at once.
-use Rattle.follow_laws.proofs.Common.{◌≡◌, ℕ, ◌==◌, Bool, true, false, not, ◌&&◌, ◌||◌, cond, List, ◌∷◌, ◌++◌, Option, Some, inl, inr, refl, sym}
-use Rattle.follow_laws.proofs.Common.{ap}
+use Rattle.follow_laws.proofs.Common.{◌≡◌, ℕ, ◌==◌, Bool, true, false, not, ◌&&◌, ◌||◌, cond, List, ◌∷◌, ◌++◌, Option, Some, inl, inr, refl, sym, ap}
+use Rattle.follow_laws.proofs.Common.{◌∙◌, subst, ⊎_elim, arith, ◌≢◌, ◌⊎◌, Contains, eqb-true, eq-eqb, ne_eqb, not-true, and_parts, or_cases}
+use Rattle.follow_laws.proofs.Common.{All-contains, All-from_contains, Contains-later, Contains-cases, Contains-around, Operation, Response}
+use Rattle.follow_laws.proofs.Common.{KeyedCall, IsNoEffect, no_effect, concerns_key, effect_at, is_refusal, keyed, AreKeyedCalls, Choice, rest_of}
+use Rattle.follow_laws.proofs.Common.{Keys, only, IsAlikeAt, AgreesAt, GoesOnAt, left_at, IsLeftAt, IsAfterCall, IsLeft, IsNotTakenAt, IsTakenAt}
+use Rattle.follow_laws.proofs.Common.{answered, TakenCallsAgree, TakenCallsDisagree, UntoldReadsAreTaken, KeptPast, AreFound, AreAllKept, IsOpenRead}
+use Rattle.follow_laws.proofs.Common.{IsPast}
 use Rattle.follow_laws.proofs.DeadLemmas.{bool_cases}
 use Rattle.follow_laws.proofs.EventLemmas.{IsShown, not_both, beside, middle, differ, taken_calls_are_answered}
 use Rattle.follow_laws.proofs.PartLemmas.{at_self, none_left_out}
 use Rattle.follow_laws.proofs.StepLemmas.{dead_pasts_go}
-use Rattle.follow_laws.proofs.Common.{◌∙◌, subst, ⊎_elim, arith, ◌≢◌, ◌⊎◌, Contains, eqb-true, eq-eqb, ne_eqb, not-true, and_parts, or_cases}
-use Rattle.follow_laws.proofs.Common.{All-contains, All-from_contains, Contains-later, Contains-cases, Contains-around, Operation, Response}
-use Rattle.follow_laws.proofs.Common.{KeyedCall}
-use Rattle.follow_laws.proofs.Common.{IsNoEffect, no_effect, concerns_key, effect_at, is_refusal, keyed, AreKeyedCalls, Choice, rest_of, Keys}
-use Rattle.follow_laws.proofs.Common.{only}
-use Rattle.follow_laws.proofs.Common.{IsAlikeAt, AgreesAt, GoesOnAt, left_at, IsLeftAt, IsAfterCall, IsLeft, IsNotTakenAt, IsTakenAt}
-use Rattle.follow_laws.proofs.Common.{answered}
-use Rattle.follow_laws.proofs.Common.{TakenCallsAgree, TakenCallsDisagree, UntoldReadsAreTaken, KeptPast, AreFound, AreAllKept}
-use Rattle.follow_laws.proofs.Common.{IsOpenRead, IsPast}
 use mathlib.Core.Path.{fun_ext}
 use Rattle.follow_laws.proofs.EffectRestLemmas.{none_or}
 use Rattle.follow_laws.proofs.RestLemmas.{calls_without_effect}

@@ -1,21 +1,19 @@
 -- Two parts become one of all pairs of their pasts: `both_past`. And one falls apart: `first_past`, `second_past`.
-use Rattle.follow_laws.proofs.Common.{◌≡◌, ℕ, Bool, true, false, not, ◌&&◌, ◌||◌, cond, List, [], ◌∷◌, ◌++◌, map, Option, append-nil, inl, inr}
-use Rattle.follow_laws.proofs.Common.{refl}
+use Rattle.follow_laws.proofs.Common.{◌≡◌, ℕ, Bool, true, false, not, ◌&&◌, ◌||◌, cond, List, [], ◌∷◌, ◌++◌, map, Option, append-nil, inl, inr, refl}
+use Rattle.follow_laws.proofs.Common.{sym, ◌∙◌, subst, ⊎_elim, ◌⊎◌, Contains, AllZip, and_parts, or_from, or_left, or_right, or_cases}
+use Rattle.follow_laws.proofs.Common.{false_from_ne_true, All-contains, Contains-append_left, Contains-append_right, Contains-append_cases}
+use Rattle.follow_laws.proofs.Common.{All-from_contains, Contains-nil, Contains-first, Contains-later, Contains-cases, Contains-around, Operation}
+use Rattle.follow_laws.proofs.Common.{Contents, value_at, KeyedCall, keyed, AreDistinct, Choice, Keys, AreApart, IsAlikeAt, Part, IsAt, Represent}
+use Rattle.follow_laws.proofs.Common.{left_at, AreJoined, AreOfLeftCalls, IsLeft, HasKeysIn, KeptPast, AreFound, AreAllKept, IsPast, ArePasts}
+use Rattle.follow_laws.proofs.Common.{AreKeptAlike, Contains-map, Contains-from_map, both_keys, IsTogether, ArePairs, PastsUnite, FallsApart}
+use Rattle.follow_laws.proofs.Common.{PastsFallApart}
 use Rattle.follow_laws.proofs.DeadLemmas.{bool_cases}
 use Rattle.follow_laws.proofs.EventLemmas.{not_both, middle, beside}
 use Rattle.follow_laws.proofs.OrderLemmas.{same_call}
 use Rattle.follow_laws.proofs.PartLemmas.{instead, instead_here, instead_there}
 use Rattle.follow_laws.proofs.StepLemmas.{parts_unite}
-use Rattle.follow_laws.proofs.Common.{sym, ◌∙◌, subst, ⊎_elim, ◌⊎◌, Contains, AllZip, and_parts, or_from, or_left, or_right, or_cases}
-use Rattle.follow_laws.proofs.Common.{false_from_ne_true, All-contains, Contains-append_left, Contains-append_right, Contains-append_cases}
-use Rattle.follow_laws.proofs.Common.{All-from_contains, Contains-nil, Contains-first, Contains-later, Contains-cases, Contains-around, Operation}
-use Rattle.follow_laws.proofs.Common.{Contents, value_at, KeyedCall, keyed, AreDistinct, Choice, Keys, AreApart, IsAlikeAt}
-use Rattle.follow_laws.proofs.Common.{Part, IsAt, Represent, left_at, AreJoined, AreOfLeftCalls, IsLeft, HasKeysIn}
-use Rattle.follow_laws.proofs.Common.{KeptPast, AreFound, AreAllKept, IsPast, ArePasts, AreKeptAlike}
-use Rattle.events.proofs.FilterLemmas.{Contains-map, Contains-from_map}
 use mathlib.Core.Path.{fun_ext}
 use Rattle.follow_laws.proofs.UniteLemmas.{left_calls_unite, left_calls_part}
-use Rattle.follow_laws.specs.Unions.{both_keys, IsTogether, ArePairs, PastsUnite, FallsApart, PastsFallApart}
 use Rattle.follow_laws.proofs.KeptAlikeLemmas.{alike_pasts_stand}
 use Rattle.follow_laws.proofs.DropLemmas.{pasts_in_any_order}
 use Rattle.follow_laws.proofs.OnePastLemmas.{IsFit, AreKnown, fit_of, left_of, past_from}

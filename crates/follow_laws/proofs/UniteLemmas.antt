@@ -1,13 +1,13 @@
 -- What is left at two sets of keys: at both together, and at one of them. `alike_moved`: an operation that is alike to what is left of a call at
 -- some keys is so at others.
 use Rattle.follow_laws.proofs.Common.{◌≡◌, ℕ, ◌==◌, ◌<◌, Bool, true, false, not, ◌&&◌, ◌||◌, cond, List, [], ◌∷◌, Option, Some, None, inl, inr, refl}
-use Rattle.follow_laws.proofs.DeadLemmas.{bool_cases}
-use Rattle.follow_laws.proofs.GrowLemmas.{formed}
 use Rattle.follow_laws.proofs.Common.{sym, ap, ◌∙◌, subst, ⊎_elim, arith, ◌⊎◌, All, AllPairs, Contains, and_parts, eqb-true, All-contains}
 use Rattle.follow_laws.proofs.Common.{AllPairs-filter, AllPairs-head, AllPairs-tail, All-from_contains, Contains-nil, Contains-cases, Operation}
-use Rattle.follow_laws.proofs.Common.{Contents, value_at, KeyedCall, Effect, IsNoEffect, no_effect, concerns_key, keyed, HasForm, Choice, rest_of, Keys}
-use Rattle.follow_laws.proofs.Common.{AreApart, IsAlikeAt, IsAt, AgreesAt, left_at, IsLeftAt, IsLeft, HasKeysIn, HaveTheirKeys}
-use Rattle.follow_laws.proofs.Common.{AreTogether, pairs_at, LeftCallsUnite, LeftCallsPart}
+use Rattle.follow_laws.proofs.Common.{Contents, value_at, KeyedCall, Effect, IsNoEffect, no_effect, concerns_key, keyed, HasForm, Choice, rest_of}
+use Rattle.follow_laws.proofs.Common.{Keys, AreApart, IsAlikeAt, IsAt, AgreesAt, left_at, IsLeftAt, IsLeft, HasKeysIn, HaveTheirKeys, AreTogether}
+use Rattle.follow_laws.proofs.Common.{pairs_at, LeftCallsUnite, LeftCallsPart}
+use Rattle.follow_laws.proofs.DeadLemmas.{bool_cases}
+use Rattle.follow_laws.proofs.GrowLemmas.{formed}
 use Rattle.follow_laws.proofs.PartLemmas.{none_left_out, or_cases}
 
 -- ---- one operation

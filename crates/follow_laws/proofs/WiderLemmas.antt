@@ -1,18 +1,17 @@
 -- Small calls that refute what goes further than the laws. Calls of keys 0 and 1, which hold nothing at first.
 use Rattle.follow_laws.proofs.Common.{◌≡◌, ℕ, ◌<◌, ◌≤◌, ◌==◌, ◌&&◌, ◌||◌, Bool, true, false, not, cond, List, [], ◌∷◌, ◌++◌, map, Option, Some, None}
-use Rattle.follow_laws.proofs.DeadLemmas.{bool_cases}
-use Rattle.follow_laws.proofs.EffectLemmas.{same_values}
-use Rattle.follow_laws.proofs.EffectRestLemmas.{none_none}
-use Rattle.follow_laws.proofs.TurnLemmas.{fit-back}
 use Rattle.follow_laws.proofs.Common.{inl, inr, refl, sym, ap, ◌∙◌, subst, ⊎_elim, arith, ◌≢◌, ◌⊎◌, All, AllPairs, Contains, eqb-true, All-nil}
 use Rattle.follow_laws.proofs.Common.{All-cons, All-head, All-contains, Contains-append_cases, Contains-append_left, AllPairs-cons, Contains-map}
 use Rattle.follow_laws.proofs.Common.{Contains-from_map, AllPairs-nil, AllPairs-head, AllPairs-back, AllPairs-across, All-from_contains, Contains-nil}
 use Rattle.follow_laws.proofs.Common.{Contains-first, Contains-later, Contains-cases, Contains-split, KeyedCall, Effect, no_effect, IsNoEffect}
 use Rattle.follow_laws.proofs.Common.{IsFormed, precedes, is_completed, is_same_value, read_of, FitInTurn, left_by, KeepPrecedence, HasKeyedOrder}
-use Rattle.follow_laws.proofs.Common.{AreKeyedCalls, IsLater, HaveGrown, Choice, at_first, rest_of, Agrees, GoesOn, Keys}
-use Rattle.follow_laws.proofs.Common.{Part, IsAt, IsOneOf, choices_of, Represent, left_at, AgreesAt, SomePastGoesOn, IsLeftAt}
-use Rattle.follow_laws.proofs.Common.{NoneIsLeftAt, MayComeNext, IsAfterCall, PartsMayBeTied, PastsMayStay, TiedCallsMayWait, EarlyReadsGain}
-use Rattle.std.proofs.lemmas.Option.{none-some, same_Some}
+use Rattle.follow_laws.proofs.Common.{AreKeyedCalls, IsLater, HaveGrown, Choice, at_first, rest_of, Agrees, GoesOn, Keys, Part, IsAt, IsOneOf}
+use Rattle.follow_laws.proofs.Common.{choices_of, Represent, left_at, AgreesAt, SomePastGoesOn, IsLeftAt, NoneIsLeftAt, MayComeNext, IsAfterCall}
+use Rattle.follow_laws.proofs.Common.{PartsMayBeTied, PastsMayStay, TiedCallsMayWait, EarlyReadsGain, none-some, same_Some}
+use Rattle.follow_laws.proofs.DeadLemmas.{bool_cases}
+use Rattle.follow_laws.proofs.EffectLemmas.{same_values}
+use Rattle.follow_laws.proofs.EffectRestLemmas.{none_none}
+use Rattle.follow_laws.proofs.TurnLemmas.{fit-back}
 use Rattle.follow_laws.proofs.PartLemmas.{all_keys, at_self, at_back, same_goes_on, fit_none, none_left_out, stand_below}
 use Rattle.follow_laws.proofs.StepLemmas.{parts_begin, parts_stay, parts_unite}
 
