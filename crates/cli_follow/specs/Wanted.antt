@@ -17,7 +17,7 @@ history_elsewhere = codes "an event in a line of its own; bench judge and bench 
 abbrev pub line_expected : LineFault → List ℕ
 line_expected lines.TooLong = codes "at most 1048576 bytes"
 line_expected lines.NotJson = json_expected
-line_expected lines.Version = codes "{\"version\":2,\"start\":[[K,V],..]}"
+line_expected lines.Version = codes "{\"version\":V,\"start\":[..]}; V is 2 or 3"
 line_expected lines.Shape = event_expected
 line_expected lines.TooMany = too_many_expected
 line_expected lines.Memory = []

@@ -162,7 +162,7 @@ fn line_expected(fault: LineFault) -> &'static str
     match fault {
         LineFault::TooLong => "at most 1048576 bytes",
         LineFault::NotJson => json_expected(),
-        LineFault::Version => "{\"version\":2,\"start\":[[K,V],..]}",
+        LineFault::Version => "{\"version\":V,\"start\":[..]}; V is 2 or 3",
         LineFault::Shape => event_expected(),
         LineFault::TooMany => too_many_expected(),
         LineFault::Memory => "",

@@ -5,6 +5,7 @@ pub mod LossPairLemmas
 pub mod NameLemmas
 pub mod WriterLemmas
 pub mod OriginLemmas
+mod OverlapLemmas
 pub mod LossLemmas
 pub mod LossReachLemmas
 mod EventLemmas

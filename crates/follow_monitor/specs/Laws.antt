@@ -13,6 +13,7 @@ use Rattle.orders.specs.Orders.{IsLinearizable}
 use Rattle.follow_laws.specs.KeyedCalls.{is_refusal}
 use Rattle.follow_laws.specs.KeptParts.{KeptPart, AreKept}
 use Rattle.follow_pasts.specs.Ranges.{covered}
+use Rattle.follow_orders.specs.Answers.{HaveNoOverlap}
 use Rattle.follow_parts.specs.Keeping.{pasts_of}
 use Rattle.follow_monitor.specs.KeyLosses.{AreKeyLosses}
 use Rattle.follow_monitor.specs.LossLaws.{MayHave}
@@ -40,6 +41,12 @@ DoubtsAreReached =
     (start : Contents) (events : List Event) (process : ℕ) (reply : Reply) (budget : ℕ) (loss : Violation) (losses : List KeyViolation) → IsRising start
     → IsSpent start events process reply budget loss → AreKeyLosses (Some loss.call) (pasts_of loss.part) loss.puts.items losses
     → MayBeSo start (operations (events ++ Answer process reply ∷ [])) loss losses
+
+-- if no two calls overlap, the monitor says yes or no, whatever the budget
+abbrev pub NoDoubtWithoutOverlap : Type 0
+NoDoubtWithoutOverlap =
+    (start : Contents) (events : List Event) (process : ℕ) (reply : Reply) (budget : ℕ) (loss : Violation)
+    → HaveNoOverlap (operations (events ++ Answer process reply ∷ [])) → IsSpent start events process reply budget loss → ⊥
 
 -- a get of a key that begins after some events, and is answered at once
 abbrev pub read_after : List Event → ℕ → Reply → Operation

@@ -1,5 +1,5 @@
 // Laws of what is said where a stream goes wrong.
-ghost use Rattle.follow_monitor.specs.Laws.{DoubtsAreReached, LossesAreReached, NothingIsMissed};
+ghost use Rattle.follow_monitor.specs.Laws.{DoubtsAreReached, LossesAreReached, NoDoubtWithoutOverlap, NothingIsMissed};
 
 use crate::lost_keys::values_are_reached;
 
@@ -20,4 +20,9 @@ pub fn losses_are_reached()
 /// reply then, it may be given it after the calls that are left in one of these pasts.
 pub fn nothing_is_missed()
     ensures { NothingIsMissed }
+{}
+
+/// If no two calls of a stream overlap, each answer is judged with yes or no, whatever the budget.
+pub fn calls_without_overlap_are_decided()
+    ensures { NoDoubtWithoutOverlap }
 {}

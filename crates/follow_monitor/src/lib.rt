@@ -27,7 +27,7 @@ mod writers;
 
 pub use answered::Answered;
 pub use fault::FollowFault;
-pub use laws::{losses_are_reached, nothing_is_missed};
+pub use laws::{calls_without_overlap_are_decided, losses_are_reached, nothing_is_missed};
 pub use loss::Violation;
 pub use lost_keys::{KeyViolation, Origin, key_losses, values_are_reached};
 pub use monitor::Monitor;

@@ -5,3 +5,4 @@ mod FindLemmas
 mod MoveLemmas
 mod RoomLemmas
 mod InsertLemmas
+mod OverlapLemmas

@@ -1,6 +1,7 @@
 -- What is known of an order of calls.
-use Rattle.std.specs.Prelude.{◌≡◌, ℕ, List}
+use Rattle.std.specs.Prelude.{◌≡◌, ℕ, ◌<◌, true, List, Contains}
 use Rattle.events.specs.declared.operation.Operation.{Operation}
+use Rattle.events.specs.Precedence.{precedes}
 use Rattle.map_object.specs.MapObject.{Contents}
 use Rattle.orders.specs.Orders.{IsOrder, IsLinearizable}
 use Rattle.memo.specs.Counts.{ReachesMoreThan}
@@ -20,9 +21,14 @@ pub record HaveNoOrder (start : Contents) (calls : List Operation) (start_back :
   pub same_start : start_back ≡ start
   pub same_calls : calls_back ≡ calls
 
--- more configurations are reachable than the budget, and the calls are returned
+-- no two calls overlap: the one that began first ended before the other began
+abbrev pub HaveNoOverlap : List Operation → Type 0
+HaveNoOverlap calls = (a b : Operation) → Contains calls a → Contains calls b → a.inv < b.inv → precedes a b ≡ true
+
+-- more configurations are reachable than the budget, some calls overlap, and the calls are returned
 pub record IsSpent (start : Contents) (calls : List Operation) (budget : ℕ) (start_back : Contents) (calls_back : List Operation) : Type 0 where
   pub reaches : ReachesMoreThan start calls budget
+  pub overlap : HaveNoOverlap calls → ⊥
   pub same_start : start_back ≡ start
   pub same_calls : calls_back ≡ calls
 

@@ -1,13 +1,14 @@
 // An order of calls is found.
-ghost use Rattle.std.specs.Prelude.{◌≡◌, ◌<◌, AllPairs, IfOk};
+ghost use Rattle.std.specs.Prelude.{◌≡◌, ◌<◌, ◌≤◌, true, length, AllPairs, IfOk};
 ghost use Rattle.events.specs.Precedence.{NonePrecedesItself};
 ghost use Rattle.orders.specs.Orders.{IsOrder};
-ghost use Rattle.follow_orders.specs.Answers.{IsAnswer};
+ghost use Rattle.follow_orders.specs.Answers.{HaveNoOverlap, IsAnswer};
 ghost use Rattle.follow_fronts.specs.Standing.{places, Stands};
 ghost use Rattle.follow_repairs.specs.Searching.{AreCalls};
 
 use crate::kept::Mended;
 use crate::kept_order::StoredOrder;
+use call_effects::is_ended;
 use events::{Memory, Operation};
 use follow_fronts::{Front, follow, is_whole, push_all};
 use follow_repairs::search_tails;
@@ -91,6 +92,7 @@ fn search_all(
     ensures { IfOk result (IsAnswer start calls.items budget) }
 {
     let map = start.copy(alloc)?;
+    let budget = budget_for(&calls, budget);
     match search_calls(alloc, map, &calls, budget)? {
         SearchEnd::Order(order) => {
             let front = front_of(alloc, start, &calls, &order)?;
@@ -100,6 +102,32 @@ fn search_all(
         SearchEnd::NoOrder => Ok(Mended::NoOrder { start, calls }),
         SearchEnd::Spent => Ok(Mended::Spent { start, calls }),
     }
+}
+
+/// The budget for a search of calls. It is enough if no two of them overlap, since there is then one
+/// more configuration than calls.
+fn budget_for(calls: &[Operation], budget: u32) -> u32
+    requires { AreCalls calls.now }
+    ensures least { budget ≤ result }
+    ensures enough { HaveNoOverlap calls.now → length calls.now < result }
+{
+    if have_no_overlap(calls) {
+        return budget.max(calls.len() as u32 + 1);
+    }
+    budget
+}
+
+/// Whether each call ended before the next one began.
+fn have_no_overlap(calls: &[Operation]) -> bool
+    requires { AllPairs (λ a b. a.inv < b.inv) calls.now }
+    ensures { HaveNoOverlap calls.now → result ≡ true }
+{
+    for place in 1..calls.len() {
+        if !is_ended(&calls[place - 1], calls[place].inv) {
+            return false;
+        }
+    }
+    true
 }
 
 /// The front of an order.

@@ -137,6 +137,7 @@ found_doubtful budget pasts tried past others again so_far is = (
     dead = so_far.dead;
     parts = so_far.parts;
     reaches = so_far.answer.reaches;
+    overlap = so_far.answer.overlap;
   },
 )
   where

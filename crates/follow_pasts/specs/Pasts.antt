@@ -5,6 +5,7 @@ use Rattle.events.specs.declared.operation.Response.{Response}
 use Rattle.orders.specs.Orders.{IsLinearizable}
 use Rattle.memo.specs.Counts.{ReachesMoreThan}
 use Rattle.follow_laws.specs.Left.{answered}
+use Rattle.follow_orders.specs.Answers.{HaveNoOverlap}
 use Rattle.follow_orders.specs.declared.kept.Mended.{Mended}
 use Rattle.follow_orders.specs.declared.kept.Mended.TheVariants.{Order, NoOrder, Spent}
 use Rattle.follow_laws.specs.Pasts.{KeptPast}
@@ -24,7 +25,7 @@ pub record AreAlive (pasts left : List KeptPast) : Type 0 where
   pub dead : All IsDead front
   pub parts : pasts ≡ front ++ left
 
--- the pasts before one are dead, and the search of that one is beyond the budget
+-- the pasts before one are dead, and the search of that one is beyond the budget; some of its calls overlap
 pub record AreDoubtful (budget : ℕ) (pasts : List KeptPast) : Type 0 where
   pub front : List KeptPast
   pub past : KeptPast
@@ -32,6 +33,7 @@ pub record AreDoubtful (budget : ℕ) (pasts : List KeptPast) : Type 0 where
   pub dead : All IsDead front
   pub parts : pasts ≡ front ++ past ∷ back
   pub reaches : ReachesMoreThan past.pairs past.left budget
+  pub overlap : HaveNoOverlap past.left → ⊥
 
 -- what becomes of pasts: the first with an order and those after it; or all of them, which are dead; or all, if a search is beyond the budget
 abbrev pub AreGoneOn : ℕ → List KeptPast → GoneOn → Type 0

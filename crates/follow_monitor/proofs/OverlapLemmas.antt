@@ -1,0 +1,18 @@
+-- If no two calls of a stream overlap, no answer leaves a doubt.
+use Rattle.follow_monitor.proofs.Common.{◌≡◌, suc, List, [], ◌∷◌, ◌++◌, length, subst, All, Contains, All-head, All-back, All-contains, Operation, operations}
+use Rattle.follow_monitor.proofs.Common.{Answer, KeptPart, IsOwn, first_of, covered, pasts_of}
+use Rattle.follow_monitor.specs.Laws.{NoDoubtWithoutOverlap}
+
+pub no_doubt_without_overlap : NoDoubtWithoutOverlap
+no_doubt_without_overlap start events process reply budget loss apart spent =
+    let calls = operations (events ++ Answer process reply ∷ []) in
+    let kept = spent.part.0 in
+    let doubtful = spent.part.1 in
+    let part : KeptPart = record { keys = covered loss.part.ranges.items; pasts = pasts_of loss.part } in
+    let first = first_of start (suc (length events)) calls part kept.others kept.are_kept in
+    let own = All-head (IsOwn part.keys calls) doubtful.past doubtful.back
+    (All-back (IsOwn part.keys calls) doubtful.front (doubtful.past ∷ doubtful.back)
+    (subst (All (IsOwn part.keys calls)) doubtful.parts first.own)) in
+    doubtful.overlap (λ a b a_left b_left.
+    apart a b (All-contains (Contains calls) doubtful.past.left own.of_calls.left a a_left)
+    (All-contains (Contains calls) doubtful.past.left own.of_calls.left b b_left))
