@@ -1,5 +1,5 @@
 -- If no two calls of a stream overlap, no answer leaves a doubt.
-use Rattle.follow_monitor.proofs.Common.{◌≡◌, suc, List, [], ◌∷◌, ◌++◌, length, subst, All, Contains, All-head, All-back, All-contains, Operation, operations}
+use Rattle.follow_monitor.proofs.Common.{suc, [], ◌∷◌, ◌++◌, length, subst, All, Contains, All-head, All-back, All-contains, operations}
 use Rattle.follow_monitor.proofs.Common.{Answer, KeptPart, IsOwn, first_of, covered, pasts_of}
 use Rattle.follow_monitor.specs.Laws.{NoDoubtWithoutOverlap}
 
@@ -14,5 +14,5 @@ no_doubt_without_overlap start events process reply budget loss apart spent =
     (All-back (IsOwn part.keys calls) doubtful.front (doubtful.past ∷ doubtful.back)
     (subst (All (IsOwn part.keys calls)) doubtful.parts first.own)) in
     doubtful.overlap (λ a b a_left b_left.
-    apart a b (All-contains (Contains calls) doubtful.past.left own.of_calls.left a a_left)
-    (All-contains (Contains calls) doubtful.past.left own.of_calls.left b b_left))
+    apart a b (All-contains (Contains calls) doubtful.past.left a own.of_calls.left a_left)
+    (All-contains (Contains calls) doubtful.past.left b own.of_calls.left b_left))
