@@ -6,12 +6,12 @@ pub use Rattle.std.proofs.lemmas.Bool.{and_from, and_parts, cases_lt, eqb-false,
 pub use Rattle.std.proofs.lemmas.Bool.Decides.{nat_tests}
 pub use Rattle.std.proofs.lemmas.List.{drop_all, drop_at, drop_more, get_or_default, length-set, length-take-le, map-append, nil_from_length}
 pub use Rattle.std.proofs.lemmas.List.{take_all, take_at, take_more}
-pub use Rattle.std.proofs.lemmas.List.Elements.{All-append, All-cons, All-contains, All-drop, All-head, All-map, All-nil, All-push, All-same}
-pub use Rattle.std.proofs.lemmas.List.Elements.{All-tail, All-take, All-weaker, Contains-append_cases, Contains-append_left, Contains-append_right}
-pub use Rattle.std.proofs.lemmas.List.Elements.{Contains-get_or, Contains-push}
+pub use Rattle.std.proofs.lemmas.List.Elements.{All-append, All-cons, All-contains, All-head, All-map, All-nil, All-push, All-same}
+pub use Rattle.std.proofs.lemmas.List.Elements.{All-tail, All-weaker, Contains-append_cases, Contains-append_left, Contains-append_right}
+pub use Rattle.std.proofs.lemmas.List.Elements.{Contains-push}
 pub use Rattle.std.proofs.lemmas.List.Folds.{list_any-append, list_any_none}
 pub use Rattle.std.proofs.lemmas.List.Kept.{AllPairs-cons, AllPairs-filter}
-pub use Rattle.std.proofs.lemmas.Option.{get_or_from_slice_get, none-some, same_Some, slice_get-get_or, slice_get_cases, slice_get_read}
+pub use Rattle.std.proofs.lemmas.Option.{get_or_from_slice_get, none-some, same_Some, slice_get_read}
 pub use Rattle.std.proofs.lemmas.Option.{slice_get_within}
 pub use Rattle.std.specs.List.{AllZip, list_any, remove}
 pub use Rattle.std.specs.Prelude.{All, AllPairs, Any, Contains, Err, IfOk, IfSome, IsSome, IsSomeAnd, Ok, OnOk, Result, filter, if◌then◌else◌}
@@ -46,7 +46,7 @@ pub use Rattle.follow_laws.specs.Left.{HasKeysIn, answered, pairs_at}
 pub use Rattle.events.proofs.FilterLemmas.{Contains-from_map, Contains-map}
 pub use Rattle.events.proofs.Lists.{All-at, All-back, All-from_contains, All-front, AllPairs-across, AllPairs-append, AllPairs-back}
 pub use Rattle.events.proofs.Lists.{AllPairs-front, AllPairs-head, AllPairs-nil, AllPairs-tail, Any-first, Any-later, Contains-around}
-pub use Rattle.events.proofs.Lists.{Contains-cases, Contains-first, Contains-later, Contains-nil, filter_all, slice_get-middle}
+pub use Rattle.events.proofs.Lists.{Contains-cases, Contains-first, Contains-later, Contains-nil, filter_all}
 pub use Rattle.events.proofs.NumberLemmas.{IsSomeAnd-within, some_at}
 pub use Rattle.events.proofs.Places.{parts_at}
 pub use Rattle.map_object.proofs.ValueLemmas.{same_pairs}
@@ -78,9 +78,12 @@ pub use Rattle.follow_parts.specs.Going.{AreEnded, HasOwnPlace, MayBeLeft, MaySt
 pub use Rattle.follow_parts.specs.Keeping.{AreReadsOf, AreWithAnswer, HasEndedBy, IsAnswered, IsEndedBy, IsKeptBeside, IsStateOf, begun, is_reported}
 pub use Rattle.follow_parts.specs.Keeping.{pasts_of, response_at}
 pub use Rattle.follow_parts.specs.Settled.{AreOfLeft, AreThen, AreThoseAlive, IsAliveOrDead, IsKeptSo, IsOfLeft, IsPartFrom, IsParted, IsSettled}
-pub use Rattle.follow_parts.specs.Settled.{IsWithPairs, MovesOn, kept_moved}
+pub use Rattle.follow_parts.specs.Settled.{IsLeftPut, IsSettledWith, IsWithPairs, MayBePut, MovesOn, kept_moved, with_parts}
 pub use Rattle.follow_parts.specs.Shapes.{IsBesideReads, IsCallBefore, IsPartBefore, IsPastBefore, IsShaped, MayComeTo}
-pub use Rattle.follow_parts.specs.Steps.{AreMet, AreParted, HasEnded, HasGoneIn, IsBegunIn, IsPartOf, IsReadIn, IsReportedAt, IsTakenOut, IsWithPartOf}
+pub use Rattle.follow_parts.specs.Steps.{AreMet, AreParted, HasGoneIn, IsBegunIn, IsPartOf, IsPartWith, IsReadIn, IsReportedAt, IsTakenOut}
+pub use Rattle.follow_pasts.specs.Moments.{HasEnded}
+pub use Rattle.follow_pasts.specs.Lists.{AreListed, IsPut, things_of}
+pub use Rattle.follow_parts.specs.Table.{IsTakenWith, part_place}
 pub use Rattle.follow_parts.specs.Steps.{ReportsNothing}
 pub use Rattle.follow_parts.specs.Views.{PartsView, is_at_rest, kept_parts, kept_rest}
 pub use Rattle.follow_parts.specs.declared.reading.Read.{Read}

@@ -180,10 +180,11 @@ nothing_is_kept s start front back o operation response answer keeps reported fo
 
 -- no read of a pending call is missing
 pub never_unknown : (s : PartsView) (start : Contents) (front back : List Operation) (o operation : Operation) (response : Response)
-    → IsAnswerOf o response operation → may_change operation.call ≡ false → All (λ (read : OpenRead). read.inv ≢ operation.inv) s.reads
-    → IsStateOf start (front ++ o ∷ back) s → ⊥
-never_unknown s start front back o operation response answer keeps none state =
-    All-contains (λ (read : OpenRead). read.inv ≢ operation.inv) s.reads read none
+    (read : OpenRead) → IsAnswerOf o response operation → may_change operation.call ≡ false
+    → read ≡ record { inv = operation.inv; low = low_key operation.call; high = high_key operation.call }
+    → All (λ (other : OpenRead). other ≢ read) s.reads → IsStateOf start (front ++ o ∷ back) s → ⊥
+never_unknown s start front back o operation response read answer keeps is none state =
+    All-contains (λ (other : OpenRead). other ≢ read) s.reads its none
     ((state.reads o.inv (low_key o.call) (high_key o.call)).1 (
       o,
       Contains-append_right front (o ∷ back) o (Contains-first o back),
@@ -193,10 +194,10 @@ never_unknown s start front back o operation response answer keeps none state =
       refl,
       refl,
     ))
-    (ap (λ (x : Operation). x.inv) (sym answer.is))
+    (sym (is ∙ ap (λ (x : Operation). record { inv = x.inv; low = low_key x.call; high = high_key x.call }) answer.is))
   where
-    read : OpenRead
-    read = record { inv = o.inv; low = low_key o.call; high = high_key o.call }
+    its : OpenRead
+    its = record { inv = o.inv; low = low_key o.call; high = high_key o.call }
 
 -- ---- an answer says the same of a state at the same place
 

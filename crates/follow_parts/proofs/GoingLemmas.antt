@@ -1,11 +1,11 @@
--- After an answer a part goes on (`going_is_shaped`, `going_is_state`), or it and the others represent the calls (`kept_beside`).
-use Rattle.follow_parts.proofs.Common.{◌≡◌, ℕ, Bool, true, false, not, ◌&&◌, ◌||◌, List, [], ◌∷◌, ◌++◌, map, append-nil, refl, sym, ap, ◌∙◌, subst, get_or}
-use Rattle.follow_parts.proofs.Common.{◌≢◌, All, list_any, map-append, All-nil, All-cons, All-head, All-tail, All-push, All-contains, All-map, All-weaker}
-use Rattle.follow_parts.proofs.Common.{list_any-append, AllPairs-cons, All-back, All-from_contains, AllPairs-nil, AllPairs-append, Operation, Contents, Keys}
+-- After an answer a part goes on (`going_may_be_put`, `going_is_state`), or it and the others represent the calls (`kept_beside`).
+use Rattle.follow_parts.proofs.Common.{◌≡◌, ℕ, Bool, true, false, not, ◌&&◌, ◌||◌, List, [], ◌∷◌, ◌++◌, map, refl, sym, subst, get_or}
+use Rattle.follow_parts.proofs.Common.{◌≢◌, All, list_any, All-nil, All-cons, All-head, All-tail, All-contains, All-map, All-weaker}
+use Rattle.follow_parts.proofs.Common.{All-back, All-from_contains, Operation, Contents, Keys}
 use Rattle.follow_parts.proofs.Common.{IsKeptOrder, KeptPast, KeptPart, AreKept, at_rest, HasPasts, dead_pasts_are_lost, parts_move, kept_of, Past, AreAlive}
-use Rattle.follow_parts.proofs.Common.{AreGoneOn, IsDead, lefts, lefts_of, covered, AreBesideEachOther, outside, resting, kept_part, past_of, Part, GoneOn}
-use Rattle.follow_parts.proofs.Common.{OpenRead, same_keys, MayBeLeft, kept_with, AreReadsOf, IsKeptBeside, IsStateOf, pasts_of, IsBesideReads, IsPartBefore}
-use Rattle.follow_parts.proofs.Common.{IsPastBefore, IsShaped, PartsView, is_at_rest, kept_rest, EndedPart}
+use Rattle.follow_parts.proofs.Common.{AreGoneOn, IsDead, lefts, lefts_of, covered, AreBesideEachOther, MayBePut, outside, resting, kept_part, past_of, with_parts, Part, GoneOn}
+use Rattle.follow_parts.proofs.Common.{OpenRead, same_keys, MayBeLeft, kept_with, AreReadsOf, IsKeptBeside, IsStateOf, pasts_of, IsBesideReads}
+use Rattle.follow_parts.proofs.Common.{IsPastBefore, PartsView, is_at_rest, kept_rest, EndedPart}
 use Rattle.follow_pasts.specs.declared.pasts.GoneOn.TheVariants.{Alive, Dead, Doubtful}
 
 -- ---- calls that are left
@@ -39,9 +39,6 @@ lefts_gone P budget pasts (Doubtful again) gone all = All-nil P
 -- ---- the shape
 
 module _ (s : PartsView) (part : Part) (left : All (MayBeLeft s) (part.first.calls ∷ lefts part.others.items)) where
-  abbrev with_part : PartsView
-  with_part = record { rest = s.rest; parts = s.parts ++ part ∷ []; reads = s.reads; now = s.now }
-
   each_left : All (λ (past : KeptPast). MayBeLeft s past.left) (kept_part part).pasts
   each_left = All-cons (λ (past : KeptPast). MayBeLeft s past.left) (past_of part.first part.found.items) (map kept_of part.others.items)
       (All-head (MayBeLeft s) part.first.calls (lefts part.others.items) left)
@@ -58,24 +55,18 @@ module _ (s : PartsView) (part : Part) (left : All (MayBeLeft s) (part.first.cal
   beside_reads past may read read_in k d within same =
       All-contains (λ (r : OpenRead). r.inv ≢ (get_or past.left k d).inv) s.reads read (may.each k d within).own.reads read_in (sym same)
 
-  beside_part : All (λ (other : Part). AreBesideEachOther other part) s.parts
-  beside_part k d within i e there j f here n g at m h last =
-      ((each_left j f here).each m h last).own.parts k d within i e there n g at
+  beside_part : All (AreBesideEachOther part) s.parts
+  beside_part k d within j f here i e there m h last n g at same =
+      ((each_left j f here).each m h last).own.parts k d within i e there n g at (sym same)
 
-  pub going_is_shaped : IsShaped s → IsKeptOrder part.first → IsShaped with_part
-  going_is_shaped shaped first = record {
-    rest = shaped.rest;
-    parts = All-push (IsPartBefore s.now s.reads) s.parts part shaped.parts (record {
+  pub going_may_be_put : IsKeptOrder part.first → MayBePut part s
+  going_may_be_put first = record {
+    before = record {
       first = first;
       pasts = All-weaker (λ (past : KeptPast). MayBeLeft s past.left) (IsPastBefore s.now) past_before (kept_part part).pasts each_left;
       beside = All-weaker (λ (past : KeptPast). MayBeLeft s past.left) (IsBesideReads s.reads) beside_reads (kept_part part).pasts each_left;
-    });
-    apart = AllPairs-append AreBesideEachOther s.parts (part ∷ []) shaped.apart
-        (AllPairs-cons AreBesideEachOther part [] (All-nil (AreBesideEachOther part)) (AllPairs-nil AreBesideEachOther))
-        (λ k d within. All-cons (AreBesideEachOther (get_or s.parts k d)) part [] (beside_part k d within)
-        (All-nil (AreBesideEachOther (get_or s.parts k d))));
-    reads = shaped.reads;
-    distinct = shaped.distinct;
+    };
+    beside = beside_part;
   }
 
 -- ---- what is kept
@@ -95,27 +86,20 @@ alive_are_kept start place calls keys more pasts left alive are =
     dead_are_lost start place calls keys more alive.front left alive.dead
     (subst (λ (l : List KeptPast). AreKept start place calls (record { keys = keys; pasts = l } ∷ more)) alive.parts are)
 
-not_or : (a b : Bool) → not (a || (b || false)) ≡ (not a && not b)
-not_or true b = refl
+not_or : (a b : Bool) → not (a || b) ≡ (not b && not a)
+not_or true true = refl
+not_or true false = refl
 not_or false true = refl
 not_or false false = refl
 
-rest_without : (parts : List Part) (part : Part) (key : ℕ)
-    → is_at_rest (parts ++ part ∷ []) key ≡ outside (is_at_rest parts) (covered part.ranges.items) key
-rest_without parts part key =
-    ap not (list_any-append (λ (p : Part). covered p.ranges.items key) parts (part ∷ []))
-    ∙ not_or (list_any (λ (p : Part). covered p.ranges.items key) parts) (covered part.ranges.items key)
-
 part_is_kept : (start : Contents) (place : ℕ) (calls : List Operation) (s : PartsView) (part : Part)
     → AreKept start place calls (kept_with s (covered part.ranges.items) (kept_part part).pasts)
-    → AreKept start place calls (kept_rest s.rest (s.parts ++ part ∷ []) ∷ map kept_part (s.parts ++ part ∷ []))
+    → AreKept start place calls (kept_rest s.rest (part ∷ s.parts) ∷ map kept_part (part ∷ s.parts))
 part_is_kept start place calls s part are =
-    subst (λ (l : List KeptPart). AreKept start place calls (kept_rest s.rest (s.parts ++ part ∷ []) ∷ l))
-    (sym (map-append kept_part s.parts (part ∷ [])))
-    (same_keys start place calls (outside (is_at_rest s.parts) (covered part.ranges.items)) (is_at_rest (s.parts ++ part ∷ []))
-    (at_rest s.rest ∷ []) (map kept_part s.parts ++ kept_part part ∷ []) (rest_without s.parts part)
-    ((parts_move start place calls (kept_part part) (others ∷ map kept_part s.parts) []).1
-    (subst (λ (l : List KeptPart). AreKept start place calls (kept_part part ∷ others ∷ l)) (sym (append-nil (map kept_part s.parts))) are)))
+    same_keys start place calls (outside (is_at_rest s.parts) (covered part.ranges.items)) (is_at_rest (part ∷ s.parts)) (at_rest s.rest ∷ [])
+    (map kept_part (part ∷ s.parts))
+    (λ key. not_or (covered part.ranges.items key) (list_any (λ (p : Part). covered p.ranges.items key) s.parts))
+    ((parts_move start place calls (kept_part part) (others ∷ []) (map kept_part s.parts)).1 are)
   where
     others : KeptPart
     others = resting (outside (is_at_rest s.parts) (covered part.ranges.items)) s.rest
@@ -123,7 +107,7 @@ part_is_kept start place calls s part are =
 pub going_is_state : (s : PartsView) (part : Part) (start : Contents) (calls : List Operation) (pasts : List KeptPast)
     → AreAlive pasts (kept_part part).pasts → AreReadsOf calls s.reads
     → AreKept start s.now calls (kept_with s (covered part.ranges.items) pasts)
-    → IsStateOf start calls (record { rest = s.rest; parts = s.parts ++ part ∷ []; reads = s.reads; now = s.now })
+    → IsStateOf start calls (with_parts (part ∷ []) s)
 going_is_state s part start calls pasts alive reads are = record {
   kept = part_is_kept start s.now calls s part
       (alive_are_kept start s.now calls (covered part.ranges.items)

@@ -20,3 +20,6 @@ pub mod MovedLemmas
 pub mod ThenLemmas
 pub mod RestedLemmas
 mod GoesOnLemmas
+pub mod PutLemmas
+pub mod SettlingLemmas
+pub mod TableLemmas

@@ -1,28 +1,7 @@
--- Pending reads that end, and parts that a range meets.
-use Rattle.follow_parts.proofs.Common.{◌≡◌, ℕ, suc, ◌<◌, ◌≤◌, ◌+◌, true, false, List, [], ◌∷◌, ◌++◌, length, get_or, take, drop, inl, inr, refl, sym, ap}
-use Rattle.follow_parts.proofs.Common.{◌∙◌, subst, append_assoc, add-one, length-append, arith, ◌≢◌, All, get_or_default, take_more, take_at, drop_more}
-use Rattle.follow_parts.proofs.Common.{drop_at, length-take-le, All-push, parts_at, covered, Part, OpenRead, AreParted, HasEnded}
-
--- ---- a pending read ends
-
--- no read so far is the one, and the reads are as they were
-pub record AreOthers (inv : ℕ) (olds reads : List OpenRead) (place : ℕ) : Type 0 where
-  pub same : reads ≡ olds
-  pub others : (k : ℕ) (d : OpenRead) → k < place → (get_or reads k d).inv ≢ inv
-
-pub read_ended : (inv : ℕ) (olds reads news : List OpenRead) (place : ℕ) (read found : OpenRead) → AreOthers inv olds reads place
-    → place < length reads → read ≡ get_or reads place read → found ≡ get_or reads place found → found.inv ≡ inv
-    → news ≡ take place reads ++ drop (suc place) reads → HasEnded inv olds news true
-read_ended inv olds reads news place read found so within at here is out = (
-  take place reads,
-  read,
-  drop (suc place) reads,
-  sym so.same ∙ (parts_at reads place read within at ∙ ap (λ (n : ℕ). take place reads ++ read ∷ drop n reads) (add-one place)),
-  ap (λ (r : OpenRead). r.inv) (at ∙ (get_or_default reads place read found within ∙ sym here)) ∙ is,
-  out,
-)
-
--- ---- parts that a range meets
+-- Parts that a range meets are taken out of a list (`meeting_out`, `meeting_past`).
+use Rattle.follow_parts.proofs.Common.{◌≡◌, ℕ, suc, ◌<◌, ◌≤◌, ◌+◌, false, List, [], ◌∷◌, ◌++◌, length, get_or, take, drop, inl, inr, refl, sym, ap}
+use Rattle.follow_parts.proofs.Common.{◌∙◌, subst, append_assoc, add-one, length-append, arith, All, take_more, take_at, drop_more}
+use Rattle.follow_parts.proofs.Common.{drop_at, length-take-le, All-push, covered, Part, AreParted}
 
 parted_out : (done left out : List Part) (part : Part) → AreParted done left out → AreParted (done ++ part ∷ []) left (out ++ part ∷ [])
 parted_out [] left out part is = inr ([], ap (λ (l : List Part). l ++ part ∷ []) is.1, (is.0, refl))

@@ -1,20 +1,19 @@
 -- A part moves on, and some of its keys are then at rest: the state after it (`stay_state`, `gone_state`, `left_state`) and its shape
 -- (`stay_shape`, `gone_shape`, `left_shape`). What is left of the part is at the end of the list.
-use Rattle.follow_parts.proofs.Common.{◌≡◌, ℕ, Bool, true, false, not, ◌&&◌, ◌||◌, List, [], ◌∷◌, ◌++◌, map, length, get_or, take, drop, ◌<◌, ◌+◌, inl, inr}
+use Rattle.follow_parts.proofs.Common.{◌≡◌, ℕ, Bool, true, false, not, ◌&&◌, ◌||◌, List, [], ◌∷◌, ◌++◌, map, get_or, ◌<◌, ◌+◌}
 use Rattle.follow_parts.proofs.Common.{Option, None, Some, append-nil, refl, sym, ap, ◌∙◌, subst, ⊎_elim, ◌⊎◌, ◌≢◌, All, AllPairs, Contains, IfSome}
 use Rattle.follow_parts.proofs.Common.{if◌then◌else◌, list_any, false≢true, map-append, list_any-append, list_any_none, All-nil, All-cons, All-head}
-use Rattle.follow_parts.proofs.Common.{All-tail, All-append, All-weaker, All-contains, AllPairs-cons, Contains-map, parts_at, All-from_contains, All-front}
+use Rattle.follow_parts.proofs.Common.{All-tail, All-append, All-weaker, All-contains, AllPairs-cons, Contains-map, All-from_contains, All-front}
 use Rattle.follow_parts.proofs.Common.{All-back, AllPairs-nil, AllPairs-head, AllPairs-tail, AllPairs-append, AllPairs-front, AllPairs-back, AllPairs-across}
 use Rattle.follow_parts.proofs.Common.{Contains-nil, Operation, Contents, IsRising, value_at, Keys, AreApart, KeptPast, both_keys, IsTogether, KeptPart}
 use Rattle.follow_parts.proofs.Common.{AreKept, at_rest, IsWithinKeys, kept_pasts_are_within, any_to, parts_move, kept_parts_unite, covered, or_else}
 use Rattle.follow_parts.proofs.Common.{kept_part, AreBesidePasts, AreBesideEachOther, resting, outside, Part, OpenRead, IsKeptOrder, kept_apart, same_keys}
-use Rattle.follow_parts.proofs.Common.{PartsView, is_at_rest, kept_rest, IsStateOf, IsPartBefore, IsPastBefore, IsBesideReads, IsShaped, IsKeptSo, IsSettled}
+use Rattle.follow_parts.proofs.Common.{PartsView, is_at_rest, kept_rest, IsStateOf, IsPartBefore, IsPastBefore, IsBesideReads, IsShaped, IsKeptSo}
 use Rattle.follow_parts.proofs.Common.{IsWithPairs, IsOfLeft, MovesOn, kept_moved, Moved}
-use Rattle.follow_parts.proofs.BegunLemmas.{same_view}
 
 -- ---- keys at rest
 
-abbrev has_key : ℕ → Part → Bool
+abbrev pub has_key : ℕ → Part → Bool
 has_key key part = covered part.ranges.items key
 
 or_swap : (a b c : Bool) → (a || (b || c)) ≡ (b || (a || c))
@@ -32,13 +31,13 @@ or_turned true false = refl
 or_turned false true = refl
 or_turned false false = refl
 
-any_split : (f : Part → Bool) (front : List Part) (part : Part) (back : List Part)
+pub any_split : (f : Part → Bool) (front : List Part) (part : Part) (back : List Part)
     → list_any f (front ++ part ∷ back) ≡ (f part || list_any f (front ++ back))
 any_split f [] part back = refl
 any_split f (x ∷ front) part back =
     ap (λ (b : Bool). f x || b) (any_split f front part back) ∙ or_swap (f x) (f part) (list_any f (front ++ back))
 
-any_last : (f : Part → Bool) (others : List Part) (part : Part) → list_any f (others ++ part ∷ []) ≡ (f part || list_any f others)
+pub any_last : (f : Part → Bool) (others : List Part) (part : Part) → list_any f (others ++ part ∷ []) ≡ (f part || list_any f others)
 any_last f others part = list_any-append f others (part ∷ [])
     ∙ (ap (λ (b : Bool). list_any f others || b) (or_nothing (f part)) ∙ or_turned (list_any f others) (f part))
 
@@ -180,7 +179,7 @@ module _ (start : Contents) (now : ℕ) (calls : List Operation) (rest : Content
 
 -- ---- the state
 
-abbrev view_of : Contents → List Part → List OpenRead → ℕ → PartsView
+abbrev pub view_of : Contents → List Part → List OpenRead → ℕ → PartsView
 view_of rest parts reads now = record { rest = rest; parts = parts; reads = reads; now = now }
 
 module _ (rest : Contents) (front : List Part) (part : Part) (back : List Part) (reads : List OpenRead) (now : ℕ) where
@@ -219,7 +218,7 @@ module _ (rest : Contents) (front : List Part) (part : Part) (back : List Part) 
 
 -- ---- the shape
 
-beside_turned : (a b : Part) → AreBesideEachOther a b → AreBesideEachOther b a
+pub beside_turned : (a b : Part) → AreBesideEachOther a b → AreBesideEachOther b a
 beside_turned a b beside k d within i e there m f of_first n g of_second same = beside i e there k d within n g of_second m f of_first (sym same)
 
 -- a part whose calls were left of another part is apart from what that part was apart from
@@ -307,64 +306,3 @@ module _ (rest : Contents) (front : List Part) (part : Part) (back : List Part) 
         with_last rest_new left (came.rises shaped.rest) is.0
         (All-weaker (λ x. AreBesideEachOther x part) (λ x. AreBesideEachOther x left)
         (λ x beside. beside_left x part left beside is.1) (front ++ back) beside_part)
-
--- ---- a part that was taken out, and what is left of it at the end of the list
-
--- what is left of it was put there, or nothing is
-abbrev pub IsPutBack : List Part → Option Part → List Part → Type 0
-IsPutBack others left new =
-    ((left ≡ None) × (new ≡ others)) ⊎ ((last : Part) × (left ≡ Some last) × (new ≡ others ++ last ∷ []))
-
-module _ (s : PartsView) (rest : Contents) (parts others : List Part) (reads : List OpenRead) (now : ℕ) (part : Part) (place : ℕ)
-    (same_rest : rest ≡ s.rest) (same_parts : parts ≡ s.parts) (same_reads : reads ≡ s.reads) (same_now : now ≡ s.now) (shaped : IsShaped s)
-    (within : place < length parts) (here : part ≡ get_or parts place part) (out : others ≡ take place parts ++ drop (place + 1) parts) where
-  abbrev front : List Part
-  front = take place parts
-
-  abbrev back : List Part
-  back = drop (place + 1) parts
-
-  was : s ≡ view_of rest (front ++ part ∷ back) reads now
-  was = same_view s.rest rest s.parts (front ++ part ∷ back) s.reads reads s.now now (sym same_rest)
-      (sym same_parts ∙ parts_at parts place part within here) (sym same_reads) (sym same_now)
-
-  shaped_then : IsShaped (view_of rest (front ++ part ∷ back) reads now)
-  shaped_then = subst (λ (v : PartsView). IsShaped v) was shaped
-
-  settled_by : (new : PartsView) → new.now ≡ now
-      → ((start : Contents) (calls : List Operation) → IsStateOf start calls (view_of rest (front ++ part ∷ back) reads now)
-      → IsStateOf start calls new) → IsSettled s new
-  settled_by new same leads = record {
-    now = same ∙ same_now;
-    state = λ start calls is. leads start calls (subst (λ (v : PartsView). IsStateOf start calls v) was is);
-  }
-
-  with_others : (last : Part) → others ++ last ∷ [] ≡ (front ++ back) ++ last ∷ []
-  with_others last = ap (λ (ps : List Part). ps ++ last ∷ []) out
-
-  pub stays_shaped : (again : Part) → IsKeptSo part again → (new : List Part) → new ≡ others ++ again ∷ []
-      → IsShaped (view_of rest new reads now)
-  stays_shaped again same new pushed = subst (λ (ps : List Part). IsShaped (view_of rest ps reads now)) (sym (pushed ∙ with_others again))
-      (stay_shape rest front part back reads now shaped_then again same)
-
-  pub stays_settled : (again : Part) → IsKeptSo part again → (new : List Part) → new ≡ others ++ again ∷ []
-      → IsSettled s (view_of rest new reads now)
-  stays_settled again same new pushed = settled_by (view_of rest new reads now) refl (λ start calls is.
-      subst (λ (ps : List Part). IsStateOf start calls (view_of rest ps reads now)) (sym (pushed ∙ with_others again))
-      (stay_state rest front part back reads now again same start calls is))
-
-  module _ (moved : Moved) (moves : MovesOn now reads part moved) (rest_new : Contents) (came : IsWithPairs moved.pairs.items rest rest_new)
-      (new : List Part) where
-    pub moves_shaped : IsPutBack others moved.left new → IsShaped (view_of rest_new new reads now)
-    moves_shaped (inl (none, same)) = subst (λ (ps : List Part). IsShaped (view_of rest_new ps reads now)) (sym (same ∙ out))
-        (gone_shape rest front part back reads now shaped_then moved moves rest_new came)
-    moves_shaped (inr (last, some, pushed)) = subst (λ (ps : List Part). IsShaped (view_of rest_new ps reads now))
-        (sym (pushed ∙ with_others last)) (left_shape rest front part back reads now shaped_then moved moves rest_new came last some)
-
-    pub moves_settled : IsPutBack others moved.left new → IsSettled s (view_of rest_new new reads now)
-    moves_settled (inl (none, same)) = settled_by (view_of rest_new new reads now) refl (λ start calls is.
-        subst (λ (ps : List Part). IsStateOf start calls (view_of rest_new ps reads now)) (sym (same ∙ out))
-        (gone_state rest front part back reads now moved moves rest_new came none start calls is))
-    moves_settled (inr (last, some, pushed)) = settled_by (view_of rest_new new reads now) refl (λ start calls is.
-        subst (λ (ps : List Part). IsStateOf start calls (view_of rest_new ps reads now)) (sym (pushed ∙ with_others last))
-        (left_state rest front part back reads now moved moves rest_new came last some start calls is))

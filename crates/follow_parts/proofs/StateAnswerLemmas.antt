@@ -1,24 +1,25 @@
 -- A call that may change the map is answered in the part that has its key (`answer_change`).
-use Rattle.follow_parts.proofs.Common.{◌≡◌, ◌∙◌, ℕ, suc, ◌+◌, ◌<◌, Bool, true, false, not, ◌&&◌, ◌||◌, List, [], ◌∷◌, ◌++◌, map, length, get_or, take, drop}
-use Rattle.follow_parts.proofs.Common.{add-one, None, Some, inl, refl, sym, ap, subst, ⊎_elim, eqb-true, arith, slice_get, IsSomeAnd, All, AllPairs}
-use Rattle.follow_parts.proofs.Common.{Contains, Result, IfOk, list_any, remove, All-append, All-cons, All-contains, All-drop, All-head, All-take}
-use Rattle.follow_parts.proofs.Common.{All-weaker, Contains-append_cases, Contains-append_left, Contains-append_right, Contains-get_or, list_any-append}
-use Rattle.follow_parts.proofs.Common.{list_any_none, get_or_from_slice_get, same_Some, IsSomeAnd-within, some_at, All-from_contains, AllPairs-across}
-use Rattle.follow_parts.proofs.Common.{AllPairs-back, AllPairs-head, Contains-cases, Contains-first, Contains-later, Contains-nil, parts_at, Call, Get}
+use Rattle.follow_parts.proofs.Common.{◌≡◌, ◌∙◌, ℕ, suc, ◌+◌, ◌<◌, Bool, true, false, not, ◌&&◌, ◌||◌, List, [], ◌∷◌, ◌++◌, map}
+use Rattle.follow_parts.proofs.Common.{None, Some, inl, refl, sym, ap, subst, ⊎_elim, eqb-true, arith, All}
+use Rattle.follow_parts.proofs.Common.{Contains, Result, IfOk, list_any, All-append, All-cons, All-contains, All-head}
+use Rattle.follow_parts.proofs.Common.{All-weaker, Contains-append_cases, Contains-append_left, Contains-append_right, list_any-append}
+use Rattle.follow_parts.proofs.Common.{list_any_none, same_Some, All-from_contains}
+use Rattle.follow_parts.proofs.Common.{Contains-cases, Contains-first, Contains-later, Contains-nil, Call, Get}
 use Rattle.follow_parts.proofs.Common.{Insert, Remove, Scan, Replace, Operation, Response, low_key, may_change, Contents, concerns_key, Keys, answered}
 use Rattle.follow_parts.proofs.Common.{KeptPast, KeptPart, AreKept, at_rest, AreAfterAnswer, HasPasts, IsKnownIn, changes_are_answered}
 use Rattle.follow_parts.proofs.Common.{open_changes_are_kept, any_to, parts_move, AreLeftAfter, IsAnswerOf, covered, AreBesideEachOther, outside, resting}
 use Rattle.follow_parts.proofs.Common.{kept_part, Part, OpenRead, IsLeftOfOne, AreEnded, HasOwnPlace, MayBeLeft, MayStand, kept_with, AreReadsOf, HasEndedBy}
 use Rattle.follow_parts.proofs.Common.{IsBesideReads, IsPartBefore, IsPastBefore, IsShaped, IsReportedAt, PartsView, is_at_rest, kept_parts, kept_rest}
-use Rattle.follow_parts.proofs.Common.{Answered}
+use Rattle.follow_parts.proofs.Common.{Answered, IsPut}
 use Rattle.std.proofs.Common.{◌≢◌}
-use Rattle.std.proofs.lemmas.List.Quantifiers.{all_pairs_remove}
 use mathlib.Core.List.{map-append}
 use mathlib.Core.Path.{fun_ext}
 use Rattle.follow_parts.proofs.BegunLemmas.{part_later, same_view}
 use Rattle.follow_parts.proofs.ChangedLemmas.{IsLeftBefore, left_before}
 use Rattle.follow_parts.proofs.EndedLemmas.{has_ended}
 use Rattle.follow_parts.proofs.GoingLemmas.{all_have_pasts}
+use Rattle.follow_parts.proofs.PutLemmas.{one_of, others_of, pairs_one, pairs_others}
+use Rattle.follow_parts.proofs.SettledLemmas.{beside_turned}
 
 -- ---- keys at rest
 
@@ -53,30 +54,14 @@ rest_without front back part = fun_ext (λ (key : ℕ).
 
 -- ---- the part that has the key, and the rest of the state
 
-remove_parts : (parts : List Part) (place : ℕ) → remove parts place ≡ take place parts ++ drop (place + 1) parts
-remove_parts parts place = rw add-one refl
+-- the state after the answer, with the other parts
+abbrev pub without : PartsView → List Part → PartsView
+without s others = record { rest = s.rest; parts = others; reads = s.reads; now = suc s.now }
 
--- the state after the answer, without the part at a place
-abbrev pub without : PartsView → ℕ → PartsView
-without s place = record { rest = s.rest; parts = remove s.parts place; reads = s.reads; now = suc s.now }
-
-pub view_is : (s : PartsView) (place : ℕ) (rest : Contents) (olds parts : List Part) (reads : List OpenRead) (now : ℕ) → rest ≡ s.rest
-    → olds ≡ s.parts → parts ≡ remove olds place → reads ≡ s.reads → now ≡ s.now
-    → without s place ≡ record { rest = rest; parts = parts; reads = reads; now = now + 1 }
-view_is s place rest olds parts reads now rest_is olds_are parts_are reads_are now_is =
-    same_view s.rest rest (remove s.parts place) parts s.reads reads (suc s.now) (now + 1) (sym rest_is)
-    (ap (λ (ps : List Part). remove ps place) (sym olds_are) ∙ sym parts_are) (sym reads_are) (omega (arith, now_is))
-
-pub place_within : (parts : List Part) (place key : ℕ) → IsSomeAnd (slice_get parts place) (λ p. covered p.ranges.items key ≡ true)
-    → place < length parts
-place_within parts place key at = IsSomeAnd-within parts place (λ (p : Part). covered p.ranges.items key ≡ true) at
-
-pub key_there : (parts : List Part) (place key : ℕ) (part : Part) → part ≡ get_or parts place part
-    → IsSomeAnd (slice_get parts place) (λ p. covered p.ranges.items key ≡ true) → covered part.ranges.items key ≡ true
-key_there parts place key part here at =
-    let (x, is, has) = some_at (slice_get parts place) (λ (p : Part). covered p.ranges.items key ≡ true) at in
-    let same : part ≡ x = here ∙ get_or_from_slice_get parts place x part is in
-    subst (λ (p : Part). covered p.ranges.items key ≡ true) (sym same) has
+pub view_is : (s : PartsView) (rest : Contents) (others : List Part) (reads : List OpenRead) (now : ℕ) → rest ≡ s.rest → reads ≡ s.reads
+    → now ≡ s.now → without s others ≡ record { rest = rest; parts = others; reads = reads; now = now + 1 }
+view_is s rest others reads now rest_is reads_are now_is =
+    same_view s.rest rest others others s.reads reads (suc s.now) (now + 1) (sym rest_is) refl (sym reads_are) (omega (arith, now_is))
 
 -- a call with its answer may change the map as the call
 pub changes_too : (o operation : Operation) (response : Response) → IsAnswerOf o response operation → may_change operation.call ≡ true
@@ -103,37 +88,27 @@ only_key (Remove own) key changes here = eqb-true own key here
 only_key (Scan low high) key changes here = cc
 only_key (Replace own expected value) key changes here = eqb-true own key here
 
-module _ (s : PartsView) (place : ℕ) (part : Part) (within : place < length s.parts) (here : part ≡ get_or s.parts place part) where
+module _ (s : PartsView) (others : List Part) (part : Part) (put : IsPut part others s.parts) where
   abbrev fronts : List Part
-  fronts = take place s.parts
+  fronts = put.front
 
   abbrev backs : List Part
-  backs = drop (place + 1) s.parts
-
-  split : s.parts ≡ fronts ++ part ∷ backs
-  split = parts_at s.parts place part within here
-
-  part_in : Contains s.parts part
-  part_in = subst (λ (p : Part). Contains s.parts p) (sym here) (Contains-get_or s.parts place part within)
+  backs = put.back
 
   -- its shape
   pub part_is_shaped : IsShaped s → IsPartBefore s.now s.reads part
-  part_is_shaped shaped = All-contains (IsPartBefore s.now s.reads) s.parts part shaped.parts part_in
+  part_is_shaped shaped = one_of part others s.parts put (IsPartBefore s.now s.reads) shaped.parts
 
-  pub without_is_shaped : IsShaped s → IsShaped (without s place)
+  pub without_is_shaped : IsShaped s → IsShaped (without s others)
   without_is_shaped shaped = record {
     rest = shaped.rest;
-    parts = subst (All (IsPartBefore (suc s.now) s.reads)) (sym (remove_parts s.parts place))
-        (All-append (IsPartBefore (suc s.now) s.reads) fronts backs (All-take (IsPartBefore (suc s.now) s.reads) place s.parts all_later)
-        (All-drop (IsPartBefore (suc s.now) s.reads) (place + 1) s.parts all_later));
-    apart = all_pairs_remove AreBesideEachOther s.parts place within shaped.apart;
+    parts = All-weaker (IsPartBefore s.now s.reads) (IsPartBefore (suc s.now) s.reads) (part_later s.now s.reads) others
+        (others_of part others s.parts put (IsPartBefore s.now s.reads) shaped.parts);
+    apart = pairs_others part others s.parts put AreBesideEachOther beside_turned shaped.apart;
     reads = All-weaker (λ (read : OpenRead). read.inv < s.now) (λ (read : OpenRead). read.inv < suc s.now)
         (λ read less. omega (arith, less)) s.reads shaped.reads;
     distinct = shaped.distinct;
   }
-    where
-      all_later : All (IsPartBefore (suc s.now) s.reads) s.parts
-      all_later = All-weaker (IsPartBefore s.now s.reads) (IsPartBefore (suc s.now) s.reads) (part_later s.now s.reads) s.parts shaped.parts
 
   -- ---- what may be left there
 
@@ -150,19 +125,15 @@ module _ (s : PartsView) (place : ℕ) (part : Part) (within : place < length s.
       All-contains (λ (y : Operation). a.inv ≢ y.inv) past_there.left p third p_in
 
   own_place : IsShaped s → (past : KeptPast) → Contains (kept_part part).pasts past → (a : Operation) → Contains past.left a
-      → (o : Operation) → a.inv ≡ o.inv → HasOwnPlace (without s place) o
+      → (o : Operation) → a.inv ≡ o.inv → HasOwnPlace (without s others) o
   own_place shaped past past_in a a_in o same = record {
     reads = All-from_contains (λ (read : OpenRead). read.inv ≢ o.inv) s.reads (λ read read_in is.
         All-contains (λ (p : Operation). p.inv ≢ read.inv) past.left a
         (All-contains (IsBesideReads s.reads) (kept_part part).pasts past (part_is_shaped shaped).beside past_in read read_in)
         a_in (same ∙ sym is));
-    parts = subst (All IsOther) (sym (remove_parts s.parts place)) (All-append IsOther fronts backs
-        (All-from_contains IsOther fronts (λ other other_in. from_other other (λ there there_in p p_in is.
-        differ other part (All-contains (λ (q : Part). AreBesideEachOther q part) fronts other before other_in) there there_in past past_in p p_in a
-        a_in (is ∙ sym same))))
-        (All-from_contains IsOther backs (λ other other_in. from_other other (λ there there_in p p_in is.
-        differ part other (All-contains (AreBesideEachOther part) backs other after other_in) past past_in there there_in a a_in p p_in
-        (same ∙ sym is)))));
+    parts = All-from_contains IsOther others (λ other other_in. from_other other (λ there there_in p p_in is.
+        differ part other (All-contains (AreBesideEachOther part) others other beside other_in) past past_in there there_in a a_in p p_in
+        (same ∙ sym is)));
   }
     where
       IsOther : Part → Type 0
@@ -173,18 +144,11 @@ module _ (s : PartsView) (place : ℕ) (part : Part) (within : place < length s.
       from_other other each = All-from_contains (λ (q : KeptPast). All (λ (p : Operation). p.inv ≢ o.inv) q.left) (kept_part other).pasts
           (λ there there_in. All-from_contains (λ (p : Operation). p.inv ≢ o.inv) there.left (λ p p_in. each there there_in p p_in))
 
-      all_apart : AllPairs AreBesideEachOther (fronts ++ part ∷ backs)
-      all_apart = subst (AllPairs AreBesideEachOther) split shaped.apart
-
-      after : All (AreBesideEachOther part) backs
-      after = AllPairs-head AreBesideEachOther part backs (AllPairs-back AreBesideEachOther fronts (part ∷ backs) all_apart)
-
-      before : All (λ (q : Part). AreBesideEachOther q part) fronts
-      before = All-weaker (λ (q : Part). All (AreBesideEachOther q) (part ∷ backs)) (λ (q : Part). AreBesideEachOther q part)
-          (λ q h. h 0 part (omega arith)) fronts (AllPairs-across AreBesideEachOther fronts (part ∷ backs) all_apart)
+      beside : All (AreBesideEachOther part) others
+      beside = pairs_one part others s.parts put AreBesideEachOther beside_turned shaped.apart
 
   pub may_be_left : (operation : Operation) (response : Response) → operation.response ≡ Some response → response.res ≡ s.now → IsShaped s
-      → (left : List Operation) → IsLeftOfOne operation (kept_part part).pasts left → MayBeLeft (without s place) left
+      → (left : List Operation) → IsLeftOfOne operation (kept_part part).pasts left → MayBeLeft (without s others) left
   may_be_left operation response reported res shaped left of_one =
       let (past, past_in, after) = any_to (λ (past : KeptPast). AreLeftAfter operation past.left left) (kept_part part).pasts of_one in
       let before : IsPastBefore response.res past = subst (λ (n : ℕ). IsPastBefore n past) (sym res)
@@ -192,7 +156,7 @@ module _ (s : PartsView) (place : ℕ) (part : Part) (within : place < length s.
       let each : All (IsLeftBefore s.now) left =
       subst (λ (n : ℕ). All (IsLeftBefore n) left) res (left_before operation response reported past left before after) in record {
         rising = after.rising;
-        each = All-from_contains (MayStand (without s place)) left (λ o o_in.
+        each = All-from_contains (MayStand (without s others)) left (λ o o_in.
             let at = All-contains (IsLeftBefore s.now) left o each o_in in record {
               apart = at.apart;
               before = at.before;
@@ -212,7 +176,7 @@ module _ (s : PartsView) (place : ℕ) (part : Part) (within : place < length s.
     ahead : AreKept start s.now (before ++ o ∷ after) (kept_part part ∷ beside)
     ahead =
         let at : AreKept start s.now (before ++ o ∷ after) (kept_rest s.rest (fronts ++ part ∷ backs) ∷ map kept_part (fronts ++ part ∷ backs)) =
-        subst (λ (ps : List Part). AreKept start s.now (before ++ o ∷ after) (kept_rest s.rest ps ∷ map kept_part ps)) split kept in
+        subst (λ (ps : List Part). AreKept start s.now (before ++ o ∷ after) (kept_rest s.rest ps ∷ map kept_part ps)) put.after kept in
         (parts_move start s.now (before ++ o ∷ after) (kept_part part) (kept_rest s.rest (fronts ++ part ∷ backs) ∷ map kept_part fronts)
         (map kept_part backs)).0
         (subst (λ (ps : List KeptPart). AreKept start s.now (before ++ o ∷ after) (kept_rest s.rest (fronts ++ part ∷ backs) ∷ ps))
@@ -230,7 +194,7 @@ module _ (s : PartsView) (place : ℕ) (part : Part) (within : place < length s.
         (Contains-append_right before (o ∷ after) o (Contains-first o after)) pending changes has_key ahead
 
     pub answered_there : response.res ≡ s.now → (nexts : List KeptPast) → AreAfterAnswer o response (kept_part part).pasts nexts
-        → AreKept start (suc s.now) (before ++ answered response o ∷ after) (kept_with (without s place) (covered part.ranges.items) nexts)
+        → AreKept start (suc s.now) (before ++ answered response o ∷ after) (kept_with (without s others) (covered part.ranges.items) nexts)
     answered_there res nexts done =
         let first : KeptPart = record { keys = covered part.ranges.items; pasts = nexts } in
         let there : AreKept start (suc s.now) (before ++ answered response o ∷ after) (first ∷ beside) =
@@ -246,7 +210,7 @@ module _ (s : PartsView) (place : ℕ) (part : Part) (within : place < length s.
         (subst (λ (p : KeptPart). AreKept start (suc s.now) (before ++ answered response o ∷ after)
         (first ∷ p ∷ map kept_part fronts ++ map kept_part backs)) rest_is there) in
         subst (λ (ps : List Part). AreKept start (suc s.now) (before ++ answered response o ∷ after)
-        (first ∷ resting (outside (is_at_rest ps) (covered part.ranges.items)) s.rest ∷ map kept_part ps)) (sym (remove_parts s.parts place))
+        (first ∷ resting (outside (is_at_rest ps) (covered part.ranges.items)) s.rest ∷ map kept_part ps)) (sym put.before)
         together
 
     -- the part as it was, if the answer ends it

@@ -5,3 +5,4 @@ pub mod Steps
 pub mod Settled
 pub mod Going
 pub mod Answering
+pub mod Table

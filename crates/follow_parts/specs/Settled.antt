@@ -12,12 +12,14 @@ use Rattle.follow_cuts.specs.declared.past.Past.{Past}
 use Rattle.follow_pasts.specs.Ranges.{covered, or_else}
 use Rattle.follow_pasts.specs.Views.{kept_part}
 use Rattle.follow_pasts.specs.Pasts.{IsDead, AreAlive}
+use Rattle.follow_pasts.specs.Lists.{IsPut}
+use Rattle.follow_pasts.specs.Shapes.{AreBesideEachOther}
 use Rattle.follow_pasts.specs.Uniting.{resting, outside}
 use Rattle.follow_pasts.specs.declared.part.Part.{Part}
 use Rattle.follow_pasts.specs.declared.ranges.Range.{Range}
 use Rattle.follow_pasts.specs.declared.moments.OpenRead.{OpenRead}
 use Rattle.follow_parts.specs.Views.{PartsView}
-use Rattle.follow_parts.specs.Shapes.{IsPartBefore}
+use Rattle.follow_parts.specs.Shapes.{IsPartBefore, IsShaped}
 use Rattle.follow_parts.specs.Keeping.{AreReadsOf, IsStateOf}
 use Rattle.follow_parts.specs.declared.settling.Moved.{Moved}
 
@@ -30,6 +32,27 @@ pub record IsKeptSo (part again : Part) : Type 0 where
 pub record IsSettled (old new : PartsView) : Type 0 where
   pub now : new.now ≡ old.now
   pub state : (start : Contents) (calls : List Operation) → IsStateOf start calls old → IsStateOf start calls new
+
+-- a state and more parts
+abbrev pub with_parts : List Part → PartsView → PartsView
+with_parts more s = record { rest = s.rest; parts = more ++ s.parts; reads = s.reads; now = s.now }
+
+-- a part fits a state: its events are before the state's place, and no call that is left of it is left of another part, or is a pending read
+pub record MayBePut (part : Part) (s : PartsView) : Type 0 where
+  pub before : IsPartBefore s.now s.reads part
+  pub beside : All (AreBesideEachOther part) s.parts
+
+-- a state with a part more, which may have moved on: with any other parts it says the same of the calls
+pub record IsSettledWith (part : Part) (old new : PartsView) : Type 0 where
+  pub now : new.now ≡ old.now
+  pub shaped : (more : List Part) → IsShaped (with_parts (part ∷ more) old) → IsShaped (with_parts more new)
+  pub state : (more : List Part) (start : Contents) (calls : List Operation) → IsStateOf start calls (with_parts (part ∷ more) old)
+      → IsStateOf start calls (with_parts more new)
+
+-- what is left of a part was put to the others, or nothing is left
+abbrev pub IsLeftPut : Option Part → List Part → List Part → Type 0
+IsLeftPut None old new = new ≡ old
+IsLeftPut (Some part) old new = IsPut part old new
 
 -- further pairs
 pub record IsWithPairs (pairs old new : Contents) : Type 0 where

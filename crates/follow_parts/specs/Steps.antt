@@ -1,5 +1,5 @@
 -- Steps of the state.
-use Rattle.std.specs.Prelude.{◌≡◌, ◌≢◌, ◌⊎◌, ℕ, suc, ◌≤◌, ◌<◌, ◌==◌, Bool, true, false, if◌then◌else◌, List, [], ◌∷◌, ◌++◌, take, drop, map, Option, None, Some, All, AllPairs, slice_get, IsSomeAnd}
+use Rattle.std.specs.Prelude.{◌≡◌, ◌≢◌, ◌⊎◌, ℕ, suc, ◌≤◌, ◌<◌, ◌==◌, true, false, if◌then◌else◌, List, [], ◌∷◌, ◌++◌, take, drop, map, Option, None, Some, All, AllPairs}
 use Rattle.std.specs.List.{AllZip}
 use Rattle.events.specs.declared.operation.Operation.{Operation}
 use Rattle.events.specs.declared.operation.Response.{Response}
@@ -11,11 +11,11 @@ use Rattle.follow_orders.specs.Answers.{IsAnswer}
 use Rattle.follow_orders.specs.declared.kept.Mended.{Mended}
 use Rattle.follow_laws.specs.Pasts.{KeptPast}
 use Rattle.follow_laws.specs.Events.{with_begun, IsWithRead}
+use Rattle.follow_pasts.specs.Lists.{IsPut}
 use Rattle.follow_pasts.specs.Ranges.{covered}
 use Rattle.follow_pasts.specs.Views.{kept_part}
 use Rattle.follow_pasts.specs.Pasts.{AreGoneOn}
 use Rattle.follow_pasts.specs.declared.part.Part.{Part}
-use Rattle.follow_pasts.specs.declared.moments.OpenRead.{OpenRead}
 use Rattle.follow_pasts.specs.Uniting.{Become}
 use Rattle.follow_parts.specs.declared.reading.Read.{Read}
 
@@ -34,17 +34,16 @@ pub record IsPartOf (key : ℕ) (value : Option ℕ) (part : Part) : Type 0 wher
   pub no_found : part.found.items ≡ []
   pub alone : part.others.items ≡ []
 
--- some part has a key: it had it, or it is new, with what was at rest there
-abbrev pub IsOneWithKey : ℕ → Contents → List Part → Contents → List Part → ℕ → Type 0
-IsOneWithKey key rest parts rest_new parts_new place =
-    ((rest_new ≡ rest) × (parts_new ≡ parts))
-    ⊎ (All (λ part. covered part.ranges.items key ≡ false) parts × IsTakenOut key rest rest_new
-    × ((part : Part) × (parts_new ≡ parts ++ part ∷ []) × IsPartOf key (value_at rest key) part × IsKeptOrder part.first))
+-- a part of a key, and the other parts: it was one of the parts, or it is new, with what was at rest there
+abbrev pub IsOneWithKey : ℕ → Contents → List Part → Contents → List Part → Part → Type 0
+IsOneWithKey key rest parts rest_new others part =
+    ((rest_new ≡ rest) × IsPut part others parts)
+    ⊎ (All (λ part. covered part.ranges.items key ≡ false) parts × IsTakenOut key rest rest_new × (others ≡ parts)
+    × IsPartOf key (value_at rest key) part × IsKeptOrder part.first)
 
-pub record IsWithPartOf (key : ℕ) (rest : Contents) (parts : List Part) (rest_new : Contents) (parts_new : List Part) (place : ℕ)
-    : Type 0 where
-  pub here : IsSomeAnd (slice_get parts_new place) (λ part. covered part.ranges.items key ≡ true)
-  pub from : IsOneWithKey key rest parts rest_new parts_new place
+pub record IsPartWith (key : ℕ) (rest : Contents) (parts : List Part) (rest_new : Contents) (others : List Part) (part : Part) : Type 0 where
+  pub here : covered part.ranges.items key ≡ true
+  pub from : IsOneWithKey key rest parts rest_new others part
 
 -- a call began in each past of a part
 pub record IsBegunIn (o : Operation) (old new : Part) : Type 0 where
@@ -65,13 +64,6 @@ IsRefusedIn budget first place kept = IsAnswer first.start (take place first.cal
 -- a read was refused, or it reports nothing
 abbrev pub ReportsNothing : Operation → Type 0
 ReportsNothing o = (key : ℕ) → IsNoEffect (effect_at o.call o.response key)
-
--- a pending read was taken out, or there is none
-abbrev pub HasEnded : ℕ → List OpenRead → List OpenRead → Bool → Type 0
-HasEnded inv old new true =
-    (front : List OpenRead) × (read : OpenRead) × (back : List OpenRead) × (old ≡ front ++ read ∷ back) × (read.inv ≡ inv)
-    × (new ≡ front ++ back)
-HasEnded inv old new false = (new ≡ old) × All (λ read. read.inv ≢ inv) old
 
 -- parts in two lists, each in order: those that are left, and those that were taken out
 abbrev pub AreParted : List Part → List Part → List Part → Type 0

@@ -14,7 +14,6 @@ ghost use Rattle.follow_parts.specs.Keeping.{HasEndedBy, IsAnswered, IsStateOf};
 ghost use Rattle.follow_parts.specs.Shapes.{IsCallBefore, IsPastBefore};
 ghost use Rattle.follow_parts.specs.Steps.{IsRefusedIn, IsReportedAt};
 
-use crate::beginning::part_with;
 use crate::going::go_on;
 use crate::state::{Answered, Parts};
 use events::{Memory, Operation};
@@ -45,10 +44,10 @@ pub(crate) fn answer_change(
         → IfOk result (HasEndedBy start state.now (front ++ o ∷ back) o response) }
 {
     let (rest, mut parts, reads, now) = state.apart();
-    let Some(place) = part_with(&parts, operation.call.low_key()) else {
+    let Some(part) = parts.take_with(operation.call.low_key()) else {
         return Ok(Answered::Unknown);
     };
-    let (ranges, first, found, others, tried) = parts.remove(place).apart();
+    let (ranges, first, found, others, tried) = part.apart();
     let Some(gone) = answer_in(alloc, first, found, others, &operation, budget)? else {
         return Ok(Answered::Unknown);
     };

@@ -1,5 +1,5 @@
 // A call begins.
-ghost use Rattle.std.specs.Prelude.{◌≡◌, ℕ, ◌+◌, ◌==◌, ◌<◌, ◌^◌, ◌++◌, ◌∷◌, [], true, false, if◌then◌else◌, List, map, None, slice_get, All, IfOk, IsSomeAnd, MatchOption, OnOk};
+ghost use Rattle.std.specs.Prelude.{◌≡◌, ℕ, ◌+◌, ◌==◌, ◌<◌, ◌^◌, ◌++◌, ◌∷◌, [], true, false, if◌then◌else◌, List, map, None, All, IfOk, OnOk};
 ghost use Rattle.events.specs.declared.operation.Operation.{Operation as Done};
 ghost use Rattle.events.specs.Keys.{low_key, may_change};
 ghost use Rattle.map_object.specs.MapObject.{Contents, value_at};
@@ -7,15 +7,15 @@ ghost use Rattle.follow_orders.specs.Views.{IsKeptOrder};
 ghost use Rattle.follow_laws.specs.Events.{with_begun};
 ghost use Rattle.follow_cuts.specs.PartCuts.{kept_of};
 ghost use Rattle.packed_map.specs.Entries.{entry_if};
-ghost use Rattle.follow_pasts.specs.Ranges.{covered};
 ghost use Rattle.follow_parts.specs.Keeping.{begun, IsCounted, IsStateOf};
-ghost use Rattle.follow_parts.specs.Steps.{IsBegunIn, IsPartOf, IsTakenOut, IsWithPartOf};
+ghost use Rattle.follow_parts.specs.Steps.{IsBegunIn, IsPartOf, IsPartWith, IsTakenOut};
 
 use crate::state::Parts;
+use crate::table::PartTable;
 use events::{Call, Memory, Operation};
 use follow_cuts::Past;
 use follow_orders::StoredOrder;
-use follow_pasts::{OpenRead, Part, Range, meet};
+use follow_pasts::{OpenRead, Part, Range};
 use map_object::SortedMap;
 use packed_map::PackedMap;
 use std::alloc::Global;
@@ -29,14 +29,15 @@ pub(crate) fn begin_change(alloc: Global, state: Parts, call: Call) -> Result<Pa
         → IfOk result (IsStateOf start (calls ++ begun call state.now ∷ [])) }
     ensures counted { IfOk result (IsCounted state) }
 {
-    let (rest, parts, reads, now) = state.apart();
-    let (rest, mut parts, place) = with_part_of(alloc, rest, parts, call.low_key())?;
+    let (rest, mut parts, reads, now) = state.apart();
+    let (rest, mut part) = take_part(alloc, rest, &mut parts, call.low_key())?;
     let operation = Operation {
         call,
         inv: now,
         response: None,
     };
-    begin_in(alloc, &mut parts[place], operation)?;
+    begin_in(alloc, &mut part, operation)?;
+    let parts = parts.put(part)?;
     Ok(Parts {
         rest,
         parts,
@@ -54,7 +55,7 @@ pub(crate) fn begin_read(state: Parts, call: Call) -> Result<Parts, Memory>
     ensures counted { IfOk result (IsCounted state) }
 {
     let (rest, parts, mut reads, now) = state.apart();
-    reads.push(OpenRead {
+    reads.put(OpenRead {
         inv: now,
         low: call.low_key(),
         high: call.high_key(),
@@ -67,37 +68,20 @@ pub(crate) fn begin_read(state: Parts, call: Call) -> Result<Parts, Memory>
     })
 }
 
-/// The parts with one that has a key, and its place: a key at rest becomes a part.
-fn with_part_of(
+/// Takes the part out that has a key. A key at rest becomes a part.
+fn take_part(
     alloc: Global,
     rest: PackedMap<u64>,
-    parts: Vec<Part>,
+    parts: &mut PartTable,
     key: u64,
-) -> Result<(PackedMap<u64>, Vec<Part>, usize), Memory>
-    ensures { IfOk result (λ made. IsWithPartOf key rest parts.items made.0 made.1.items made.2) }
+) -> Result<(PackedMap<u64>, Part), Memory>
+    ensures { OnOk result (IfOk result
+        (λ taken. IsPartWith key rest parts.old taken.0 parts.new taken.1)) }
 {
-    if let Some(place) = part_with(&parts, key) {
-        return Ok((rest, parts, place));
+    if let Some(part) = parts.take_with(key) {
+        return Ok((rest, part));
     }
-    let (rest, part) = part_of_key(alloc, rest, key)?;
-    let place = parts.len();
-    let mut parts = parts;
-    parts.push(part)?;
-    Ok((rest, parts, place))
-}
-
-/// The place of the part that has a key.
-pub(crate) fn part_with(parts: &[Part], key: u64) -> Option<usize>
-    ensures { MatchOption result (All (λ part. covered part.ranges.items key ≡ false) parts.now)
-        (λ place. IsSomeAnd (slice_get parts.now place)
-        (λ part. covered part.ranges.items key ≡ true)) }
-{
-    for place in 0..parts.len() {
-        if meet(&parts[place].ranges, key, key) {
-            return Some(place);
-        }
-    }
-    None
+    part_of_key(alloc, rest, key)
 }
 
 /// A key at rest, as a part, and the other pairs.

@@ -10,7 +10,7 @@ ghost use Rattle.follow_parts.specs.Views.{PartsView};
 ghost use Rattle.follow_parts.specs.Keeping.{AreReadsOf, IsAnswered};
 ghost use Rattle.follow_parts.specs.Going.{AreEnded, MayBeLeft, kept_with};
 
-use crate::settling::settle_last;
+use crate::settling::settle;
 use crate::state::{Answered, EndedPart, Parts};
 use events::Memory;
 use follow_pasts::{GoneOn, Part, Range};
@@ -41,21 +41,14 @@ pub(crate) fn go_on(
             others,
         } => {
             let _calls = first.calls();
-            let (rest, mut parts, reads, now) = state.apart();
-            parts.push(Part {
+            let part = Part {
                 ranges,
                 first,
                 found,
                 others,
                 tried,
-            })?;
-            let state = Parts {
-                rest,
-                parts,
-                reads,
-                now,
             };
-            let next = settle_last(alloc, state)?;
+            let next = settle(alloc, state, part)?;
             Ok(Answered::Going(next))
         }
         GoneOn::Dead(pasts) => Ok(Answered::Lost(EndedPart { ranges, pasts })),

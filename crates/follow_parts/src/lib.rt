@@ -15,6 +15,7 @@ mod going;
 mod reading;
 mod settling;
 mod state;
+mod table;
 
 pub use state::{Answered, EndedPart, Parts};
 

@@ -19,7 +19,7 @@ ghost use Rattle.follow_parts.specs.Going.{HasOwnPlace};
 ghost use Rattle.events.specs.Precedence.{precedes};
 ghost use Rattle.follow_parts.specs.Keeping.{AreReadsOf, HasEndedBy, IsAnswered, IsStateOf};
 ghost use Rattle.follow_parts.specs.Shapes.{MayComeTo};
-ghost use Rattle.follow_parts.specs.Steps.{AreMet, HasEnded, HasGoneIn, IsReadIn, IsReportedAt, ReportsNothing};
+ghost use Rattle.follow_parts.specs.Steps.{HasGoneIn, IsReadIn, IsReportedAt, ReportsNothing};
 
 use crate::going::go_on;
 use crate::settling::settle_met;
@@ -27,7 +27,7 @@ use crate::state::{Answered, Parts};
 use events::{Call, Memory, Operation, Reply};
 use follow_cuts::Past;
 use follow_pasts::{
-    GoneOn, OpenRead, Part, Range, United, any_alive, first_alive, meet, pairs_within, place_for,
+    GoneOn, OpenRead, Part, Range, United, any_alive, first_alive, pairs_within, place_for,
     places_with, span, unite, was_refused,
 };
 use orders::may_come_next;
@@ -58,7 +58,12 @@ pub(crate) fn answer_read(
     let (rest, parts, mut reads, now) = state.apart();
     let low = operation.call.low_key();
     let high = operation.call.high_key();
-    if !end_read(&mut reads, operation.inv) {
+    let read = OpenRead {
+        inv: operation.inv,
+        low,
+        high,
+    };
+    if !reads.end(read) {
         return Ok(Answered::Unknown);
     }
     if reports_nothing(&operation) {
@@ -106,10 +111,10 @@ fn answer_report(
         → AreKept start state.now (front ++ o ∷ back) (kept_parts state)
         → IfOk result (HasEndedBy start state.now (front ++ o ∷ back) o response) }
 {
-    let (mut rest, mut parts, reads, now) = state.apart();
+    let (mut rest, parts, reads, now) = state.apart();
     let low = operation.call.low_key();
     let high = operation.call.high_key();
-    let met = take_met(alloc, &mut parts, low, high)?;
+    let (parts, met) = parts.take_met(alloc, low, high)?;
     if agrees_at_rest(alloc, &rest, &met, &operation)? {
         return Ok(Answered::Going(Parts {
             rest,
@@ -286,37 +291,6 @@ fn add_to_past(past: &mut Past, operation: Operation) -> Result<(), Memory>
     let place = place_for(&past.calls, operation.inv);
     past.calls.insert(place, operation)?;
     Ok(())
-}
-
-/// Takes a pending read out, and says whether it was there.
-fn end_read(reads: &mut Vec<OpenRead>, inv: usize) -> bool
-    ensures { HasEnded inv reads.old.items reads.new.items result }
-{
-    for place in 0..reads.len() {
-        if reads[place].inv == inv {
-            let _ended = reads.remove(place);
-            return true;
-        }
-    }
-    false
-}
-
-/// Takes out the parts that have some key from `low` to `high`.
-fn take_met(alloc: Global, parts: &mut Vec<Part>, low: u64, high: u64) -> Result<Vec<Part>, Memory>
-    ensures { OnOk result (IfOk result
-        (λ met. AreMet low high parts.old.items parts.new.items met.items)) }
-{
-    let mut met = Vec::new(alloc);
-    let mut place = 0;
-    while place < parts.len() {
-        if meet(&parts[place].ranges, low, high) {
-            let part = parts.remove(place);
-            met.push(part)?;
-        } else {
-            place += 1;
-        }
-    }
-    Ok(met)
 }
 
 /// Whether a read was refused, or its answer reports nothing.

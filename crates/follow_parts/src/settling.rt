@@ -1,19 +1,20 @@
 // A part moves on to a later moment.
-ghost use Rattle.std.specs.Prelude.{◌≡◌, ◌<◌, length, map, All, AllPairs, IfOk, IfSome};
+ghost use Rattle.std.specs.Prelude.{◌≡◌, ◌<◌, map, All, AllPairs, IfOk, IfSome};
 ghost use Rattle.events.specs.Precedence.{NonePrecedesItself};
 ghost use Rattle.follow_cuts.specs.PartCuts.{AreShaped, kept_of};
 ghost use Rattle.follow_pasts.specs.Shapes.{IsPastShaped};
 ghost use Rattle.follow_pasts.specs.Views.{kept_part};
 ghost use Rattle.follow_parts.specs.Shapes.{IsPartBefore};
-ghost use Rattle.follow_parts.specs.Settled.{AreAtRestThen, AreThen, AreThoseAlive, IsAliveOrDead, IsKeptSo, IsPartFrom, IsParted, IsSettled, IsWithPairs, MovesOn};
+ghost use Rattle.follow_parts.specs.Settled.{AreAtRestThen, AreThen, AreThoseAlive, IsAliveOrDead, IsKeptSo, IsLeftPut, IsPartFrom, IsParted, IsSettled, IsSettledWith, IsWithPairs, MayBePut, MovesOn};
 
 use crate::state::Parts;
+use crate::table::PartTable;
 use call_effects::is_ended;
 use events::{Memory, Operation};
 use follow_cuts::{Cut, Limits, Past, pasts_at};
 use follow_orders::{Mended, StoredOrder};
 use follow_pasts::{
-    GoneOn, OpenRead, Part, Range, any_alive, busy_ranges, is_time, meet, moment_for, only_pasts,
+    GoneOn, OpenReads, Part, Range, any_alive, busy_ranges, is_time, moment_for, only_pasts,
     place_of, resting_pairs,
 };
 use orders::{apply, may_come_next};
@@ -26,44 +27,41 @@ const WIDTH: usize = 64;
 /// The most configurations that are searched to find out whether a past goes on.
 const NEAR_BUDGET: u32 = 2_000;
 
-/// The last part moves on, if it is time.
-pub(crate) fn settle_last(alloc: Global, state: Parts) -> Result<Parts, Memory>
-    ensures { IfOk result (IsSettled state) }
-{
-    let count = state.parts.len();
-    if count == 0 {
-        return Ok(state);
-    }
-    settle(alloc, state, count - 1)
-}
-
 /// The parts that have some key from `low` to `high` move on, if it is time.
 pub(crate) fn settle_met(alloc: Global, state: Parts, low: u64, high: u64) -> Result<Parts, Memory>
     ensures { IfOk result (IsSettled state) }
 {
-    let mut state = state;
-    let mut place = state.parts.len();
-    while place > 0 {
-        place -= 1;
-        if place < state.parts.len() && meet(&state.parts[place].ranges, low, high) {
-            state = settle(alloc, state, place)?;
-        }
+    let (rest, parts, reads, now) = state.apart();
+    let (parts, met) = parts.take_met(alloc, low, high)?;
+    let mut state = Parts {
+        rest,
+        parts,
+        reads,
+        now,
+    };
+    for part in met {
+        state = settle(alloc, state, part)?;
     }
     Ok(state)
 }
 
-/// Moves the part at a place on, if it is time. What is left of it is then at the end of the list.
-fn settle(alloc: Global, state: Parts, place: usize) -> Result<Parts, Memory>
-    requires { place < length state.parts }
-    ensures { IfOk result (IsSettled state) }
+/// The state with a part more. The part moves on before, if it is time.
+pub(crate) fn settle(alloc: Global, state: Parts, part: Part) -> Result<Parts, Memory>
+    requires { MayBePut part state }
+    ensures { IfOk result (IsSettledWith part state) }
 {
-    if !is_time(&state.parts[place]) {
-        return Ok(state);
+    let (rest, parts, reads, now) = state.apart();
+    if !is_time(&part) {
+        let parts = parts.put(part)?;
+        return Ok(Parts {
+            rest,
+            parts,
+            reads,
+            now,
+        });
     }
-    let (rest, mut parts, reads, now) = state.apart();
-    let part = parts.remove(place);
     let Some(moved) = moved_on(alloc, &part, &reads, now)? else {
-        parts.push(tried_again(part))?;
+        let parts = parts.put(tried_again(part))?;
         return Ok(Parts {
             rest,
             parts,
@@ -73,15 +71,23 @@ fn settle(alloc: Global, state: Parts, place: usize) -> Result<Parts, Memory>
     };
     let (pairs, left) = moved.apart();
     let rest = add_pairs(rest, &pairs)?;
-    if let Some(part) = left {
-        parts.push(part)?;
-    }
+    let parts = put_left(parts, left)?;
     Ok(Parts {
         rest,
         parts,
         reads,
         now,
     })
+}
+
+/// The parts and what is left of one more, if there is something.
+fn put_left(parts: PartTable, left: Option<Part>) -> Result<PartTable, Memory>
+    ensures { IfOk result (IsLeftPut left parts) }
+{
+    match left {
+        Some(part) => parts.put(part),
+        None => Ok(parts),
+    }
 }
 
 /// A part that was tried in vain: it is tried again when half as many calls more are left.
@@ -144,7 +150,7 @@ impl Moved {
 fn moved_on(
     alloc: Global,
     part: &Part,
-    reads: &[OpenRead],
+    reads: &OpenReads,
     now: usize,
 ) -> Result<Option<Moved>, Memory>
     requires { IsPartBefore now reads.now part.now }

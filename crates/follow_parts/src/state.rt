@@ -13,9 +13,10 @@ use crate::answering::answer_change;
 use crate::beginning::{begin_change, begin_read};
 use crate::reading::answer_read;
 use crate::settling::add_pairs;
+use crate::table::PartTable;
 use events::{Call, Memory, Operation, Reply, Response};
 use follow_cuts::Past;
-use follow_pasts::{OpenRead, Part, Range};
+use follow_pasts::{OpenReads, Range};
 use packed_map::PackedMap;
 use std::alloc::Global;
 use std::marker::Model;
@@ -24,8 +25,8 @@ use std::marker::Model;
 /// the reads that are pending, and how many events there were.
 pub struct Parts {
     pub(crate) rest: PackedMap<u64>,
-    pub(crate) parts: Vec<Part>,
-    pub(crate) reads: Vec<OpenRead>,
+    pub(crate) parts: PartTable,
+    pub(crate) reads: OpenReads,
     pub(crate) now: usize,
 }
 
@@ -48,15 +49,15 @@ impl Model for Parts {
 
     ghost view = { λ s. record {
       rest = s.rest;
-      parts = s.parts.items;
-      reads = s.reads.items;
+      parts = s.parts;
+      reads = s.reads;
       now = s.now;
     } };
 
     ghost invariant = { λ s. IsShaped (record {
       rest = s.rest;
-      parts = s.parts.items;
-      reads = s.reads.items;
+      parts = s.parts;
+      reads = s.reads;
       now = s.now;
     }) };
 }
@@ -92,10 +93,10 @@ pub enum Answered {
 
 impl Parts {
     /// Its fields.
-    pub(crate) fn apart(self) -> (PackedMap<u64>, Vec<Part>, Vec<OpenRead>, usize)
+    pub(crate) fn apart(self) -> (PackedMap<u64>, PartTable, OpenReads, usize)
         ensures rest { result.0 ≡ self.rest }
-        ensures parts { result.1.items ≡ self.parts }
-        ensures reads { result.2.items ≡ self.reads }
+        ensures parts { result.1 ≡ self.parts }
+        ensures reads { result.2 ≡ self.reads }
         ensures now { result.3 ≡ self.now }
         ensures shaped { IsShaped self }
     {
@@ -116,8 +117,8 @@ impl Parts {
     {
         let empty = PackedMap::new(alloc)?;
         let rest = add_pairs(empty, start)?;
-        let parts = Vec::new(alloc);
-        let reads = Vec::new(alloc);
+        let parts = PartTable::new(alloc)?;
+        let reads = OpenReads::new(alloc)?;
         Ok(Parts {
             rest,
             parts,

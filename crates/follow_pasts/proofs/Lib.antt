@@ -14,3 +14,6 @@ pub mod PairLemmas
 mod BusyLemmas
 mod RestingLemmas
 mod WithinLemmas
+pub mod ListLemmas
+pub mod OpenReadLemmas
+pub mod SeenLemmas

@@ -5,3 +5,4 @@ pub mod Pasts
 pub mod Uniting
 pub mod Moments
 pub mod Resting
+pub mod Lists

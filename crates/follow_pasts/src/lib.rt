@@ -2,7 +2,9 @@
 //! what an answer makes of pasts, how parts become one, and which keys are at rest.
 #![tactic(auto)]
 
+mod lists;
 mod moments;
+mod open_reads;
 mod part;
 mod pasts;
 mod placing;
@@ -10,7 +12,9 @@ mod ranges;
 mod resting;
 mod uniting;
 
+pub use lists::{LISTS, list_of, list_of_key, lists_within};
 pub use moments::{OpenRead, is_time, moment_for};
+pub use open_reads::OpenReads;
 pub use part::Part;
 pub use pasts::{
     GoneOn, agrees, answer_pasts, any_alive, first_alive, found_of, place_for, place_of,

@@ -2,6 +2,7 @@
 ghost use Rattle.std.specs.Prelude.{◌≡◌, IfOk, IfSome, MatchOption};
 ghost use Rattle.follow_pasts.specs.Moments.{AreBegunAfter, HaveNoRead};
 
+use crate::open_reads::OpenReads;
 use crate::part::Part;
 use crate::ranges::{Range, meet};
 use events::{Memory, Operation};
@@ -34,14 +35,14 @@ pub fn is_time(part: &Part) -> bool {
 pub fn moment_for(
     alloc: Global,
     part: &Part,
-    reads: &[OpenRead],
+    reads: &OpenReads,
     now: usize,
 ) -> Result<Option<usize>, Memory>
     ensures { IfOk result
         (λ moment. IfSome moment (AreBegunAfter part.now.ranges.items reads.now)) }
 {
     let calls = part.first.calls();
-    let Some(hold) = first_read(&part.ranges, reads) else {
+    let Some(hold) = reads.first(&part.ranges) else {
         if part.found.is_empty() && count_pending(calls) == 0 {
             return Ok(Some(now));
         }
@@ -68,7 +69,7 @@ fn count_pending(calls: &[Operation]) -> usize {
 }
 
 /// When the first pending read of these keys began.
-fn first_read(ranges: &[Range], reads: &[OpenRead]) -> Option<usize>
+pub(crate) fn first_read(ranges: &[Range], reads: &[OpenRead]) -> Option<usize>
     ensures { MatchOption result (HaveNoRead ranges.now reads.now)
         (AreBegunAfter ranges.now reads.now) }
 {

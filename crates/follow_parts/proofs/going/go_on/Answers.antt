@@ -1,11 +1,10 @@
-use Rattle.follow_parts.proofs.Common.{◌≡◌, ◌∷◌, [], ◌++◌, suc, List, map, refl, sym, ◌∙◌, subst, All, KeptPast, kept_of, AreAlive, AreDoubtful, AreGoneOn}
-use Rattle.follow_parts.proofs.Common.{IsDead, lefts, lefts_of, past_of, Part, GoneOn, MayBeLeft, IsStateOf, IsShaped, PartsView}
-use Rattle.follow_parts.proofs.BegunLemmas.{same_view}
-use Rattle.follow_parts.proofs.GoingLemmas.{going_is_shaped, going_is_state, kept_beside}
+use Rattle.follow_parts.proofs.Common.{◌≡◌, ◌∷◌, [], suc, List, map, refl, sym, ◌∙◌, subst, All, KeptPast, kept_of, AreAlive, AreDoubtful, AreGoneOn}
+use Rattle.follow_parts.proofs.Common.{IsDead, lefts, lefts_of, past_of, Part, GoneOn, MayBeLeft}
+use Rattle.follow_parts.proofs.GoingLemmas.{going_may_be_put, going_is_state, kept_beside}
 use Rattle.follow_parts.proofs.going.go_on.Goals as goal
 
-pub invariant_of-state : goal.invariant_of-state
-invariant_of-state c =
+pub settle-requires : goal.settle-requires
+settle-requires c =
     let s = c.args.state in
     let part : Part = record {
       ranges = c.args.ranges;
@@ -16,11 +15,7 @@ invariant_of-state c =
     } in
     let left : All (MayBeLeft s) (part.first.calls ∷ lefts part.others.items) =
     subst (λ (g : GoneOn). All (MayBeLeft s) (lefts_of g)) c.in-Alive.is c.requires in
-    let parts : c.push.new.self.items ≡ s.parts ++ part ∷ [] = cc (c.in_ok-push-in-Alive.ensures.items, c.apart-rest.ensures.parts) in
-    subst (λ (v : PartsView). IsShaped v)
-    (same_view s.rest c.apart-rest.result.0 (s.parts ++ part ∷ []) c.push.new.self.items s.reads c.apart-rest.result.2.items s.now
-    c.apart-rest.result.3 (sym c.apart-rest.ensures.rest) (sym parts) (sym c.apart-rest.ensures.reads) (sym c.apart-rest.ensures.now))
-    (going_is_shaped s part left c.apart-rest.ensures.shaped c.calls-calls.ensures.kept)
+    going_may_be_put s part left c.calls-calls.ensures.kept
 
 pub returns-in_ok-next-in-Alive-clause-answered : goal.returns-in_ok-next-in-Alive-clause-answered
 returns-in_ok-next-in-Alive-clause-answered c start budget old calls pasts at gone reads kept =
@@ -34,15 +29,8 @@ returns-in_ok-next-in-Alive-clause-answered c start budget old calls pasts at go
     } in
     let alive : AreAlive pasts (past_of part.first part.found.items ∷ map kept_of part.others.items) =
     subst (λ (g : GoneOn). AreGoneOn budget pasts g) c.in-Alive.is gone in
-    let parts : c.push.new.self.items ≡ s.parts ++ part ∷ [] = cc (c.in_ok-push-in-Alive.ensures.items, c.apart-rest.ensures.parts) in
-    let settled = c.in_ok-next-in-Alive.ensures in (
-      settled.state start calls (subst (λ (v : PartsView). IsStateOf start calls v)
-          (same_view s.rest c.apart-rest.result.0 (s.parts ++ part ∷ []) c.push.new.self.items s.reads c.apart-rest.result.2.items s.now
-          c.apart-rest.result.3 (sym c.apart-rest.ensures.rest) (sym parts) (sym c.apart-rest.ensures.reads)
-          (sym c.apart-rest.ensures.now))
-          (going_is_state s part start calls pasts alive reads kept)),
-      settled.now ∙ (c.apart-rest.ensures.now ∙ at),
-    )
+    let settled = c.in_ok-next-in-Alive.ensures in
+    (settled.state [] start calls (going_is_state s part start calls pasts alive reads kept), settled.now ∙ at)
 
 pub returns-in-Dead-clause-answered : goal.returns-in-Dead-clause-answered
 returns-in-Dead-clause-answered c start budget old calls pasts at gone reads kept =

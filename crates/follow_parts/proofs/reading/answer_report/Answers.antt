@@ -14,14 +14,14 @@ pub invariant_of-result : goal.invariant_of-result
 invariant_of-result c =
     let s = c.args.state in
     let o = c.args.operation in
-    let left = c.take_met.new.parts.items in
-    let met = c.in_ok-met.met.items in
+    let left = c.in_ok-parts.parts in
+    let met = c.in_ok-parts.met.items in
     let is : AreMet (low_key o.call) (high_key o.call) s.parts left met =
-    met_same c.low_key-low.result c.high_key-high.result (low_key o.call) (high_key o.call) c.apart-rest.result.1.items s.parts left met
-    c.low_key-low.ensures c.high_key-high.ensures c.apart-rest.ensures.parts c.in_ok-met.ensures in
+    met_same c.low_key-low.result c.high_key-high.result (low_key o.call) (high_key o.call) c.apart-rest.result.1 s.parts left met
+    c.low_key-low.ensures c.high_key-high.ensures c.apart-rest.ensures.parts c.in_ok-parts.ensures in
     let now : suc s.now ≡ c.apart-rest.result.3 + 1 = omega (arith, c.apart-rest.ensures.now) in
     subst (λ (v : PartsView). IsShaped v)
-    (same_view s.rest c.apart-rest.result.0 left left s.reads c.apart-rest.result.2.items (suc s.now) (c.apart-rest.result.3 + 1)
+    (same_view s.rest c.apart-rest.result.0 left left s.reads c.apart-rest.result.2 (suc s.now) (c.apart-rest.result.3 + 1)
     (sym c.apart-rest.ensures.rest) refl (sym c.apart-rest.ensures.reads) now)
     (next_is_shaped s c.apart-rest.ensures.shaped left met is.parted s.rest c.apart-rest.ensures.shaped.rest)
 
@@ -29,11 +29,11 @@ pub returns-then-branch-clause-answered : goal.returns-then-branch-clause-answer
 returns-then-branch-clause-answered c start front back o response answer kept reads =
     let s = c.args.state in
     let done = c.args.operation in
-    let left = c.take_met.new.parts.items in
-    let met = c.in_ok-met.met.items in
+    let left = c.in_ok-parts.parts in
+    let met = c.in_ok-parts.met.items in
     let is : AreMet (low_key done.call) (high_key done.call) s.parts left met =
-    met_same c.low_key-low.result c.high_key-high.result (low_key done.call) (high_key done.call) c.apart-rest.result.1.items s.parts left met
-    c.low_key-low.ensures c.high_key-high.ensures c.apart-rest.ensures.parts c.in_ok-met.ensures in
+    met_same c.low_key-low.result c.high_key-high.result (low_key done.call) (high_key done.call) c.apart-rest.result.1 s.parts left met
+    c.low_key-low.ensures c.high_key-high.ensures c.apart-rest.ensures.parts c.in_ok-parts.ensures in
     let none : met ≡ [] = sym c.deref.ensures.value ∙ c.in_ok-agrees_at_rest.ensures.none c.if-branch.true in
     let legal : IsLegalCall s.rest done.call done.response =
     subst (λ (m : Contents). IsLegalCall m done.call done.response) c.apart-rest.ensures.rest
@@ -51,7 +51,7 @@ returns-then-branch-clause-answered c start front back o response answer kept re
       reads = reads;
     } in (
       subst (λ (v : PartsView). IsStateOf start (front ++ done ∷ back) v)
-          (same_view s.rest c.apart-rest.result.0 left left s.reads c.apart-rest.result.2.items (suc s.now) (c.apart-rest.result.3 + 1)
+          (same_view s.rest c.apart-rest.result.0 left left s.reads c.apart-rest.result.2 (suc s.now) (c.apart-rest.result.3 + 1)
           (sym c.apart-rest.ensures.rest) refl (sym c.apart-rest.ensures.reads) now) state,
       sym now,
     )
@@ -60,48 +60,48 @@ pub read_in-requires-clause-parts : goal.read_in-requires-clause-parts
 read_in-requires-clause-parts c =
     let s = c.args.state in
     let o = c.args.operation in
-    let left = c.take_met.new.parts.items in
-    let met = c.in_ok-met.met.items in
+    let left = c.in_ok-parts.parts in
+    let met = c.in_ok-parts.met.items in
     let is : AreMet (low_key o.call) (high_key o.call) s.parts left met =
-    met_same c.low_key-low.result c.high_key-high.result (low_key o.call) (high_key o.call) c.apart-rest.result.1.items s.parts left met
-    c.low_key-low.ensures c.high_key-high.ensures c.apart-rest.ensures.parts c.in_ok-met.ensures in
+    met_same c.low_key-low.result c.high_key-high.result (low_key o.call) (high_key o.call) c.apart-rest.result.1 s.parts left met
+    c.low_key-low.ensures c.high_key-high.ensures c.apart-rest.ensures.parts c.in_ok-parts.ensures in
     met_shaped s c.apart-rest.ensures.shaped left met is.parted s.rest
 
 pub read_in-requires-clause-comes : goal.read_in-requires-clause-comes
 read_in-requires-clause-comes c =
     let s = c.args.state in
     let o = c.args.operation in
-    let left = c.take_met.new.parts.items in
-    let met = c.in_ok-met.met.items in
+    let left = c.in_ok-parts.parts in
+    let met = c.in_ok-parts.met.items in
     let is : AreMet (low_key o.call) (high_key o.call) s.parts left met =
-    met_same c.low_key-low.result c.high_key-high.result (low_key o.call) (high_key o.call) c.apart-rest.result.1.items s.parts left met
-    c.low_key-low.ensures c.high_key-high.ensures c.apart-rest.ensures.parts c.in_ok-met.ensures in
+    met_same c.low_key-low.result c.high_key-high.result (low_key o.call) (high_key o.call) c.apart-rest.result.1 s.parts left met
+    c.low_key-low.ensures c.high_key-high.ensures c.apart-rest.ensures.parts c.in_ok-parts.ensures in
     met_comes s c.apart-rest.ensures.shaped left met is.parted s.rest o c.requires.reported c.requires.begun c.requires.own
 
 pub read_in-requires-clause-apart : goal.read_in-requires-clause-apart
 read_in-requires-clause-apart c =
     let s = c.args.state in
     let o = c.args.operation in
-    let left = c.take_met.new.parts.items in
-    let met = c.in_ok-met.met.items in
+    let left = c.in_ok-parts.parts in
+    let met = c.in_ok-parts.met.items in
     let is : AreMet (low_key o.call) (high_key o.call) s.parts left met =
-    met_same c.low_key-low.result c.high_key-high.result (low_key o.call) (high_key o.call) c.apart-rest.result.1.items s.parts left met
-    c.low_key-low.ensures c.high_key-high.ensures c.apart-rest.ensures.parts c.in_ok-met.ensures in
+    met_same c.low_key-low.result c.high_key-high.result (low_key o.call) (high_key o.call) c.apart-rest.result.1 s.parts left met
+    c.low_key-low.ensures c.high_key-high.ensures c.apart-rest.ensures.parts c.in_ok-parts.ensures in
     met_apart s c.apart-rest.ensures.shaped left met is.parted s.rest
 
 pub invariant_of-state : goal.invariant_of-state
 invariant_of-state c =
     let s = c.args.state in
     let o = c.args.operation in
-    let left = c.take_met.new.parts.items in
-    let met = c.in_ok-met.met.items in
+    let left = c.in_ok-parts.parts in
+    let met = c.in_ok-parts.met.items in
     let is : AreMet (low_key o.call) (high_key o.call) s.parts left met =
-    met_same c.low_key-low.result c.high_key-high.result (low_key o.call) (high_key o.call) c.apart-rest.result.1.items s.parts left met
-    c.low_key-low.ensures c.high_key-high.ensures c.apart-rest.ensures.parts c.in_ok-met.ensures in
+    met_same c.low_key-low.result c.high_key-high.result (low_key o.call) (high_key o.call) c.apart-rest.result.1 s.parts left met
+    c.low_key-low.ensures c.high_key-high.ensures c.apart-rest.ensures.parts c.in_ok-parts.ensures in
     let now : suc s.now ≡ c.apart-rest.result.3 + 1 = omega (arith, c.apart-rest.ensures.now) in
     let read : IsReadIn c.args.budget o c.apart-rest.result.0 c.read_in.new.rest met c.in_ok-ranges.field-0 = c.in_ok-ranges.ensures in
     subst (λ (v : PartsView). IsShaped v)
-    (same_view c.read_in.new.rest c.read_in.new.rest left left s.reads c.apart-rest.result.2.items (suc s.now) (c.apart-rest.result.3 + 1)
+    (same_view c.read_in.new.rest c.read_in.new.rest left left s.reads c.apart-rest.result.2 (suc s.now) (c.apart-rest.result.3 + 1)
     refl refl (sym c.apart-rest.ensures.reads) now)
     (next_is_shaped s c.apart-rest.ensures.shaped left met is.parted c.read_in.new.rest read.become.rises)
 
@@ -109,16 +109,16 @@ pub go_on-requires : goal.go_on-requires
 go_on-requires c =
     let s = c.args.state in
     let o = c.args.operation in
-    let left = c.take_met.new.parts.items in
-    let met = c.in_ok-met.met.items in
+    let left = c.in_ok-parts.parts in
+    let met = c.in_ok-parts.met.items in
     let is : AreMet (low_key o.call) (high_key o.call) s.parts left met =
-    met_same c.low_key-low.result c.high_key-high.result (low_key o.call) (high_key o.call) c.apart-rest.result.1.items s.parts left met
-    c.low_key-low.ensures c.high_key-high.ensures c.apart-rest.ensures.parts c.in_ok-met.ensures in
+    met_same c.low_key-low.result c.high_key-high.result (low_key o.call) (high_key o.call) c.apart-rest.result.1 s.parts left met
+    c.low_key-low.ensures c.high_key-high.ensures c.apart-rest.ensures.parts c.in_ok-parts.ensures in
     let now : suc s.now ≡ c.apart-rest.result.3 + 1 = omega (arith, c.apart-rest.ensures.now) in
     let read : IsReadIn c.args.budget o c.apart-rest.result.0 c.read_in.new.rest met c.in_ok-ranges.field-0 = c.in_ok-ranges.ensures in
     let next : PartsView = record { rest = c.read_in.new.rest; parts = left; reads = s.reads; now = suc s.now } in
     subst (λ (v : PartsView). All (MayBeLeft v) (lefts_of c.in_ok-ranges.field-0.gone))
-    (same_view c.read_in.new.rest c.read_in.new.rest left left s.reads c.apart-rest.result.2.items (suc s.now) (c.apart-rest.result.3 + 1)
+    (same_view c.read_in.new.rest c.read_in.new.rest left left s.reads c.apart-rest.result.2 (suc s.now) (c.apart-rest.result.3 + 1)
     refl refl (sym c.apart-rest.ensures.reads) now)
     (lefts_gone (MayBeLeft next) c.args.budget read.nexts c.in_ok-ranges.field-0.gone read.gone
     (report_is_left s c.apart-rest.ensures.shaped left met is.parted c.read_in.new.rest o c.requires.reported c.requires.begun c.requires.own
@@ -128,13 +128,13 @@ pub returns-clause-answered : goal.returns-clause-answered
 returns-clause-answered c start front back o response answer kept reads =
     let s = c.args.state in
     let done = c.args.operation in
-    let left = c.take_met.new.parts.items in
-    let met = c.in_ok-met.met.items in
+    let left = c.in_ok-parts.parts in
+    let met = c.in_ok-parts.met.items in
     let new = c.read_in.new.rest in
     let calls = front ++ done ∷ back in
     let is : AreMet (low_key done.call) (high_key done.call) s.parts left met =
-    met_same c.low_key-low.result c.high_key-high.result (low_key done.call) (high_key done.call) c.apart-rest.result.1.items s.parts left met
-    c.low_key-low.ensures c.high_key-high.ensures c.apart-rest.ensures.parts c.in_ok-met.ensures in
+    met_same c.low_key-low.result c.high_key-high.result (low_key done.call) (high_key done.call) c.apart-rest.result.1 s.parts left met
+    c.low_key-low.ensures c.high_key-high.ensures c.apart-rest.ensures.parts c.in_ok-parts.ensures in
     let now : suc s.now ≡ c.apart-rest.result.3 + 1 = omega (arith, c.apart-rest.ensures.now) in
     let read : IsReadIn c.args.budget done s.rest new met c.in_ok-ranges.field-0 =
     subst (λ (m : Contents). IsReadIn c.args.budget done m new met c.in_ok-ranges.field-0) c.apart-rest.ensures.rest c.in_ok-ranges.ensures in
@@ -149,7 +149,7 @@ returns-clause-answered c start front back o response answer kept reads =
     c.go_on.ensures.answered start c.args.budget s calls read.nexts (sym now) read.gone
     (subst (λ (l : List OpenRead). AreReadsOf calls l) (sym c.apart-rest.ensures.reads) reads)
     (subst (λ (v : PartsView). AreKept start v.now calls (kept_with v keys read.nexts))
-    (same_view new new left left s.reads c.apart-rest.result.2.items (suc s.now) (c.apart-rest.result.3 + 1) refl refl
+    (same_view new new left left s.reads c.apart-rest.result.2 (suc s.now) (c.apart-rest.result.3 + 1) refl refl
     (sym c.apart-rest.ensures.reads) now)
     (report_is_kept s left met start front back o response done answer is new c.in_ok-ranges.field-0.ranges.items read.pasts read.nexts
     read.become read.with_read report kept))
@@ -158,12 +158,12 @@ pub returns-clause-ended : goal.returns-clause-ended
 returns-clause-ended c start front back o response answer kept =
     let s = c.args.state in
     let done = c.args.operation in
-    let left = c.take_met.new.parts.items in
-    let met = c.in_ok-met.met.items in
+    let left = c.in_ok-parts.parts in
+    let met = c.in_ok-parts.met.items in
     let new = c.read_in.new.rest in
     let is : AreMet (low_key done.call) (high_key done.call) s.parts left met =
-    met_same c.low_key-low.result c.high_key-high.result (low_key done.call) (high_key done.call) c.apart-rest.result.1.items s.parts left met
-    c.low_key-low.ensures c.high_key-high.ensures c.apart-rest.ensures.parts c.in_ok-met.ensures in
+    met_same c.low_key-low.result c.high_key-high.result (low_key done.call) (high_key done.call) c.apart-rest.result.1 s.parts left met
+    c.low_key-low.ensures c.high_key-high.ensures c.apart-rest.ensures.parts c.in_ok-parts.ensures in
     let read : IsReadIn c.args.budget done s.rest new met c.in_ok-ranges.field-0 =
     subst (λ (m : Contents). IsReadIn c.args.budget done m new met c.in_ok-ranges.field-0) c.apart-rest.ensures.rest c.in_ok-ranges.ensures in
     let ranges = c.in_ok-ranges.field-0.ranges.items in

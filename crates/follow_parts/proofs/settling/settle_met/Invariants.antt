@@ -1,9 +1,7 @@
-use Rattle.follow_parts.specs.Settled.{IsSettled}
+use Rattle.std.specs.Vec.Iter.{into_iter_items}
+use Rattle.follow_parts.proofs.SettlingLemmas.{IsSettledBut}
 use Rattle.follow_parts.proofs.settling.settle_met.Given as goal
 
--- the state says the same of the calls
-abbrev pub invariant-loop-place : goal.invariant-loop-place
-invariant-loop-place l = IsSettled l.fn.state l.state
-
-abbrev pub decreases-loop-place : goal.decreases-loop-place
-decreases-loop-place l = l.place
+-- with the parts that are not yet put back, the state says the same of the calls
+abbrev pub invariant-loop-part : goal.invariant-loop-part
+invariant-loop-part l = IsSettledBut (into_iter_items l.part-iterator) l.fn.state l.state

@@ -1,6 +1,6 @@
 use Rattle.std.proofs.Common.{length, ◌-◌}
 use Rattle.follow_parts.proofs.ReadingLemmas.{AreMeeting}
-use Rattle.follow_parts.proofs.reading.take_met.Given as goal
+use Rattle.follow_parts.proofs.table.take_met.Given as goal
 
 -- of the parts so far
 abbrev pub invariant-loop-place : goal.invariant-loop-place

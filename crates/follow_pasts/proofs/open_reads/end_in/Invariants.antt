@@ -1,5 +1,5 @@
-use Rattle.follow_parts.proofs.ReadingLemmas.{AreOthers}
-use Rattle.follow_parts.proofs.reading.end_read.Given as goal
+use Rattle.follow_pasts.proofs.OpenReadLemmas.{AreOthers}
+use Rattle.follow_pasts.proofs.open_reads.end_in.Given as goal
 
 -- none of the reads so far is the one
 abbrev pub invariant-loop-place : goal.invariant-loop-place

@@ -1,6 +1,6 @@
 use Rattle.std.proofs.Common.{length, ap, arith}
-use Rattle.follow_parts.proofs.ReadingLemmas.{read_ended}
-use Rattle.follow_parts.proofs.reading.end_read.Goals as goal
+use Rattle.follow_pasts.proofs.OpenReadLemmas.{read_ended}
+use Rattle.follow_pasts.proofs.open_reads.end_in.Goals as goal
 
 pub returns-then-index-inv : goal.returns-then-index-inv
 returns-then-index-inv c =

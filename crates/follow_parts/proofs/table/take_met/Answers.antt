@@ -1,6 +1,6 @@
 use Rattle.follow_parts.proofs.Common.{◌≡◌, ◌≤◌, ℕ, false, List, refl, subst, arith, covered, Range}
 use Rattle.follow_parts.proofs.ReadingLemmas.{meeting_out, meeting_past}
-use Rattle.follow_parts.proofs.reading.take_met.Goals as goal
+use Rattle.follow_parts.proofs.table.take_met.Goals as goal
 
 pub loop-place-preserved-in-Continue-1 : goal.loop-place-preserved-in-Continue-1
 loop-place-preserved-in-Continue-1 c =
