@@ -34,8 +34,8 @@ pub use Rattle.memo.specs.Digest.{HasDigest, digest_of, mix_pair, mix_place, mix
 unfoldable pub use Rattle.memo.specs.Digest.{mix}
 pub use Rattle.memo.specs.Equality.{Decides-is_same, Decides-is_same_pair, is_same}
 pub use Rattle.memo.specs.Kept.{Decides-is_kept_same, IsKept, Kept, configuration_from, is_kept_same, is_kept_same-equivalence, kept_of, same_kept}
-pub use Rattle.memo.specs.Keys.{AgreeBut, key_changed}
-pub use Rattle.memo.specs.Taking.{IsOneMore, after_one, with_place}
+pub use Rattle.memo.specs.Changes.{changed}
+pub use Rattle.memo.specs.Taking.{MayTake, after_one, pairs_left, with_place}
 pub use Rattle.memo.specs.Visits.{configurations_from}
 pub use Rattle.memo.specs.Words.{ArePlaces, AreWords, IsTrimmed, bit_of, is_among, shifted_word}
 unfoldable pub use Rattle.memo.specs.Words.{places_of}

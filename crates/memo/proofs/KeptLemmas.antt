@@ -3,7 +3,7 @@ use Rattle.memo.proofs.Common.{◌≡◌, ℕ, ◌+◌, ◌-◌, ◌%◌, ◌^�
 use Rattle.memo.proofs.Common.{get_or, length, zero-add, refl, sym, ap, ◌∙◌, subst, ⊎_elim, ◌≢◌, ◌↔◌, ◌⊎◌, IsTrue, IfOk, OnErr, IsSomeAnd}
 use Rattle.memo.proofs.Common.{if◌then◌else◌, slice_get, All, AllPairs, Contains, sum_by, map-append, length-map, All-contains, All-push, All-nil}
 use Rattle.memo.proofs.Common.{slice_get-map, slice_get_read, Contents, IsRising, value_at, Configuration, HasDigest, digest_of, mix_place, mix_pair}
-use Rattle.memo.proofs.Common.{mix_value, IsDifference, pairs_from, with_value, value_put, value_gone, value_from, AgreeBut, with_place, after_one}
+use Rattle.memo.proofs.Common.{mix_value, IsDifference, pairs_from, with_value, value_put, value_gone, value_from, with_place, after_one}
 use Rattle.memo.proofs.Common.{Kept, kept_of, same_kept, configuration_from, IsKept, configurations_from}
 use Rattle.events.proofs.NumberLemmas.{IsSomeAnd-within}
 use Rattle.events.proofs.FilterLemmas.{Contains-map, Contains-from_map, AllPairs-map, AllPairs-weaker}
@@ -99,7 +99,8 @@ module _ (start : Contents) (old : Kept) (is : IsKept start old) (place : ℕ) (
       }))
 
   -- one that changes the value of a key
-  module _ (rises : IsRising start) (key : ℕ) (after : Contents) (after_rises : IsRising after) (agree : AgreeBut (Some key) before after)
+  module _ (rises : IsRising start) (key : ℕ) (after : Contents) (after_rises : IsRising after)
+      (agree : (k : ℕ) → (key ≡ k → ⊥) → value_at after k ≡ value_at before k)
       (first was value : Option ℕ) (first_is : first ≡ value_at start key)
       (was_is : was ≡ value_from first (value_at old.put key) (value_at old.gone key)) (value_is : value ≡ value_at after key)
       (put_is : new.put ≡ with_value key (value_put first value) old.put) (gone_is : new.gone ≡ with_value key (value_gone first value) old.gone)

@@ -5,7 +5,6 @@ mod ValueLemmas
 mod DifferenceLemmas
 pub mod DigestLemmas
 mod KeptLemmas
-mod KeyLemmas
 mod VisitedLemmas
 mod WordLemmas
 mod BitLemmas

@@ -3,9 +3,9 @@ pub mod Configurations
 pub mod Counts
 pub mod Bases
 pub mod Differences
+pub mod Changes
 pub mod Digest
 pub mod Equality
-pub mod Keys
 pub mod Kept
 pub mod Taking
 pub mod Words

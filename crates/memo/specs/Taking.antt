@@ -14,7 +14,11 @@ with_place taken place = filter (λ n. nat_lt n place) taken ++ place ∷ filter
 abbrev pub after_one : Configuration → ℕ → Contents → Configuration
 after_one c place pairs = record { taken = with_place c.taken place; pairs = pairs }
 
--- a call that is not taken, at a place, and the pairs that it leaves
-pub record IsOneMore (c : Configuration) (place : ℕ) (call : Operation) (pairs : Contents) : Type 0 where
+-- the pairs that a call leaves
+abbrev pub pairs_left : Contents → Operation → Contents
+pairs_left m call = after_call m call.call call.response
+
+-- the call at a place is not taken, and these are the pairs that the map holds
+pub record MayTake (c : Configuration) (place : ℕ) (m : Contents) : Type 0 where
   pub new : Contains c.taken place → ⊥
-  pub after : pairs ≡ after_call c.pairs call.call call.response
+  pub holds : c.pairs ≡ m

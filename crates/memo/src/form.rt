@@ -2,10 +2,11 @@
 ghost use Rattle.std.specs.Prelude.{◌≡◌, ◌↔◌, [], IsTrue, IfOk, OnOk, Contains};
 ghost use Rattle.memo.specs.Kept.{configuration_from, IsKept};
 ghost use Rattle.memo.specs.Taking.{after_one};
-ghost use Rattle.memo.specs.Keys.{AgreeBut};
+ghost use Rattle.memo.specs.Changes.{changed};
 ghost use Rattle.map_object.specs.MapObject.{value_at};
 
 use crate::base::Base;
+use crate::change::Change;
 use crate::differences::{
     Changes, difference, pairs_from, value_at, value_from, value_gone, value_put, write_with_value,
 };
@@ -192,46 +193,54 @@ impl Form {
         })
     }
 
-    /// Becomes what `with` returns of the form before a call that changes the value of at most this
-    /// key, or of none if none is given. It costs as much as it copies: the bits of the calls taken,
-    /// and the pairs that differ from those at the start. Only the pair that changed is mixed again.
-    /// It takes memory only if it has less room than that. On `Memory` it is any form.
+    /// Becomes the form after a call that makes this change, or none. It costs as much as it copies:
+    /// the bits of the calls taken, and the pairs that differ from those at the start. Only the pair
+    /// that changed is mixed again. It takes memory only if it has less room than that. On `Memory`
+    /// it is any form.
     pub(crate) fn follow(
         &mut self,
         before: &Form,
         base: &Base,
         place: u32,
-        key: Option<u64>,
-        after: &SortedMap,
+        change: Option<Change>,
     ) -> Result<(), Memory>
         requires new { Contains before.now.taken place → ⊥ }
         requires kept { IsKept base.now before.now }
-        requires others { AgreeBut key (configuration_from base.now before.now).pairs after.now }
         ensures kept { OnOk result (IsKept base.now self.new) }
         ensures is { OnOk result (configuration_from base.now self.new
-            ≡ after_one (configuration_from base.now before.now) place after.now) }
+            ≡ after_one (configuration_from base.now before.now) place
+            (changed change (configuration_from base.now before.now).pairs)) }
     {
         let room = self.places.take_room();
         self.places = before.places.with_in(room, place as usize)?;
         let digest = before.digest.wrapping_add(mix(place as u64 + 1));
-        let Some(key) = key else {
+        let Some(change) = change else {
             write_copy(&mut self.put, &before.put)?;
             write_copy(&mut self.gone, &before.gone)?;
             self.digest = digest;
             return Ok(());
         };
-        let first = base.value(key);
+        let first = base.value(change.key);
         let was = value_from(
             first,
-            value_at(&before.put, key),
-            value_at(&before.gone, key),
+            value_at(&before.put, change.key),
+            value_at(&before.gone, change.key),
         );
-        let value = after.value(key);
-        write_with_value(&mut self.put, &before.put, key, value_put(first, value))?;
-        write_with_value(&mut self.gone, &before.gone, key, value_gone(first, value))?;
+        write_with_value(
+            &mut self.put,
+            &before.put,
+            change.key,
+            value_put(first, change.value),
+        )?;
+        write_with_value(
+            &mut self.gone,
+            &before.gone,
+            change.key,
+            value_gone(first, change.value),
+        )?;
         self.digest = digest
-            .wrapping_sub(mix_value(key, was))
-            .wrapping_add(mix_value(key, value));
+            .wrapping_sub(mix_value(change.key, was))
+            .wrapping_add(mix_value(change.key, change.value));
         Ok(())
     }
 }

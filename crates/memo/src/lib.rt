@@ -5,6 +5,7 @@
 #![tactic(auto)]
 
 mod base;
+mod change;
 mod config;
 mod differences;
 mod digests;

@@ -2,13 +2,13 @@
 ghost use Rattle.std.specs.Prelude.{◌≡◌, ◌↔◌, ◌++◌, ◌∷◌, [], length, IsTrue, IsSomeAnd, slice_get, IfOk, IfErr, OnErr, ◌⊎◌, Contains};
 ghost use Rattle.std.specs.Prelude.{if◌then◌else◌};
 ghost use Rattle.memo.specs.Counts.{AreDistinct};
-ghost use Rattle.memo.specs.Keys.{key_changed};
-ghost use Rattle.memo.specs.Taking.{after_one, IsOneMore};
+ghost use Rattle.memo.specs.Taking.{after_one, pairs_left, MayTake};
 
 use crate::base::Base;
+use crate::change::change_of;
 use crate::config::Config;
 use crate::form::Form;
-use events::{Call, Memory, Operation};
+use events::{Memory, Operation};
 use indexmap::IndexSet;
 use map_object::SortedMap;
 use std::alloc::Global;
@@ -84,29 +84,29 @@ impl Memo {
     }
 
     /// Visits the configuration after one more call, and returns whether it is new. The call is the
-    /// one at `place`. It comes after the configuration that was visited after `from` others, and
-    /// leaves the map `after`. This answers as the configuration's `with` and then `visit` would.
-    /// It looks at one pair only, the one that the call may change. So it costs as much as the
-    /// calls taken and the pairs that differ from those at the start, and not as much as the map.
-    /// On `Memory` nothing has changed.
+    /// one at `place`. It comes after the configuration that was visited after `from` others, which
+    /// holds the pairs of the map `before`. So the call need not be done on a map to find out. This
+    /// answers as the configuration's `with` and then `visit` would. It looks at one pair only, the
+    /// one that the call may change. So it costs as much as the calls taken and the pairs that differ
+    /// from those at the start, and not as much as the map. On `Memory` nothing has changed.
     pub fn visit_next(
         &mut self,
         alloc: Global,
         from: usize,
         place: u32,
         call: &Operation,
-        after: &SortedMap,
+        before: &SortedMap,
     ) -> Result<bool, Memory>
-        requires { IsSomeAnd (slice_get self.old from) (λ c. IsOneMore c place call.now after.now) }
+        requires { IsSomeAnd (slice_get self.old from) (λ c. MayTake c place before.now) }
         ensures new { IfOk result (λ new. IsSomeAnd (slice_get self.old from)
-            (λ c. IsTrue new ↔ (Contains self.old (after_one c place after.now) → ⊥))) }
+            (λ c. IsTrue new ↔ (Contains self.old (after_one c place (pairs_left before.now call.now)) → ⊥))) }
         ensures visited { IfOk result (λ new. IsSomeAnd (slice_get self.old from)
-            (λ c. self.new ≡ (if new then self.old ++ after_one c place after.now ∷ [] else self.old))) }
+            (λ c. self.new ≡ (if new then self.old ++ after_one c place (pairs_left before.now call.now) ∷ [] else self.old))) }
         ensures unchanged { OnErr result (self.new ≡ self.old) }
     {
-        let before = &self.visited.as_slice()[from];
+        let form = &self.visited.as_slice()[from];
         self.next
-            .follow(before, &self.base, place, key_changed(&call.call), after)?;
+            .follow(form, &self.base, place, change_of(before, call))?;
         add(alloc, &mut self.visited, &self.next)
     }
 
@@ -134,16 +134,6 @@ pub fn visited_at_start(alloc: Global, map: &SortedMap) -> Result<Memo, Memory>
     match memo.visit(Config::start(alloc, map)?) {
         Ok(_new) => Ok(memo),
         Err(_refused) => Err(Memory),
-    }
-}
-
-/// Returns the key whose value a call may change.
-fn key_changed(call: &Call) -> Option<u64>
-    ensures { result ≡ key_changed call.now }
-{
-    match *call {
-        Call::Insert(key, _) | Call::Remove(key) | Call::Replace(key, _, _) => Some(key),
-        Call::Get(_) | Call::Scan(_, _) => None,
     }
 }
 

@@ -58,7 +58,7 @@ pub(crate) fn make_step(
     Ok(SearchStep::Made)
 }
 
-/// Takes a call, and says whether it leads to a new configuration; else it is put back.
+/// Takes a call if it leads to a new configuration, and returns whether it does.
 fn take(
     alloc: Global,
     calls: &[Operation],
@@ -73,15 +73,14 @@ fn take(
     ensures { IfOk result (IsTaken start calls.now place standing.old standing.new) }
 {
     let call = &calls[place as usize];
-    let undo = take_call(alloc, &mut standing.map, call)?;
     let new = standing
         .memo
         .visit_next(alloc, standing.at, place, call, &standing.map)?;
     if new {
+        let undo = take_call(alloc, &mut standing.map, call)?;
         push(alloc, standing, place, undo)?;
         return Ok(true);
     }
-    undo_call(alloc, &mut standing.map, undo)?;
     Ok(false)
 }
 

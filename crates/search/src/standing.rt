@@ -161,14 +161,13 @@ fn take_next(alloc: Global, calls: &[Operation], standing: &mut Standing) -> Res
 {
     let place = standing.next;
     let call = &calls[place as usize];
-    let undo = take_call(alloc, &mut standing.map, call)?;
     let new = standing
         .memo
         .visit_next(alloc, standing.at, place, call, &standing.map)?;
     if new {
+        let undo = take_call(alloc, &mut standing.map, call)?;
         return push(calls.len() as u32, standing, place, undo);
     }
-    undo_call(alloc, &mut standing.map, undo)?;
     standing.next = standing.calls.after(place);
     Ok(())
 }

@@ -9,7 +9,7 @@ use Rattle.events.specs.declared.operation.Operation.{Operation}
 use Rattle.map_object.specs.MapObject.{Contents}
 use Rattle.orders.specs.Orders.{after_call}
 use Rattle.search.proofs.MemoLemmas.{not_new}
-use Rattle.memo.specs.Taking.{after_one}
+use Rattle.memo.specs.Taking.{after_one, pairs_left}
 use Rattle.memo.proofs.TakingLemmas.{Contains-with_place, with_place-rises}
 use Rattle.search_choices.specs.Standing.{places, IsStateBut, to_try, IsPushed}
 use Rattle.search_choices.specs.declared.branch.CallSearch.{CallSearch}
@@ -44,10 +44,9 @@ visit_next-requires g c =
     let w = c.args.standing.now in
     let s = c.requires.1.0 in
     let next = c.requires.1.1.is_next in
-    let a = c.index-calls-place.result in
     rw s.stands_at.1 (record {
       new = λ h. next.new ((s.stands_at.2.taken c.args.place).0 h);
-      after = c.in_ok-undo.ensures.after ∙ ap (λ m. after_call m a.call a.response) (s.holds ∙ sym s.stands_at.2.pairs);
+      holds = s.stands_at.2.pairs ∙ sym s.holds;
     })
 
 pub push-requires-clause-place : goal.push-requires-clause-place
@@ -63,7 +62,7 @@ pub push-requires-clause-visited : goal.push-requires-clause-visited
 push-requires-clause-visited g c =
     let w = c.args.standing.now in
     let s = c.requires.1.0 in
-    let config = after_one s.stands_at.0 c.args.place c.take_call.new.map in
+    let config = after_one s.stands_at.0 c.args.place (pairs_left w.map c.index-calls-place.result) in
     let visited_is = rw (c.if-new.true, s.stands_at.1) at c.in_ok-new.ensures.visited in
     omega (arith, ap length visited_is, length-append w.memo (config ∷ []))
 
@@ -79,13 +78,14 @@ returns-then-new g c =
     let here : slice_get calls c.args.place ≡ Some a = slice_get_read calls (length calls) c.args.place a refl lt c.index-calls-place.is in
     let same = same_Some next.call a (sym next.here ∙ here) in
     let after_is = same_call w.map c.take_call.new.map a next.call same c.in_ok-undo.ensures.after in
+    let left_is = same_call w.map (pairs_left w.map a) a next.call same refl in
     let before = s.stands_at.0 in
-    let config = after_one before c.args.place c.take_call.new.map in
+    let config = after_one before c.args.place (pairs_left w.map a) in
     let pairs_before = s.stands_at.2.pairs ∙ sym s.holds in
     let leads =
     LeadsTo-push g.start calls (places w.levels.items) c.args.place next.call before config s.stands_at.2 next.here
     (with_place-rises before.taken c.args.place s.stands_at.2.rising) (Contains-with_place before.taken c.args.place)
-    (after_is ∙ ap (λ m. after_call m next.call.call next.call.response) (sym pairs_before)) in
+    (left_is ∙ ap (λ m. after_call m next.call.call next.call.response) (sym pairs_before)) in
     let visited_is = rw (c.if-new.true, s.stands_at.1) at c.in_ok-new.ensures.visited in
     let p = c.in_ok-push.ensures in
     let level : Branch = record { place = c.args.place; undo = c.in_ok-undo.undo; at = w.at; rest = w.rest } in
@@ -114,19 +114,17 @@ returns g c =
     let lt = slice_get_within calls c.args.place next.call next.here in
     let here : slice_get calls c.args.place ≡ Some a = slice_get_read calls (length calls) c.args.place a refl lt c.index-calls-place.is in
     let same = same_Some next.call a (sym next.here ∙ here) in
-    let after_is = same_call w.map c.take_call.new.map a next.call same c.in_ok-undo.ensures.after in
+    let left_is = same_call w.map (pairs_left w.map a) a next.call same refl in
     let before = s.stands_at.0 in
-    let config = after_one before c.args.place c.take_call.new.map in
+    let config = after_one before c.args.place (pairs_left w.map a) in
     let pairs_before = s.stands_at.2.pairs ∙ sym s.holds in
     let leads =
     LeadsTo-push g.start calls (places w.levels.items) c.args.place next.call before config s.stands_at.2 next.here
     (with_place-rises before.taken c.args.place s.stands_at.2.rising) (Contains-with_place before.taken c.args.place)
-    (after_is ∙ ap (λ m. after_call m next.call.call next.call.response) (sym pairs_before)) in
+    (left_is ∙ ap (λ m. after_call m next.call.call next.call.response) (sym pairs_before)) in
     let visited_is = rw (c.if-new.false, s.stands_at.1) at c.in_ok-new.ensures.visited in
-    let within : Contains w.memo config = not_new config w.memo c.in_ok-new.new (rw s.stands_at.1 at c.in_ok-new.ensures.new) c.if-new.false in
-    let pairs_back = c.in_ok-undo_call.ensures ∙ c.in_ok-undo.ensures.undo in (
-      subst (λ m. IsStateBut g.start calls w.levels.items w.at m c.visit_next.new.self w.taken.items w.low) (sym pairs_back)
-          (subst (λ vs. IsStateBut g.start calls w.levels.items w.at w.map vs w.taken.items w.low) (sym visited_is) s),
+    let within : Contains w.memo config = not_new config w.memo c.in_ok-new.new (rw s.stands_at.1 at c.in_ok-new.ensures.new) c.if-new.false in (
+      subst (λ vs. IsStateBut g.start calls w.levels.items w.at w.map vs w.taken.items w.low) (sym visited_is) s,
       visited_is,
       refl,
       refl,

@@ -1,7 +1,7 @@
 use Rattle.search.proofs.Common.{Result, Ok, Err, ◌≡◌, false, ◌+◌, [], ◌∷◌, ◌++◌, Some, length, refl, sym, ap, ◌∙◌, subst, inl, inr, arith, slice_get}
 use Rattle.search.proofs.Common.{slice_index, Contains, OnOk, length-append, slice_get_read, LeadsTo, after_call, Level, unlinked, Standing, places}
 use Rattle.search.proofs.Common.{HasMoved, IsPushed}
-use Rattle.memo.specs.Taking.{after_one}
+use Rattle.memo.specs.Taking.{after_one, pairs_left}
 use Rattle.memo.proofs.TakingLemmas.{Contains-with_place, with_place-rises}
 use Rattle.search.proofs.MemoLemmas.{not_new}
 use Rattle.search.proofs.WalkLemmas.{IsStateBut-passed, untried-passed, LeadsTo-taken, cursor-seen, IsStateBut-push, untried-pushed, places-push}
@@ -17,10 +17,9 @@ pub visit_next-requires : goal.visit_next-requires
 visit_next-requires g c =
     let w = c.args.standing.now in
     let s = c.requires.1.1.0 in
-    let a = c.index-calls-place.result in
     rw s.stands_at.1 (record {
       new = λ h. s.left c.requires.1.1.1.0.known ((s.stands_at.2.taken w.next).0 h);
-      after = c.in_ok-undo.ensures.after ∙ ap (λ m. after_call m a.call a.response) (s.holds ∙ sym s.stands_at.2.pairs);
+      holds = s.stands_at.2.pairs ∙ sym s.holds;
     })
 
 pub push-requires : goal.push-requires
@@ -28,7 +27,7 @@ push-requires g c =
     let w = c.args.standing.now in
     let s = c.requires.1.1.0 in
     let known = c.requires.1.1.1.0.known in
-    let config = after_one s.stands_at.0 w.next c.take_call.new.map in
+    let config = after_one s.stands_at.0 w.next (pairs_left w.map c.index-calls-place.result) in
     let visited_is = rw (c.if-new.true, s.stands_at.1) at c.in_ok-new.ensures.visited in
     record {
       size = omega (arith, s.links.number_size);
@@ -49,13 +48,12 @@ returns g c =
     let a = c.index-calls-place.result in
     let here : slice_get calls w.next ≡ Some a = slice_get_read calls (length calls) w.next a refl may.known c.index-calls-place.is in
     let before = s.stands_at.0 in
-    let config = after_one before w.next c.take_call.new.map in
+    let config = after_one before w.next (pairs_left w.map a) in
     let legal = rw here at c.requires.1.1.1.1 in
     let leads =
     LeadsTo-taken g.start calls c.requires.1.0 w.levels.items w.next w.at w.map w.memo w.calls w.answers s may.known may.not_order a here
     may.preceded legal
-    before config s.stands_at.1 (with_place-rises before.taken w.next s.stands_at.2.rising) (Contains-with_place before.taken w.next)
-    c.in_ok-undo.ensures.after in
+    before config s.stands_at.1 (with_place-rises before.taken w.next s.stands_at.2.rising) (Contains-with_place before.taken w.next) refl in
     let visited_is = rw (c.if-new.false, s.stands_at.1) at c.in_ok-new.ensures.visited in
     let within : Contains w.memo config = not_new config w.memo c.in_ok-new.new (rw s.stands_at.1 at c.in_ok-new.ensures.new) c.if-new.false in
     let cursor =
@@ -70,11 +68,9 @@ returns g c =
     record {
       stands =
           IsStateBut-same g.start calls w.levels.items w.levels.items
-          (slice_index w.calls.after w.next) c.after-standing.result w.at w.at w.map c.undo_call.new.map w.memo
+          (slice_index w.calls.after w.next) c.after-standing.result w.at w.at w.map w.map w.memo
           c.visit_next.new.self w.calls w.calls
-          w.answers w.answers refl c.after-standing.ensures.after refl
-          (c.in_ok-undo_call.ensures ∙ c.in_ok-undo.ensures.undo)
-          visited_is refl refl stands;
+          w.answers w.answers refl c.after-standing.ensures.after refl refl visited_is refl refl stands;
       progress = inl (visited_is, rw c.after-standing.ensures.after less);
     }
 
@@ -87,13 +83,12 @@ returns-then-new g c =
     let a = c.index-calls-place.result in
     let here : slice_get calls w.next ≡ Some a = slice_get_read calls (length calls) w.next a refl may.known c.index-calls-place.is in
     let before = s.stands_at.0 in
-    let config = after_one before w.next c.take_call.new.map in
+    let config = after_one before w.next (pairs_left w.map a) in
     let legal = rw here at c.requires.1.1.1.1 in
     let leads =
     LeadsTo-taken g.start calls c.requires.1.0 w.levels.items w.next w.at w.map w.memo w.calls w.answers s may.known may.not_order a here
     may.preceded legal
-    before config s.stands_at.1 (with_place-rises before.taken w.next s.stands_at.2.rising) (Contains-with_place before.taken w.next)
-    c.in_ok-undo.ensures.after in
+    before config s.stands_at.1 (with_place-rises before.taken w.next s.stands_at.2.rising) (Contains-with_place before.taken w.next) refl in
     let visited_is = rw (c.if-new.true, s.stands_at.1) at c.in_ok-new.ensures.visited in
     let new = (rw s.stands_at.1 at c.in_ok-new.ensures.new).0 c.if-new.true in
     let level : Level = record { place = w.next; undo = c.in_ok-undo.undo; at = w.at } in
