@@ -1,5 +1,5 @@
 use Rattle.search.proofs.Common.{Result, Ok, Err, ◌≡◌, false, ◌+◌, [], ◌∷◌, ◌++◌, Some, length, refl, sym, ap, ◌∙◌, subst, inl, inr, arith, slice_get}
-use Rattle.search.proofs.Common.{slice_index, Contains, OnOk, length-append, slice_get_read, LeadsTo, after_call, Level, unlinked, Standing, places}
+use Rattle.search.proofs.Common.{slice_index, Contains, OnOk, length-append, slice_get_read, LeadsTo, Level, unlinked, Standing, places}
 use Rattle.search.proofs.Common.{HasMoved, IsPushed}
 use Rattle.memo.specs.Taking.{after_one, pairs_left}
 use Rattle.memo.proofs.TakingLemmas.{Contains-with_place, with_place-rises}

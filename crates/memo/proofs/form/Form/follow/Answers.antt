@@ -1,9 +1,8 @@
-use Rattle.memo.proofs.Common.{◌≡◌, ◌∙◌, ℕ, ◌+◌, ◌-◌, ◌%◌, ◌^◌, ◌<◌, Option, Some, ap, sym, subst, rules, Contents, IsRising, value_at, with_value}
+use Rattle.memo.proofs.Common.{◌≡◌, ◌∙◌, ℕ, ◌+◌, ◌-◌, ◌%◌, ◌^◌, ◌<◌, Option, Some, ap, sym, rules, Contents, IsRising, value_at, with_value}
 use Rattle.memo.proofs.Common.{value_put, value_gone, value_from, Kept, configuration_from, changed, after_one, with_place}
 use Rattle.memo.proofs.DifferenceLemmas.{pairs_from-rises}
 use Rattle.memo.proofs.KeptLemmas.{IsKept-unchanged, IsKept-changed, configuration_from-changed}
 use Rattle.memo.proofs.ValueLemmas.{value_at-own, value_at-other, with_value-rises}
-use Rattle.memo.specs.declared.change.Change.{Change}
 use Rattle.memo.proofs.form.Form.follow.Goals as goal
 
 -- the call changed nothing
