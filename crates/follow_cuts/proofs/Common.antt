@@ -33,8 +33,8 @@ pub use Rattle.map_object.specs.MapObject.{Contents, is_just, is_none_or_other, 
 pub use Rattle.orders.specs.Orders.{IsLegalCall, after_call}
 pub use Rattle.call_effects.specs.Replies.{IsRead, says_unchanged}
 pub use Rattle.follow_cuts.specs.PartCuts.{AreCut, AreEnough, AreShaped, Becomes, IsCutAt, IsMade, found_at, kept_of}
-pub use Rattle.follow_cuts.specs.Positions.{AreAdded, AreBranchKeys, AreEnded, AreMadeOf, AreNexts, ArePositionsAlike, BecomesAfter, DoesNotTie}
-pub use Rattle.follow_cuts.specs.Positions.{EndsFirst, HasBranchKey, HasSomeOf, HaveGoneOn, IsAdded, IsAfterTaking, IsAtStart, IsBranchAt, IsBranching}
+pub use Rattle.follow_cuts.specs.Positions.{AreAdded, AreBranchKeys, AreEnded, AreMadeOf, AreNexts, ArePositionsAlike, AreTaken, BecomesAfter}
+pub use Rattle.follow_cuts.specs.Positions.{DoesNotTie, EndsFirst, HasBranchKey, HasSomeOf, HaveGoneOn, IsAdded, IsAfterTaking, IsAtStart, IsBranchAt, IsBranching}
 pub use Rattle.follow_cuts.specs.Positions.{IsCopy, IsFirstEnded, IsFirstEndedIn, IsFrom, IsLeftAt, IsNextAt, IsPastAt, IsReadAt, IsWalkFrom, MayComeAt}
 pub use Rattle.follow_cuts.specs.Positions.{calls_of, kept_at, kept_in, left_of}
 pub use Rattle.follow_cuts.specs.declared.branching.Branching.{Branching}

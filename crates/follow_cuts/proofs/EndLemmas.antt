@@ -3,7 +3,7 @@ use Rattle.follow_cuts.proofs.Common.{◌≡◌, ℕ, ◌+◌, ◌<◌, ◌≤�
 use Rattle.follow_cuts.proofs.Common.{sym, ap, ◌∙◌, subst, ⊎_elim, arith, ◌⊎◌, All, AllPairs, Contains, IfSome, MatchOption, slice_get, le-ltb}
 use Rattle.follow_cuts.proofs.Common.{cases_lt, both_ways, same_Some, slice_get_within, All-at, All-from_contains, AllPairs-at, Operation, Response}
 use Rattle.follow_cuts.proofs.Common.{is_before, NonePrecedesItself, precedes, Contents, concerns_key, place_of, left_of, IsLeftAt, IsFirstEnded}
-use Rattle.follow_cuts.proofs.Common.{EndsFirst, DoesNotTie, AreBranchKeys, IsBranching, HasBranchKey, IsBranchAt, MayComeAt, IsReadAt, kept_at}
+use Rattle.follow_cuts.proofs.Common.{EndsFirst, AreTaken, DoesNotTie, AreBranchKeys, IsBranching, HasBranchKey, IsBranchAt, MayComeAt, IsReadAt, kept_at}
 use Rattle.follow_cuts.proofs.Common.{Branching, Position, IsRead}
 use Rattle.follow_cuts.proofs.LeftLemmas.{left_there, left_in}
 use Rattle.follow_cuts.proofs.StepLemmas.{before_less}
@@ -45,6 +45,22 @@ ends_skip calls taken moment size earliest first late so_far = record {
       (λ lt. so_far.before n o lt is_left)
       (λ same. late o (subst (λ (m : ℕ). IsLeftAt calls taken m o) same is_left))
       (last_or_before n size less);
+  is = so_far.is;
+}
+
+-- none of the calls that are taken is left
+pub none_left_there : (calls : List Operation) (taken : List Bool) (from to n : ℕ) (o : Operation) → AreTaken taken from to → from ≤ n → n < to
+    → IsLeftAt calls taken n o → ⊥
+none_left_there calls taken from to n o are ge less is_left = both_ways (get_or taken n false) is_left.free (are.each n ge less)
+
+pub ends_taken : (calls : List Operation) (taken : List Bool) (moment size to earliest : ℕ) (first : Option (ℕ × ℕ))
+    → AreTaken taken size to → EndsSoFar calls taken moment size earliest first → EndsSoFar calls taken moment to earliest first
+ends_taken calls taken moment size to earliest first are so_far = record {
+  within = so_far.within;
+  before = λ n o less is_left. ⊎_elim
+      (λ lt. so_far.before n o lt is_left)
+      (λ ge. absurd (none_left_there calls taken size to n o are ge less is_left))
+      (cases_lt n size);
   is = so_far.is;
 }
 
@@ -127,12 +143,12 @@ not_tied_more calls taken size answered keys pairs a here alone so_far n o less 
     subst (DoesNotTie keys pairs) one alone)
     (last_or_before n size less)
 
-pub not_tied_taken : (calls : List Operation) (taken : List Bool) (size answered : ℕ) (keys : List ℕ) (pairs : Contents)
-    → get_or taken size false ≡ true → NoneTies calls taken size answered keys pairs → NoneTies calls taken (size + 1) answered keys pairs
-not_tied_taken calls taken size answered keys pairs mark so_far n o less is_left early = ⊎_elim
+pub not_tied_taken : (calls : List Operation) (taken : List Bool) (size to answered : ℕ) (keys : List ℕ) (pairs : Contents)
+    → AreTaken taken size to → NoneTies calls taken size answered keys pairs → NoneTies calls taken to answered keys pairs
+not_tied_taken calls taken size to answered keys pairs are so_far n o less is_left early = ⊎_elim
     (λ lt. so_far n o lt is_left early)
-    (λ same. absurd (both_ways (get_or taken size false) (ap (λ (m : ℕ). get_or taken m false) (sym same) ∙ is_left.free) mark))
-    (last_or_before n size less)
+    (λ ge. absurd (none_left_there calls taken size to n o are ge less is_left))
+    (cases_lt n size)
 
 pub not_tied_after : (calls : List Operation) (taken : List Bool) (size answered : ℕ) (keys : List ℕ) (pairs : Contents) (a : Operation)
     → AllPairs (λ a b. a.inv < b.inv) calls → slice_get calls size ≡ Some a → answered < a.inv → NoneTies calls taken size answered keys pairs

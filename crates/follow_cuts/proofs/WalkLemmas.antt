@@ -5,13 +5,13 @@ use Rattle.follow_cuts.proofs.Common.{map-append, map_push, length-set, cases_lt
 use Rattle.follow_cuts.proofs.Common.{Contains-append_left, Contains-push, Contains-push_cases, Contains-map, Contains-from_map, Contains-nil}
 use Rattle.follow_cuts.proofs.Common.{Operation, is_before, Contents, IsRead, KeptPast, IsPastAfter, AreKeptAlike, HasInvocation, found_at, kept_of}
 use Rattle.follow_cuts.proofs.Common.{Becomes, AreEnough, IsCutAt, left_of, kept_at, calls_of, kept_in, IsFrom, IsWalkFrom, IsCopy, IsAfterTaking}
-use Rattle.follow_cuts.proofs.Common.{ArePositionsAlike, IsAdded, IsFirstEnded, IsFirstEndedIn, IsBranching, IsBranchAt, IsNextAt, MayComeAt, IsReadAt}
+use Rattle.follow_cuts.proofs.Common.{ArePositionsAlike, AreTaken, IsAdded, IsFirstEnded, IsFirstEndedIn, IsBranching, IsBranchAt, IsNextAt, MayComeAt, IsReadAt}
 use Rattle.follow_cuts.proofs.Common.{AreNexts, BecomesAfter, AreAdded, AreEnded, HaveGoneOn, Found, Past, Position, Branching}
 use Rattle.follow_cuts.proofs.LeftLemmas.{left_there, left_in, past_after, made_after}
 use Rattle.follow_cuts.proofs.LeadLemmas.{enough_all, enough_through, enough_both, enough_without, enough_turned, enough_become, becomes_itself}
 use Rattle.follow_cuts.proofs.LeadLemmas.{becomes_then, becomes_both}
 use Rattle.follow_cuts.proofs.StepLemmas.{branch_becomes, read_becomes}
-use Rattle.follow_cuts.proofs.EndLemmas.{last_or_before, ends_first}
+use Rattle.follow_cuts.proofs.EndLemmas.{last_or_before, ends_first, none_left_there}
 
 -- ---- the position of a walk
 
@@ -124,6 +124,21 @@ branched_skip pasts b calls position size old new none so_far = record {
         (λ lt. so_far.are.forth n lt may)
         (λ same. absurd (none (subst (IsBranchAt b calls position) same may)))
         (last_or_before n size less);
+    back = so_far.are.back;
+  };
+  added = so_far.added;
+}
+
+pub branched_taken : (pasts : List Past) (b : Branching) (calls : List Operation) (position : Position) (size to : ℕ) (old new : List Position)
+    → AreTaken position.taken.items size to → IsBranchedBelow pasts b calls position size old new
+    → IsBranchedBelow pasts b calls position to old new
+branched_taken pasts b calls position size to old new are_taken so_far = record {
+  nexts = so_far.nexts;
+  are = record {
+    forth = λ n less may. ⊎_elim
+        (λ lt. so_far.are.forth n lt may)
+        (λ ge. absurd (none_left_there calls position.taken.items size to n may.may.call are_taken ge less may.may.is_left))
+        (cases_lt n size);
     back = so_far.are.back;
   };
   added = so_far.added;

@@ -28,6 +28,12 @@ pub record IsLeftAt (calls : List Operation) (taken : List Bool) (n : ℕ) (o : 
   pub here : slice_get calls n ≡ Some o
   pub free : slice_index_or taken n false ≡ false
 
+-- the calls from one place to before a later one are taken
+pub record AreTaken (taken : List Bool) (from to : ℕ) : Type 0 where
+  pub later : from < to
+  pub within : to ≤ length taken
+  pub each : (n : ℕ) → from ≤ n → n < to → slice_index_or taken n false ≡ true
+
 -- what is kept of a past at a position of a walk from some calls
 abbrev pub kept_at : List Operation → Position → KeptPast
 kept_at calls position =

@@ -5,7 +5,7 @@ ghost use Rattle.map_object.specs.MapObject.{value_at};
 ghost use Rattle.follow_laws.specs.KeyedCalls.{concerns_key, effect_at, read_of};
 ghost use Rattle.follow_cuts.specs.Positions.{AreBranchKeys, DoesNotTie, EndsFirst, HasBranchKey, HasSomeOf, IsBranching, IsFirstEnded, IsLeftAt, Misses, MissesSomeOf, kept_at, left_of};
 
-use crate::position::Position;
+use crate::position::{Position, after_taken};
 use events::{Call, Memory, Operation, Reply};
 use map_object::SortedMap;
 use std::alloc::Global;
@@ -92,8 +92,10 @@ fn tying_call(
     ensures none { IsNone result → (n : ℕ) (o : Done) → IsLeftAt calls.now position.now.taken.items n o
         → o.inv ≤ answered → DoesNotTie keys.now position.now.map o }
 {
-    for place in 0..calls.len() {
+    let mut place = 0;
+    while place < calls.len() {
         if position.taken[place] {
+            place = after_taken(&position.taken, place);
             continue;
         }
         let call = &calls[place];
@@ -103,6 +105,7 @@ fn tying_call(
         if ties(call, keys, &position.map) {
             return Some(place);
         }
+        place += 1;
     }
     None
 }

@@ -1,7 +1,7 @@
 // How far a walk from a past has come.
-ghost use Rattle.std.specs.Prelude.{◌≡◌, ◌↔◌, ◌<◌, length, Contains, IfOk, IsTrue, OnOk};
+ghost use Rattle.std.specs.Prelude.{◌≡◌, ◌↔◌, ◌<◌, true, false, length, slice_index_or, Contains, IfOk, IsTrue, OnOk};
 ghost use Rattle.follow_cuts.specs.declared.past.Found.{Found as FoundValue};
-ghost use Rattle.follow_cuts.specs.Positions.{ArePositionsAlike, IsAfterTaking, IsAtStart, IsCopy};
+ghost use Rattle.follow_cuts.specs.Positions.{ArePositionsAlike, AreTaken, IsAfterTaking, IsAtStart, IsCopy};
 
 use crate::past::{Found, Past};
 use events::{Memory, Operation};
@@ -78,6 +78,24 @@ pub(crate) fn take(
     Ok(())
 }
 
+/// How many marks are looked at in one step.
+const MANY: usize = 16;
+
+/// A place after one at which a call is taken. Between the two all calls are taken. It is the next
+/// place, unless as many calls as are looked at in one step follow that are all taken.
+pub(crate) fn after_taken(taken: &[bool], place: usize) -> usize
+    requires known { place < length taken.now }
+    requires taken { slice_index_or taken.now place false ≡ true }
+    ensures { AreTaken taken.now place result }
+{
+    let many = [true; MANY];
+    let mut end = place + 1;
+    while end + MANY <= taken.len() && taken[end..end + MANY] == many[..] {
+        end += MANY;
+    }
+    end
+}
+
 /// Whether two positions are alike: walks from one past that took the same calls, came to the same
 /// map, and found the same.
 pub(crate) fn are_alike(one: &Position, other: &Position) -> bool
@@ -99,15 +117,7 @@ pub(crate) fn are_alike(one: &Position, other: &Position) -> bool
 fn have_same_marks(one: &[bool], other: &[bool]) -> bool
     ensures { IsTrue result → one.now ≡ other.now }
 {
-    if one.len() != other.len() {
-        return false;
-    }
-    for place in 0..one.len() {
-        if one[place] != other[place] {
-            return false;
-        }
-    }
-    true
+    one == other
 }
 
 /// Whether two maps hold the same.

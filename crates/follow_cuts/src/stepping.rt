@@ -10,7 +10,7 @@ ghost use Rattle.follow_cuts.specs.Positions.{AreAdded, AreNexts, BecomesAfter, 
 use crate::branching::{Branching, branching_at, has_branch_key};
 use crate::levels::add_new;
 use crate::past::Past;
-use crate::position::{Position, copied, take};
+use crate::position::{Position, after_taken, copied, take};
 use call_effects::is_read;
 use events::{Memory, Operation};
 use orders::may_come_next;
@@ -32,8 +32,10 @@ pub(crate) fn first_ended(
 {
     let mut first = None;
     let mut earliest = moment;
-    for place in 0..calls.len() {
+    let mut place = 0;
+    while place < calls.len() {
         if taken[place] {
+            place = after_taken(taken, place);
             continue;
         }
         if earliest <= calls[place].inv {
@@ -44,6 +46,7 @@ pub(crate) fn first_ended(
             earliest = answered;
             first = Some((place, answered));
         }
+        place += 1;
     }
     first
 }
@@ -74,8 +77,10 @@ pub(crate) fn next_read(calls: &[Operation], position: &Position, answered: usiz
     requires marks { length position.now.taken.items ≡ length calls.now }
     ensures { IfSome result (IsReadAt answered calls.now position.now) }
 {
-    for place in 0..calls.len() {
+    let mut place = 0;
+    while place < calls.len() {
         if position.taken[place] {
+            place = after_taken(&position.taken, place);
             continue;
         }
         let call = &calls[place];
@@ -83,11 +88,13 @@ pub(crate) fn next_read(calls: &[Operation], position: &Position, answered: usiz
             return None;
         }
         if !is_read(call) {
+            place += 1;
             continue;
         }
         if may_come(calls, position, place, answered) {
             return Some(place);
         }
+        place += 1;
     }
     None
 }
@@ -129,8 +136,10 @@ fn branch_by(
         × AreAdded pasts.now nexts next.old.items next.new.items) }
 {
     let calls = pasts[position.base].calls.as_slice();
-    for place in 0..calls.len() {
+    let mut place = 0;
+    while place < calls.len() {
         if position.taken[place] {
+            place = after_taken(&position.taken, place);
             continue;
         }
         if branching.answered < calls[place].inv {
@@ -141,6 +150,7 @@ fn branch_by(
             take(alloc, &mut after, &calls[place], place)?;
             add_new(next, after)?;
         }
+        place += 1;
     }
     Ok(())
 }

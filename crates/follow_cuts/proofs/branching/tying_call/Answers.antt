@@ -1,4 +1,4 @@
-use Rattle.follow_cuts.proofs.Common.{◌≡◌, Some, false, length, refl, ◌∙◌, arith, slice_get, slice_get_read, slice_get_within, get_or_from_slice_get}
+use Rattle.follow_cuts.proofs.Common.{AreTaken, Bool, ◌≡◌, Some, false, length, refl, ◌∙◌, subst, List, arith, slice_get, slice_get_read, slice_get_within, get_or_from_slice_get}
 use Rattle.follow_cuts.proofs.EndLemmas.{not_tied_after, not_tied_more, not_tied_taken}
 use Rattle.follow_cuts.proofs.branching.tying_call.Goals as goal
 
@@ -12,14 +12,9 @@ returns-then-answered-call-clause-none c =
 
 pub loop-place-preserved-then-index : goal.loop-place-preserved-then-index
 loop-place-preserved-then-index c =
-    let calls = c.args.calls.now in
-    let n = c.loop-place.place in
-    let taken = c.args.position.now.taken.items in
-    let mark = c.index.result.now in
-    let marked : slice_get taken n ≡ Some mark =
-    slice_get_read taken (length taken) n mark refl (omega (arith, c.loop-place-test.true, c.requires.marks)) c.index.ensures in
-    not_tied_taken calls taken n c.args.answered c.args.keys.now c.args.position.now.map
-    (get_or_from_slice_get taken n mark false marked ∙ c.if-index.true) c.loop-place.invariant
+    not_tied_taken c.args.calls.now c.args.position.now.taken.items c.loop-place.place c.after_taken-place.result c.args.answered c.args.keys.now
+    c.args.position.now.map (subst (λ (l : List Bool). AreTaken l c.loop-place.place c.after_taken-place.result)
+    (c.deref.ensures.value) c.after_taken-place.ensures) c.loop-place.invariant
 
 pub loop-place-preserved : goal.loop-place-preserved
 loop-place-preserved c =

@@ -1,8 +1,8 @@
-use Rattle.follow_cuts.proofs.Common.{◌≡◌, ◌<◌, ◌≤◌, Some, List, false, get_or, length, refl, sym, ap, ◌∙◌, subst, arith, slice_get, both_ways}
+use Rattle.follow_cuts.proofs.Common.{AreTaken, Bool, ◌≡◌, ◌<◌, ◌≤◌, Some, List, false, get_or, length, refl, sym, ap, ◌∙◌, subst, arith, slice_get, both_ways}
 use Rattle.follow_cuts.proofs.Common.{slice_get_read, slice_get_within, get_or_from_slice_get, All-at, Operation, Past}
 use Rattle.follow_cuts.proofs.EndLemmas.{begins_later}
 use Rattle.follow_cuts.proofs.MadeLemmas.{IsShaped}
-use Rattle.follow_cuts.proofs.WalkLemmas.{IsBranchedBelow, branched_none, branched_skip, branched_more, branched_all, marks_here, past_there}
+use Rattle.follow_cuts.proofs.WalkLemmas.{IsBranchedBelow, branched_none, branched_skip, branched_taken, branched_more, branched_all, marks_here, past_there}
 use Rattle.follow_cuts.proofs.stepping.branch_by.Goals.{then-is_branch+in_ok-after+in_ok-take+in_ok-add_new, else-is_branch}
 use Rattle.follow_cuts.proofs.stepping.branch_by.Goals as goal
 
@@ -21,22 +21,9 @@ is_branch-requires-clause-marks c =
 
 pub loop-place-preserved-then-index : goal.loop-place-preserved-then-index
 loop-place-preserved-then-index c =
-    let pasts = c.args.pasts.now in
-    let past = c.index-pasts-position.result in
-    let position = c.args.position.now in
-    let calls = c.as_slice-calls.result.now in
-    let n = c.loop-place.place in
-    let taken = position.taken.items in
-    let mark = c.index.result.now in
-    let here : slice_get pasts position.base ≡ Some past =
-    slice_get_read pasts (length pasts) position.base past refl (past_there pasts position c.requires.from_past) c.index-pasts-position.is in
-    let same : calls ≡ past.calls.items = c.as_slice-calls.ensures.value ∙ ap (λ (p : Past). p.calls.items) (sym c.index-pasts-position.is) in
-    let marks : length taken ≡ length calls = marks_here pasts past position here c.requires.from_past ∙ ap length (sym same) in
-    let marked : slice_get taken n ≡ Some mark =
-    slice_get_read taken (length taken) n mark refl (omega (arith, c.loop-place-test.true, marks)) c.index.ensures in
-    branched_skip pasts c.args.branching.now calls position n c.args.next.now.items c.loop-place.next.items
-    (λ may. both_ways (get_or taken n false) may.may.is_left.free (get_or_from_slice_get taken n mark false marked ∙ c.if-index.true))
-    c.loop-place.invariant
+    branched_taken c.args.pasts.now c.args.branching.now c.as_slice-calls.result.now c.args.position.now c.loop-place.place
+    c.after_taken-place.result c.args.next.now.items c.loop-place.next.items (subst (λ (l : List Bool). AreTaken l c.loop-place.place c.after_taken-place.result)
+    (c.deref.ensures.value) c.after_taken-place.ensures) c.loop-place.invariant
 
 pub take-requires : goal.take-requires
 take-requires c =

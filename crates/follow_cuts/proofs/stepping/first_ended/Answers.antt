@@ -1,6 +1,6 @@
 use Rattle.follow_cuts.proofs.Common.{◌≡◌, ◌≤◌, Some, false, get_or, length, refl, sym, ◌∙◌, subst, arith, slice_get, both_ways, slice_get_read}
 use Rattle.follow_cuts.proofs.Common.{same_Some, Operation, is_before}
-use Rattle.follow_cuts.proofs.EndLemmas.{ends_skip, ends_take, ends_here, ends_all}
+use Rattle.follow_cuts.proofs.EndLemmas.{ends_skip, ends_taken, ends_take, ends_here, ends_all}
 use Rattle.follow_cuts.proofs.stepping.first_ended.Goals.{then-answered-earliest, else-answered-earliest}
 use Rattle.follow_cuts.proofs.stepping.first_ended.Goals as goal
 
@@ -15,10 +15,8 @@ returns-then-earliest-calls c =
 
 pub loop-place-preserved-then-taken-place : goal.loop-place-preserved-then-taken-place
 loop-place-preserved-then-taken-place c =
-    let taken = c.args.taken.now in
-    let n = c.loop-place.place in
-    ends_skip c.args.calls.now taken c.args.moment n c.loop-place.earliest c.loop-place.first
-    (λ o is_left. absurd (both_ways (get_or taken n false) is_left.free c.if-taken-place.true)) c.loop-place.invariant
+    ends_taken c.args.calls.now c.args.taken.now c.args.moment c.loop-place.place c.after_taken-place.result c.loop-place.earliest
+    c.loop-place.first c.after_taken-place.ensures c.loop-place.invariant
 
 pub loop-place-preserved : goal.loop-place-preserved
 loop-place-preserved c =
