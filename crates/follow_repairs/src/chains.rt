@@ -181,11 +181,14 @@ fn finder(
     requires { Stands calls.now front.now }
 {
     for place in front.low..calls.len() {
+        if front.has(place) {
+            continue;
+        }
         let call = &calls[place];
         if answered < call.inv {
             return None;
         }
-        if !front.has(place) && has_found(call, key, here) && !is_read(call) {
+        if has_found(call, key, here) && !is_read(call) {
             return Some(place);
         }
     }
@@ -271,11 +274,14 @@ fn writer(calls: &[Operation], front: &Front, answered: usize, need: Need) -> Op
     let mut best = None;
     let mut earliest = usize::MAX;
     for place in front.low..calls.len() {
+        if front.has(place) {
+            continue;
+        }
         let call = &calls[place];
         if answered < call.inv {
             return best;
         }
-        if front.has(place) || is_read(call) || !puts(&call.call, need) {
+        if is_read(call) || !puts(&call.call, need) {
             continue;
         }
         if best.is_none() || answer_of(call) < earliest {
@@ -311,11 +317,14 @@ fn clearing(
     let mut best = None;
     let mut earliest = usize::MAX;
     for place in front.low..calls.len() {
+        if front.has(place) {
+            continue;
+        }
         let call = &calls[place];
         if answered < call.inv {
             return best;
         }
-        if front.has(place) || is_read(call) || !puts(&call.call, none) {
+        if is_read(call) || !puts(&call.call, none) {
             continue;
         }
         if best.is_none() || answer_of(call) < earliest {

@@ -31,8 +31,8 @@ const NEAR_BUDGET: u32 = 1_000;
 
 /// Takes the last calls of the front back, guesses an order of what is left, and searches if the
 /// guess is none. It does so with more calls taken back each time, and says whether that led to an
-/// order. After the second time, the front as it was is repaired. When no call of the front would
-/// be left, it takes all back and does not search.
+/// order. After the second time, the front as it was is repaired, first in a narrow way and then in
+/// a wide one. When no call of the front would be left, it takes all back and does not search.
 pub fn search_tails(
     alloc: Global,
     calls: &[Operation],
@@ -51,14 +51,37 @@ pub fn search_tails(
     if found {
         return Ok(true);
     }
-    follow(alloc, calls, front, &last)?;
-    let repaired = repair(alloc, calls, front)?;
+    let repaired = repair_again(alloc, calls, front, &last, false)?;
     if repaired {
+        return Ok(true);
+    }
+    go_back(alloc, calls, front, len.saturating_sub(LAST))?;
+    let repaired_widely = repair_again(alloc, calls, front, &last, true)?;
+    if repaired_widely {
         return Ok(true);
     }
     go_back(alloc, calls, front, len.saturating_sub(LAST))?;
     follow(alloc, calls, front, &last)?;
     search_each(alloc, calls, front, &FAR, len, budget)
+}
+
+/// Pushes the last calls of a front again, repairs it, and says whether that led to an order.
+fn repair_again(
+    alloc: Global,
+    calls: &[Operation],
+    front: &mut Front,
+    last: &[u32],
+    is_wide: bool,
+) -> Result<bool, Memory>
+    requires calls { AreCalls calls.now }
+    requires stands { Stands calls.now front.old }
+    ensures stands { OnOk result (Stands calls.now front.new) }
+    ensures start { OnOk result (front.new.start ≡ front.old.start) }
+    ensures whole { IfOk result (λ found. found ≡ true → IsWhole calls.now front.new) }
+{
+    follow(alloc, calls, front, last)?;
+    let repaired = repair(alloc, calls, front, is_wide)?;
+    Ok(repaired)
 }
 
 /// The places of the last calls of a front.
