@@ -11,9 +11,6 @@ use Rattle.follow_parts.proofs.SettledLemmas.{ahead, any_split, beside_turned, h
 -- ---- things
 
 module _ {A : Type 0} (one : A) where
-  pub put_first : (others : List A) → IsPut one others (one ∷ others)
-  put_first others = record { front = []; back = others; before = refl; after = refl }
-
   pub put_last : (others : List A) → IsPut one others (others ++ one ∷ [])
   put_last others = record { front = others; back = []; before = sym (append-nil others); after = refl }
 

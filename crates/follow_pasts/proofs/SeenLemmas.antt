@@ -12,9 +12,6 @@ use Rattle.follow_pasts.specs.Moments.{AreBegunAfter, HaveNoRead, IsEarlier}
 use Rattle.follow_pasts.specs.declared.moments.OpenRead.{OpenRead}
 
 module _ (ranges : List Range) (lists : List (Vec OpenRead Global)) (from : ℕ) where
-  abbrev NoneAt : ℕ → Vec OpenRead Global → Type 0
-  NoneAt k list = HaveNoRead ranges list.items
-
   abbrev AfterAt : ℕ → Vec OpenRead Global → Type 0
   AfterAt moment list = AreBegunAfter ranges list.items moment
 
