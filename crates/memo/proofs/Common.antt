@@ -26,7 +26,7 @@ pub use Rattle.events.proofs.Lists.{All-from_contains, AllPairs-append, AllPairs
 pub use Rattle.events.proofs.Lists.{Contains-from_filter, Contains-later, Contains-nil, Contains-range}
 pub use Rattle.map_object.proofs.MapLemmas.{AreAbove-first, IsRising-insert, IsRising-remove, IsRising-rest, value_at_above}
 pub use Rattle.map_object.proofs.ValueLemmas.{first_value, later_value, same_pairs}
-pub use Rattle.map_object.specs.MapObject.{Contents, IsRising, above, after, after_reply, below, is_just, put, value_at}
+pub use Rattle.map_object.specs.MapObject.{Contents, IsRising, above, below, put, value_at}
 pub use Rattle.memo.specs.Configurations.{Configuration}
 pub use Rattle.memo.specs.Differences.{IsDifference, differs, put_all, value_from, value_gone, value_put, with_value}
 unfoldable pub use Rattle.memo.specs.Differences.{pairs_from}
