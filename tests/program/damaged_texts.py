@@ -5,10 +5,12 @@
 
 A text is cut, or bytes of it are doubled, swapped or flipped, up to three times; a fixed seed chooses how. Each run has to end with a status from 0
 to 3, and to write one line to standard output. For a refused text it writes one line to standard error: that of a fault in docs/FORMATS.md. What is
-drawn is one SVG, and a no of a stream has a second line. The last line counts the texts that passed and failed.
+drawn is one SVG, and a no of a stream has a second line. A text that is accepted is read and written again by Python's json, each line of a stream
+by itself. A run on that text has to end as one on the text, and to write the same. The last line counts the texts that passed and failed.
 """
 
 import concurrent.futures
+import json
 import os
 import random
 import re
@@ -47,6 +49,8 @@ REFUSED = {
 }
 ANSWERED = {name: (0,) if name in ("replay", "drive", "schedule --seed 1") else (0, 1, 2) for name in REFUSED}
 ANSWERS = {"draw": PICTURE, "page": PAGE, "follow": LINE_OR_TWO}
+# A page has the text in it, and threads of `drive` interleave as they like: instead of these runs others are compared.
+COMPARED = {"page": "judge", "drive": "schedule --seed 1"}
 # What reads an example, by the ending of its name. Of several subcommands each text is given to one.
 READERS = {"-stream.json": ("follow",), "-replay.json": ("replay",), "-plan.json": ("drive", "schedule --seed 1"), ".json": ("judge", "locate", "draw", "page")}
 
@@ -88,9 +92,19 @@ def originals():
                 yield next(READERS[ending] for ending in READERS if name.endswith(ending)), source.read()
 
 
+def run(subcommand, text):
+    return subprocess.run([PROGRAM, *subcommand.split()], input=text, capture_output=True, timeout=60, check=False)
+
+
+def rewritten(subcommand, text):
+    """A text as Python's json reads and writes it: a stream line by line, up to the line at which it may end."""
+    parts = text.split(b"\n") if subcommand == "follow" else [text]
+    return b"\n".join(json.dumps(json.loads(part.decode())).encode() if part.strip() else part for part in parts)
+
+
 def fails(subcommand, text):
     """What is wrong with the run on a text, or None."""
-    ran = subprocess.run([PROGRAM, *subcommand.split()], input=text, capture_output=True, timeout=60, check=False)
+    ran = run(subcommand, text)
     if ran.returncode in ANSWERED[subcommand]:
         wanted = ANSWERS.get(subcommand, LINE), NOTHING
     elif ran.returncode == 3:
@@ -99,6 +113,17 @@ def fails(subcommand, text):
         return f"{subcommand} of {text!r} ends with status {ran.returncode}"
     if not all(map(re.fullmatch, wanted, (ran.stdout, ran.stderr))):
         return f"{subcommand} of {text!r} writes {ran.stdout!r} and {ran.stderr!r} with status {ran.returncode}"
+    if ran.returncode == 3:
+        return None
+    try:
+        again = rewritten(subcommand, text)
+    except ValueError as error:
+        # What follows the answer at which a stream ends is not read.
+        return None if subcommand == "follow" and ran.returncode else f"{subcommand} accepts {text!r}, which json refuses: {error}"
+    compared = COMPARED.get(subcommand, subcommand)
+    first, second = ran if compared == subcommand else run(compared, text), run(compared, again)
+    if (first.returncode, first.stdout) != (second.returncode, second.stdout):
+        return f"{compared} of {text!r} writes {first.stdout!r}, and of {again!r}, which json writes for it, {second.stdout!r}"
     return None
 
 

@@ -3,11 +3,12 @@
 
     tests/program/streams.py [STREAMS]
 
-Streams are those of the examples that are not refused, and drawn ones: 5,000 if no number is given. Up to 64 processes call a map. Each call has
-its effect at a moment while it is open, and some stay open. Then answers of half of them are changed, or swapped with an event next to them. In a
-third of them some answers are partial. Of those of few calls, up to seven at once, all orders are tried here after each answer. Of the others
-`judge` says whether they have one, and `locate` at which event they lose it. If one of them is undecided, the others may say what fits. The second
-line of a no is a history without an order, from the only value of each key that is named. Standard error, which is no terminal, has nothing.
+Streams are those of the examples that are not refused, and drawn ones: 5,000 if no number is given. Up to 64 processes call a map. Each call has its
+effect at a moment while it is open, and some stay open. Then answers of half of them are changed, or swapped with an event next to them. In a third
+of them some answers are partial. Of those of few calls, up to seven at once, all orders are tried here after each answer, and `judge` and `locate`
+have to say what these say. Of the others `judge` says whether they have one, and `locate` at which event they lose it. If one of them is undecided,
+the others may say what fits. The second line of a no is a history without an order, from the only value of each key that is named. Standard error,
+which is no terminal, has nothing.
 
 Then streams are followed in which processes die. Each stops inside an insert, a remove, a replace or a get and never answers. The others call the
 map at its key thousands of times, and one of them stays long within a call now and then. Into half of these streams come wrong answers. A model
@@ -247,9 +248,10 @@ def has_order(calls, start):
     return False
 
 
-def lost_by_all_orders(history):
-    """The first event with which a history has no order, or None."""
-    start, calls, opened = tuple(map(tuple, history.get("start", []))), [], {}
+def calls_of(history):
+    """The calls of a history after each answer, with the event of this answer, and after all events, with None. Of each call: the invocation, its
+    event, the event of the answer, and the answer."""
+    calls, opened = [], {}
     for place, event in enumerate(history["events"]):
         if "invoke" in event:
             opened[event["process"]] = len(calls)
@@ -257,9 +259,39 @@ def lost_by_all_orders(history):
             continue
         number = opened.pop(event["process"])
         calls[number] = (*calls[number][:2], place, event["answer"])
-        if not has_order(calls, start):
-            return place
-    return None
+        yield place, calls
+    yield None, calls
+
+
+def start_of(history):
+    return tuple(map(tuple, history.get("start", [])))
+
+
+def lost_by_all_orders(history):
+    """The first event with which a history has no order, or None."""
+    start = start_of(history)
+    return next((place for place, calls in calls_of(history) if place is not None and not has_order(calls, start)), None)
+
+
+def is_order(history, order):
+    """Whether numbers of calls are an order of a history."""
+    *_, (_, calls) = calls_of(history)
+    held, first = dict(start_of(history)), len(history["events"])
+    for number in reversed(order):
+        _, begin, end, _ = calls[number]
+        if begin > first:
+            return False
+        first = first if end is None else min(first, end)
+    for number in order:
+        call, _, end, answer = calls[number]
+        found = dict(held)
+        given = answer_of(found, *call)
+        if end is not None and answer == "refused":
+            continue
+        if not (end is None or agrees(call, given, answer)):
+            return False
+        held = found
+    return len(set(order)) == len(order) and all(number in order for number, call in enumerate(calls) if call[2] is not None)
 
 
 def wrong_with_event(history, lines, wanted):
@@ -448,6 +480,19 @@ def verdict(history, lost=None):
     return report["verdict"], wrong and f"follow says {wrong}: {text.decode()}"
 
 
+def small_verdict(history):
+    """The same of a small history. All orders are tried, and `judge` and `locate` have to say what these say."""
+    lost = lost_by_all_orders(history)
+    found, wrong = verdict(history, lambda _: lost)
+    (judged,), (located,) = said("judge", text_of(history))[1], said("locate", text_of(history))[1]
+    wanted = "yes" if lost is None else "no"
+    if judged["verdict"] != wanted or wanted == "yes" and not is_order(history, judged["order"]):
+        wrong = wrong or f"judge says {judged} of a history that goes wrong at event {lost}: {text_of(history).decode()}"
+    if (located["verdict"], located.get("event")) != (wanted, lost):
+        wrong = wrong or f"locate says {located} of a history that goes wrong at event {lost}: {text_of(history).decode()}"
+    return found, wrong
+
+
 def decided(history, lost):
     """The same where the answer has to be yes, or no at this event."""
     found, wrong = verdict(history, lambda _: lost)
@@ -520,7 +565,7 @@ def main():
         rows = [*held_streams.rows(), *held_streams.rows_of_keys()]
         recordings = list(held_streams.recordings())
         for found, wrong in itertools.chain(
-            runs.map(verdict, judged), runs.map(verdict, small, itertools.repeat(lost_by_all_orders)),
+            runs.map(verdict, judged), runs.map(small_verdict, small),
             runs.map(verdict, deaths, itertools.repeat(lost_by_deaths)), runs.map(verdict, held, itertools.repeat(lost_by_states)),
             runs.map(row_verdict, rows), runs.map(recording_verdict, recordings),
         ):
