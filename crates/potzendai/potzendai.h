@@ -16,8 +16,8 @@
  *     assert(verdict == POTZENDAI_YES);
  *
  * A call reads a history text of docs/FORMATS.md, or potzendai_follow a stream of any length, of `text_length` bytes. The last line
- * feed may be missing. A search meets at most `budget` configurations. The call writes into the room what the program writes: a line
- * with its line feed, or the two lines that a terminal shows of a refused text. It writes a zero byte after that. If the room is too
+ * feed may be missing. A search meets at most `budget` configurations, or in a stream one more than its operations if no two of them
+ * overlap. The call writes into the room what the program writes: a line with its line feed, or the two lines that a terminal shows of a refused text. It writes a zero byte after that. If the room is too
  * small, it writes as much as leaves place for the zero byte. `*length` is the number of bytes of the whole, without the zero byte. So
  * all of it is there if `*length < room_length`. Otherwise a call with room for `*length + 1` bytes gives all of it. The call returns the
  * status.

@@ -93,7 +93,7 @@ fn moved_word(setting: &Setting, word: u64) -> u64
     child_word(setting.shape.child(word))
 }
 
-/// The stage of PAIR after its claim.
+/// Moves on to the stage that PAIR has after its claim got this number.
 fn pair_claimed(setting: &Setting, hold: &Hold, pair: &Pair, number: u64, stage: &mut Stage)
     requires { is_small_child pair.now.child ≡ true }
     ensures stage { stage.new ≡ stage_after (setting_of setting.now) (Claiming hold.now pair.now) number }

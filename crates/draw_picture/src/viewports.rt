@@ -474,7 +474,7 @@ fn cut_bar(lanes: &[u8], from: usize, to: usize, bar: Bar) -> Bar
     }
 }
 
-/// Returns the end of a bar in a viewport, if it is there.
+/// Returns where a bar ends in a viewport, if it ends there.
 fn cut_end(from: usize, to: usize, end: Option<usize>) -> Option<usize>
     ensures { result ≡ cut_end from to end }
 {

@@ -90,7 +90,7 @@ impl Seats {
     }
 }
 
-/// Returns all processes; the least one is the last.
+/// Returns the numbers of all processes, by falling number, so that the least is taken first.
 fn all_processes(alloc: Global) -> Result<Vec<u8>, Memory>
     ensures known { IfOk result (λ processes. All (λ p. p < process_limit) processes.items) }
     ensures apart { IfOk result (λ processes. AllPairs (λ p q. p ≢ q) processes.items) }

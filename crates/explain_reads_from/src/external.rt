@@ -10,8 +10,8 @@ use explain_shrink::put_of;
 use map_object::SortedMap;
 use std::alloc::Global;
 
-/// Returns the pairs of a key and a value that the calls report, and that come from outside. None
-/// of the calls may put such a pair. Either the map does not hold it at the start, or one of the
+/// Returns the pairs of a key and a value that the calls report, and that come from outside. A pair
+/// does if none of the calls may put it, and the map does not hold it at the start, or one of the
 /// calls may change its key. Each pair is listed once, by rising key, and at one key by rising
 /// value. Each pair reported is compared with each call.
 pub fn external_reads(

@@ -31,7 +31,7 @@ pub struct Limits {
 pub enum Cut {
     /// The pasts at the moment.
     Pasts(Vec<Past>),
-    /// There were more positions, or pasts, than allowed.
+    /// The limits did not suffice. Nothing is promised then.
     Spent,
 }
 

@@ -9,10 +9,10 @@
 //! Calls in turn are legal exactly if they fit at each key. A choice says which calls took effect
 //! at which keys, what they found, and what the keys hold.
 //!
-//! Also laws of what it keeps of the calls so far: parts of the keys, each with the pasts that its
-//! keys may have. Code that keeps parts sees pairs, calls and what was found. It sees no choices or
-//! orders. Of a past it keeps the pairs of a map of its keys, the calls that are left, and what
-//! pending calls found that took effect.
+//! Also laws of what a monitor stores of the calls so far: parts of the keys, each with the pasts
+//! that its keys may have. Code that stores parts sees pairs, calls and what was found. It sees no
+//! choices or orders. Of a past it stores the pairs of a map of its keys, the calls that are left,
+//! and what pending calls found that took effect.
 #![tactic(auto)]
 
 mod call_laws;

@@ -42,7 +42,7 @@ DoubtsAreReached =
     → IsSpent start events process reply budget loss → AreKeyLosses (Some loss.call) (pasts_of loss.part) loss.puts.items losses
     → MayBeSo start (operations (events ++ Answer process reply ∷ [])) loss losses
 
--- if no two calls overlap, the monitor says yes or no, whatever the budget
+-- if no two calls overlap, no answer is judged undecided, whatever the budget
 abbrev pub NoDoubtWithoutOverlap : Type 0
 NoDoubtWithoutOverlap =
     (start : Contents) (events : List Event) (process : ℕ) (reply : Reply) (budget : ℕ) (loss : Violation)

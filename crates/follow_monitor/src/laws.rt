@@ -22,7 +22,7 @@ pub fn nothing_is_missed()
     ensures { NothingIsMissed }
 {}
 
-/// If no two calls of a stream overlap, each answer is judged with yes or no, whatever the budget.
+/// If no two calls of a stream overlap, no answer is judged undecided, whatever the budget.
 pub fn calls_without_overlap_are_decided()
     ensures { NoDoubtWithoutOverlap }
 {}

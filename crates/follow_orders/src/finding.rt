@@ -117,7 +117,7 @@ fn budget_for(calls: &[Operation], budget: u32) -> u32
     budget
 }
 
-/// Whether each call ended before the next one began.
+/// Whether each call ended before the next one began. It is false only if some calls overlap.
 fn have_no_overlap(calls: &[Operation]) -> bool
     requires { AllPairs (λ a b. a.inv < b.inv) calls.now }
     ensures { HaveNoOverlap calls.now → result ≡ true }

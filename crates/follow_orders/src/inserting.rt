@@ -18,8 +18,9 @@ impl StoredOrder {
     /// the calls only from its answer on. The places from there on rise by one, and the order is
     /// mended. At the end of the order that costs a pass over the calls after its place, and over
     /// those in the order after the last that ended before it began. At an earlier place of the
-    /// order it also costs the calls after it, and again those of each try in vain. Otherwise it costs searches too. `Memory` if memory runs out, and
-    /// at 4,294,967,294 calls, which no memory holds: then the order is lost.
+    /// order it also costs the calls after it, and again those of each try in vain. Otherwise it
+    /// costs searches too. `Memory` if memory runs out, and at 4,294,967,294 calls, which no memory
+    /// holds: then the order is lost.
     pub fn insert(self, alloc: Global, operation: Operation, budget: u32) -> Result<Mended, Memory>
         requires { MayCome self.calls operation }
         ensures { IfOk result (IsAnswerWith operation self.start self.calls budget) }

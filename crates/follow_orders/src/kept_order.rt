@@ -12,7 +12,7 @@ use std::marker::Model;
 /// The most calls but one: each has a place of 32 bits.
 pub(crate) const CALL_LIMIT: usize = u32::MAX as usize - 1;
 
-/// Calls by rising invocation, which may be pending, and one order of them, kept. Contracts
+/// Calls by rising invocation, some perhaps pending, and a stored order of them. Contracts
 /// see the pairs that they start from, the calls, and the order by places.
 #[derive(Drop)]
 pub struct StoredOrder {

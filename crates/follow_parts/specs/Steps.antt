@@ -71,7 +71,7 @@ AreParted [] left out = (left ≡ []) × (out ≡ [])
 AreParted (part ∷ parts) left out =
     ((more : List Part) × (left ≡ part ∷ more) × AreParted parts more out) ⊎ ((more : List Part) × (out ≡ part ∷ more) × AreParted parts left more)
 
--- the parts that met a range were taken out: the others have none of its keys
+-- parts were taken out: the others have no key of a range
 pub record AreMet (low high : ℕ) (old left met : List Part) : Type 0 where
   pub parted : AreParted old left met
   pub others : All (λ part. (key : ℕ) → low ≤ key → key ≤ high → covered part.ranges.items key ≡ false) left

@@ -5,7 +5,7 @@ use Rattle.follow_pasts.specs.Ranges.{covered}
 use Rattle.follow_pasts.specs.declared.part.Part.{Part}
 use Rattle.follow_pasts.specs.declared.ranges.Range.{Range}
 
--- the place of the list of a part of these ranges: the first one, unless it has one key only
+-- the place of the list of a part of these ranges: the first one, unless it has one range of one key
 abbrev pub ranges_place : List Range → ℕ
 ranges_place [] = 0
 ranges_place (range ∷ []) = list_place range.low range.high

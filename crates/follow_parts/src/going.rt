@@ -16,8 +16,8 @@ use events::Memory;
 use follow_pasts::{GoneOn, Part, Range};
 use std::alloc::Global;
 
-/// Puts a part at the end of the list after an answer, if one of its pasts has an order. `state`
-/// has the other parts, and counts the answer.
+/// Puts a part among the others after an answer, if one of its pasts has an order, and moves it on
+/// if it is time. `state` has the other parts, and counts the answer.
 pub(crate) fn go_on(
     alloc: Global,
     state: Parts,

@@ -137,7 +137,7 @@ fn answer_report(
     go_on(alloc, state, ranges, tried, gone)
 }
 
-/// Whether a read met no part, and the keys at rest hold what it reported.
+/// Whether a read met no part, and the keys at rest hold what it reported. False promises nothing.
 fn agrees_at_rest(
     alloc: Global,
     rest: &PackedMap<u64>,
@@ -162,7 +162,8 @@ fn agrees_at_rest(
     Ok(may_come_next(&pairs, operation))
 }
 
-/// Whether a read is a get, and its key at rest holds what it reported. It takes no memory.
+/// Whether a read is a get, and its key at rest holds what it reported. False promises nothing. It
+/// takes no memory.
 fn got_at_rest(rest: &PackedMap<u64>, operation: &Operation) -> bool
     ensures { IsTrue result → IsLegalCall rest.now operation.now.call operation.now.response }
 {

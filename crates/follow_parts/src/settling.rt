@@ -233,7 +233,8 @@ fn parted(alloc: Global, old: &StoredOrder, pasts: Vec<Past>) -> Result<Option<M
     }
 }
 
-/// A part of these ranges with the pasts from the first one on that has an order, if it is found.
+/// A part of these ranges. Its pasts are the first one that has an order, and those after it. There
+/// is none if no such past is found.
 fn part_from(
     alloc: Global,
     old: &StoredOrder,

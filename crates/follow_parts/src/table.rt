@@ -66,7 +66,7 @@ impl PartTable {
         Ok(PartTable { lists })
     }
 
-    /// Takes the parts out that have some key from `low` to `high`.
+    /// Takes parts out, among them all that have some key from `low` to `high`.
     pub(crate) fn take_met(
         self,
         alloc: Global,
@@ -110,7 +110,7 @@ fn part_with(parts: &[Part], key: u64) -> Option<usize>
     None
 }
 
-/// Takes out the parts that have some key from `low` to `high`.
+/// Takes parts out, among them all that have some key from `low` to `high`.
 fn take_met(alloc: Global, parts: &mut Vec<Part>, low: u64, high: u64) -> Result<Vec<Part>, Memory>
     ensures { OnOk result (IfOk result
         (λ met. AreMet low high parts.old.items parts.new.items met.items)) }

@@ -1,5 +1,7 @@
 //! A part of the keys: its ranges, and its pasts, the first one with a saved order. Functions say
-//! what an answer makes of pasts, how parts become one, and which keys are at rest.
+//! what an answer makes of pasts, how parts become one, and which keys are at rest. Others say when
+//! a part moves on, and to which moment, and guess where a read of several parts comes. The open
+//! reads are in lists by key.
 #![tactic(auto)]
 
 mod lists;

@@ -28,8 +28,8 @@ pub fn list_of_key(key: u64) -> usize
     (key % KEY_LISTS) as usize + 1
 }
 
-/// The lists of things that have one of the keys from `low` to `high` are from one place to before
-/// another.
+/// The lists of things of one key, from `low` to `high`, are from one place to before another. The
+/// first list, of the things of several keys, is not among them.
 pub fn lists_within(low: u64, high: u64) -> (usize, usize)
     ensures within { (key : ℕ) → low ≤ key → key ≤ high → result.0 ≤ list_place key key }
     ensures before { (key : ℕ) → low ≤ key → key ≤ high → list_place key key < result.1 }

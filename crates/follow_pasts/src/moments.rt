@@ -68,7 +68,7 @@ fn count_pending(calls: &[Operation]) -> usize {
     count
 }
 
-/// When the first pending read of these keys began.
+/// A moment before which no pending read of these keys began, or none if there is no such read.
 pub(crate) fn first_read(ranges: &[Range], reads: &[OpenRead]) -> Option<usize>
     ensures { MatchOption result (HaveNoRead ranges.now reads.now)
         (AreBegunAfter ranges.now reads.now) }

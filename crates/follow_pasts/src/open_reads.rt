@@ -55,14 +55,15 @@ impl OpenReads {
         Ok(())
     }
 
-    /// Takes a pending read out, and says whether it was there.
+    /// Takes out a pending read with the invocation of this one. Returns false only if this one is
+    /// not pending.
     pub fn end(&mut self, read: OpenRead) -> bool
         ensures { IsEnded read self.old self.new result }
     {
         end_in(&mut self.lists[list_of(read.low, read.high)], read.inv)
     }
 
-    /// When the first pending read of some keys began.
+    /// A moment before which no pending read of some keys began, or none if there is no such read.
     pub(crate) fn first(&self, ranges: &[Range]) -> Option<usize>
         ensures { MatchOption result (HaveNoRead ranges.now self.now)
             (AreBegunAfter ranges.now self.now) }
@@ -76,7 +77,7 @@ impl OpenReads {
     }
 }
 
-/// Takes a pending read out of a list, and says whether it was there.
+/// Takes out a pending read with this invocation, and returns whether there was one.
 fn end_in(reads: &mut Vec<OpenRead>, inv: usize) -> bool
     ensures { HasEnded inv reads.old.items reads.new.items result }
 {
@@ -103,7 +104,8 @@ fn lists_of_ranges(ranges: &[Range]) -> (usize, usize)
     (1, LISTS)
 }
 
-/// The earlier one of a moment and of when the first of some pending reads of these keys began.
+/// A moment that is no later than another one, and before which none of some pending reads of these
+/// keys began.
 fn earlier(first: Option<usize>, ranges: &[Range], reads: &[OpenRead]) -> Option<usize>
     ensures { IsEarlier ranges.now reads.now first result }
 {

@@ -564,7 +564,7 @@ fn take_from(
 }
 
 /// Puts a call at the last place that allows it, and says whether one does, of those before some
-/// of the last calls. Otherwise the front is as it was.
+/// of the last calls. Otherwise the calls taken back are pushed again.
 fn put(alloc: Global, calls: &[Operation], front: &mut Front, place: u32) -> Result<bool, Memory>
     requires rising { AllPairs (λ a b. a.inv < b.inv) calls.now }
     requires apart { NonePrecedesItself calls.now }
@@ -625,7 +625,7 @@ fn is_last_before(calls: &[Operation], front: &Front, place: u32) -> bool {
 }
 
 /// Pushes a call, and then those that were taken back, the last one of these first, and says
-/// whether all could be. Otherwise the front is as it was.
+/// whether all could be. Otherwise those that were pushed are taken back.
 fn put_here(
     alloc: Global,
     calls: &[Operation],

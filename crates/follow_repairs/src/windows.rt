@@ -17,7 +17,7 @@ static NEAR: [u32; 2] = [16, 64];
 /// How many are taken back before each search that comes after it.
 static FAR: [u32; 3] = [256, 1_024, 4_096];
 
-/// With more pending calls than twice these, a search may meet fewer configurations.
+/// A search with more than twice this many pending calls may meet fewer configurations.
 const MANY_PENDING: usize = 128;
 
 /// How many of the last calls are put as they were after a repair in vain.

@@ -1,4 +1,6 @@
-//! The texts of histories: read, tested to the first fault, and written.
+//! The texts of histories: read, tested to the first fault, and written. A text or an event in the
+//! compact form is read in one pass, without a tree of values. White space before a text and after
+//! it means nothing.
 #![tactic(auto)]
 
 mod compact_calls;

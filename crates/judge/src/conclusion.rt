@@ -59,7 +59,7 @@ fn first_without_order(answers: &[Found]) -> Option<usize>
     None
 }
 
-/// Returns the place of the first answer of a search that needs more than the budget.
+/// Returns the place of the first answer `Spent`: its search needs more than the budget.
 fn first_spent(answers: &[Found]) -> Option<usize>
     ensures found { IfSome result (IsFirstAt Spent answers.now) }
     ensures none { IfNone result (All (λ answer. answer ≢ Spent) answers.now) }

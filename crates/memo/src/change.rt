@@ -14,7 +14,8 @@ pub(crate) struct Change {
     pub(crate) value: Option<u64>,
 }
 
-/// Returns the change that a call makes to a map, or none if it makes none.
+/// Returns a change that leads from a map to the pairs that a call leaves. There is none only if the
+/// call leaves the map as it is.
 pub(crate) fn change_of(before: &SortedMap, call: &Operation) -> Option<Change>
     ensures { changed result before.now ≡ pairs_left before.now call.now }
 {
@@ -31,7 +32,7 @@ pub(crate) fn change_of(before: &SortedMap, call: &Operation) -> Option<Change>
     change_by(before, &call.call)
 }
 
-/// Returns the change that a call makes to a map if it is not refused.
+/// The same of a call that is not refused.
 fn change_by(before: &SortedMap, call: &Call) -> Option<Change>
     ensures { changed result before.now ≡ after before.now call.now }
 {

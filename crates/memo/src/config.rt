@@ -75,7 +75,7 @@ impl Hash for Config {
 
 impl Config {
     /// Returns the configuration at which a search begins: no call is taken, and the map holds its
-    /// pairs. They are copied once, for all configurations that follow from this one.
+    /// pairs. The pairs are copied once: all configurations reached from this one share the copy.
     pub fn start(alloc: Global, map: &SortedMap) -> Result<Config, Memory>
         ensures { IfOk result (λ c. c ≡ record { taken = []; pairs = map.now }) }
     {

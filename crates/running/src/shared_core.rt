@@ -87,8 +87,8 @@ impl SharedCore {
     }
 
     /// The open call of the place's first process is answered. Returns the stamp of the response,
-    /// which is greater than all that the place shows. It is one fetch-and-add, which is one step
-    /// of the core.
+    /// which is greater than every stamp that the place shows. It is one fetch-and-add, which is one
+    /// step of the core.
     pub fn answer(&self, place: &mut SharedGroup) -> u64
         requires own { IsPlaceOf self.now place.old }
         requires next { IsAnswered (shown place.old) }

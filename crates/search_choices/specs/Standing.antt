@@ -121,7 +121,7 @@ pub record IsPushed (place : ℕ) (undo : Option Call) (old new : CallSearch) : 
   pub within : new.low ≤ length new.taken.items
   pub below : (n : ℕ) → n < new.low → (n < old.low) ⊎ (slice_index_or new.taken.items n false ≡ true)
 
--- what became of a call that was taken: it leads to a configuration that is new, or was put back,
+-- what became of a call: it was taken and leads to a configuration that is new, or it was not taken,
 -- since it is a dead end
 abbrev pub IsTaken : Contents → List Operation → ℕ → CallSearch → CallSearch → Bool → Type 0
 IsTaken start calls place old new true =
