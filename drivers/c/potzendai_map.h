@@ -267,7 +267,7 @@ extern "C" {
 #endif
 
 /* A map's functions may call this at each place where another thread should be able to run: under `--yield` one sometimes does. A source that does
- * not include this file declares it: void potzendai_point(void); */
+ * not include this file declares it: void potzendai_point(void); in C++ with extern "C" before it. */
 __attribute__((weak)) void potzendai_point(void);
 __attribute__((weak)) void potzendai_point(void)
 {

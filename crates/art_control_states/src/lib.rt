@@ -1,4 +1,4 @@
-//! Where a call on a tree can be, what is left of it there, and why it is refused. Also what a call
+//! Where a call on a tree can be, what it still has to do there, and why it is refused. Also what a call
 //! depends on, which is the variant of its tree and the shape of its table, and what it reads off a
 //! row.
 #![tactic(auto)]

@@ -5,7 +5,7 @@ use Rattle.std.proofs.Common.{not, ◌||◌, Option, Some, None, eqb-true}
 use Rattle.std.proofs.lemmas.Bool.{not-false, not-true, or_parts, true≢false}
 use Rattle.std.specs.Prelude.{if◌then◌else◌}
 use Rattle.art_rows.specs.declared.access.Point.TheVariants as point
-use Rattle.art_core.specs.declared.item.Item.TheVariants.{HistoryBuilder, End, Until}
+use Rattle.art_core.specs.declared.item.Item.TheVariants.{Turns, End, Until}
 use Rattle.art_core.specs.NamedTurns.{next_point, finished_count}
 use Rattle.art_core.specs.Schedules.{Refusal, Run, turn_with, turn, if_refused, unless_refused, turns_made, turns_until, point_number, is_at}
 use Rattle.art_core.specs.Schedules.{has_finished, made, items_made, begun_run}
@@ -44,8 +44,8 @@ record IsComputed (plan : Plan) (item : Item) (first : State) (left : ℕ) (r : 
   costs : r.left + made ≡ left
 
 module _ (plan : Plan) (p count : ℕ) (first : State) where
-  counted : (n k : ℕ) (r : Run) → AreMade plan (HistoryBuilder p count) first k r.state → k + n ≡ count → (turns_made plan p n r).refused ≡ None
-      → IsComputed plan (HistoryBuilder p count) first (r.left + k) (turns_made plan p n r)
+  counted : (n k : ℕ) (r : Run) → AreMade plan (Turns p count) first k r.state → k + n ≡ count → (turns_made plan p n r).refused ≡ None
+      → IsComputed plan (Turns p count) first (r.left + k) (turns_made plan p n r)
   counted zero k r h all ok = record {
     made = k;
     turns = record { turns = h; over = λ less. absurd (omega arith) };
@@ -54,10 +54,10 @@ module _ (plan : Plan) (p count : ℕ) (first : State) where
   counted (suc n) k r h all ok =
       let u = unless-ok (turn plan r p) (turns_made plan p n) ok in
       let t = turn-ok plan r p u.0 in
-      let more = made-more plan (HistoryBuilder p count) first k r.state (turn plan r p).state h (omega arith) t.steps in
+      let more = made-more plan (Turns p count) first k r.state (turn plan r p).state h (omega arith) t.steps in
       let rest = counted n (k + 1) (turn plan r p) more (omega arith) (sym (ap (λ r. r.refused) u.1) ∙ ok) in
       let costs = t.costs in
-      subst (λ q. IsComputed plan (HistoryBuilder p count) first (r.left + k) q) (sym u.1)
+      subst (λ q. IsComputed plan (Turns p count) first (r.left + k) q) (sym u.1)
       (record { made = rest.made; turns = rest.turns; costs = rest.costs ∙ omega arith })
 
 module _ (plan : Plan) (item : Item) (first : State) (stop : State → Bool)
@@ -122,8 +122,8 @@ at-no q o h e = true≢false (sym (ap (is_at q) e ∙ eq-eqb (point_number q) (p
 
 one-item : (plan : Plan) (item : Item) (r : Run) → (made plan item r).refused ≡ None
     → IsComputed plan item r.state r.left (made plan item r)
-one-item plan (HistoryBuilder p count) r ok =
-    let c = counted plan p count r.state count 0 r (made-none plan (HistoryBuilder p count) r.state) (omega arith) ok in
+one-item plan (Turns p count) r ok =
+    let c = counted plan p count r.state count 0 r (made-none plan (Turns p count) r.state) (omega arith) ok in
     record { made = c.made; turns = c.turns; costs = c.costs ∙ omega arith }
 one-item plan (End p) r ok =
     let f = finished_count (slice_get r.state.processes p) in

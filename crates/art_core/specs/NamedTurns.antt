@@ -4,14 +4,14 @@ use Rattle.art_rows.specs.declared.access.Point.{Point}
 use Rattle.art_rows.specs.Act.{act, point_of}
 use Rattle.events.specs.declared.event.Call.{Call}
 use Rattle.art_core.specs.declared.item.Item.{Item}
-use Rattle.art_core.specs.declared.item.Item.TheVariants.{HistoryBuilder, End, Until}
+use Rattle.art_core.specs.declared.item.Item.TheVariants.{Turns, End, Until}
 use Rattle.art_core.specs.declared.process.Process.{Process}
 use Rattle.art_core.specs.Core.{Plan, State, finished}
 use Rattle.art_core.specs.Runs.{Gives}
 
 -- the process that an item is about
 abbrev pub process_of_item : Item → ℕ
-process_of_item (HistoryBuilder p count) = p
+process_of_item (Turns p count) = p
 process_of_item (End p) = p
 process_of_item (Until p point) = p
 
@@ -34,10 +34,10 @@ abbrev pub HasNotAnswered : ℕ → State → State → Type 0
 HasNotAnswered p first now = finished_count (slice_get now.processes p) ≡ finished_count (slice_get first.processes p)
 
 -- Whether an item that began in the first state names one more turn after those that led to the
--- present state. `HistoryBuilder` names a number of turns in all. `End` names turns until a call is
+-- present state. `Turns` names a number of turns in all. `End` names turns until a call is
 -- answered. `Until` names turns until that, or until the next step is at the point.
 abbrev pub WantsTurn : Plan → Item → State → ℕ → State → Type 0
-WantsTurn plan (HistoryBuilder p count) first made now = made < count
+WantsTurn plan (Turns p count) first made now = made < count
 WantsTurn plan (End p) first made now = HasNotAnswered p first now
 WantsTurn plan (Until p point) first made now = HasNotAnswered p first now × (next_point plan (slice_get now.processes p) ≢ Some point)
 

@@ -3,7 +3,7 @@ use Rattle.std.specs.Prelude.{ℕ, zero, suc, Bool, false, not, ◌||◌, ◌==�
 use Rattle.art_rows.specs.declared.access.Point.{Point}
 use Rattle.art_rows.specs.declared.access.Point.TheVariants as point
 use Rattle.art_core.specs.declared.item.Item.{Item}
-use Rattle.art_core.specs.declared.item.Item.TheVariants.{HistoryBuilder, End, Until}
+use Rattle.art_core.specs.declared.item.Item.TheVariants.{Turns, End, Until}
 use Rattle.art_core.specs.declared.process.Process.{Process}
 use Rattle.art_core.specs.Core.{Plan, State, step, opened}
 use Rattle.art_core.specs.NamedTurns.{next_point, finished_count}
@@ -64,7 +64,7 @@ has_finished p n s = not (finished_count (slice_get s.processes p) == n)
 
 -- what an item makes of a run
 abbrev pub made : Plan → Item → Run → Run
-made plan (HistoryBuilder p n) r = turns_made plan p n r
+made plan (Turns p n) r = turns_made plan p n r
 made plan (End p) r = turns_until plan p (has_finished p (finished_count (slice_get r.state.processes p))) r.left r
 made plan (Until p q) r =
     turns_until plan p

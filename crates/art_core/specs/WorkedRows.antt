@@ -12,7 +12,7 @@ use Rattle.art_rows.specs.declared.variant.Variant.TheVariants.{Coupled, Optimis
 use Rattle.art_rows.specs.declared.variant.Variant.TheVariants.{EarlyRelease}
 use Rattle.art_rows.specs.declared.access.Point.TheVariants as point
 use Rattle.art_core.specs.declared.item.Item.{Item}
-use Rattle.art_core.specs.declared.item.Item.TheVariants.{HistoryBuilder, End, Until}
+use Rattle.art_core.specs.declared.item.Item.TheVariants.{Turns, End, Until}
 use Rattle.art_core.specs.Core.{Plan, history_of}
 use Rattle.art_core.specs.Schedules.{Run, schedule_run}
 
@@ -56,7 +56,7 @@ unfoldable pub torn : Variant → Plan
 torn v = record { shape = eights; variant = v; scripts = (Scan 16777216 33554432 ∷ []) ∷ (Insert 16777216 1 ∷ Insert 33554432 2 ∷ []) ∷ [] }
 
 unfoldable pub torn_items : List Item
-torn_items = HistoryBuilder 0 3 ∷ End 1 ∷ End 1 ∷ End 0 ∷ []
+torn_items = Turns 0 3 ∷ End 1 ∷ End 1 ∷ End 0 ∷ []
 
 -- A remove that lets go of the row above too early works on a row that was replaced.
 unfoldable pub early : Variant → Plan
@@ -87,7 +87,7 @@ one_each n = record {
 -- How many events there are if the get stops after k of its turns and never goes on, and the insert
 -- comes after it.
 unfoldable pub count_events : Plan → ℕ → ℕ
-count_events plan k = length (events_of (schedule_run plan 100 (End 0 ∷ End 0 ∷ HistoryBuilder 0 k ∷ End 1 ∷ [])))
+count_events plan k = length (events_of (schedule_run plan 100 (End 0 ∷ End 0 ∷ Turns 0 k ∷ End 1 ∷ [])))
   where
     events_of : Run → List Event
     events_of r = history_of r.state
@@ -137,6 +137,6 @@ pub record WorkedRows : Type 0 where
   -- the last event of the scan over all keys
   pub deep_scan : last_event (events deep (End 0 ∷ End 0 ∷ End 0 ∷ End 0 ∷ []))
       ≡ Some (Answer 0 (reply.Pairs ((16777217, 1) ∷ (16777218, 2) ∷ (16842752, 3) ∷ [])))
-  pub beside_events : events beside (End 0 ∷ End 0 ∷ HistoryBuilder 0 6 ∷ End 1 ∷ HistoryBuilder 0 3 ∷ [])
+  pub beside_events : events beside (End 0 ∷ End 0 ∷ Turns 0 6 ∷ End 1 ∷ Turns 0 3 ∷ [])
       ≡ Invoke 0 (Insert 16777217 1) ∷ Answer 0 reply.None ∷ Invoke 0 (Insert 16777218 2) ∷ Answer 0 reply.None ∷ Invoke 0 (Get 16908288)
       ∷ Invoke 1 (Insert 16908288 3) ∷ Answer 1 reply.None ∷ Answer 0 reply.None ∷ []

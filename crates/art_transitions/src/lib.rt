@@ -1,4 +1,4 @@
-//! Which stage of a call on a key comes after a word that it got.
+//! Which stage of a call on a key follows after it has read a word.
 #![tactic(auto)]
 
 mod after;

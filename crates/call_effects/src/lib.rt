@@ -1,6 +1,6 @@
-//! Calls of a stream that is judged as it goes: the value that a call leaves at its key, whether it
-//! may be answered so, and whether it changed nothing. Which call was answered first, and which
-//! lists of calls have the same orders.
+//! What one call does and shows: the value that it leaves at its key, whether it may be answered so,
+//! and whether it changed nothing. Also which call was answered first, and which lists of calls have
+//! the same orders.
 #![tactic(auto)]
 
 mod answers;

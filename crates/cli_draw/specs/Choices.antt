@@ -13,9 +13,9 @@ use Rattle.explain_locate.specs.declared.location.Location.{Location}
 use Rattle.explain_locate.specs.declared.evidence.Evidence.{Evidence}
 use Rattle.explain_locate.specs.declared.evidence.Evidence.TheVariants.{OfEvents, OfPart, Missing}
 use Rattle.explain_locate.specs.Evidences.{IsEvidenceOf}
-use Rattle.follow_monitor.specs.OwnParts.{AreOwnLosses, KeyCore}
-use Rattle.follow_monitor.specs.declared.lost_keys.KeyViolation.{KeyViolation}
-use Rattle.follow_monitor.specs.declared.lost_keys.Origin.{Origin}
+use Rattle.follow_violations.specs.OwnParts.{AreOwnLosses, KeyCore}
+use Rattle.follow_violations.specs.declared.lost_keys.KeyViolation.{KeyViolation}
+use Rattle.follow_violations.specs.declared.lost_keys.Origin.{Origin}
 use Rattle.explain_shrink.specs.declared.explanation.Explanation.{Explanation}
 use Rattle.explain_shrink.specs.Explained.{IsExplanation}
 use Rattle.explain_reads_from.specs.External.{AreExternal}

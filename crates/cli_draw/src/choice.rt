@@ -20,7 +20,7 @@ use events::{History, MAX_CALLS, Memory, Operation};
 use explain_locate::{Evidence, Location, evidence_of};
 use explain_reads_from::{Missed, external_reads, missed_writes, writers_of};
 use explain_shrink::{Explanation, explain_calls};
-use follow_monitor::{KeyCore, KeyViolation, Origin, own_losses};
+use follow_violations::{KeyCore, KeyViolation, Origin, own_losses};
 use judge::Verdict;
 use map_object::SortedMap;
 use orders::Segment;

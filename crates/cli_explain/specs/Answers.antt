@@ -23,7 +23,7 @@ use Rattle.explain_locate.specs.Reports.{location_data}
 use Rattle.explain_locate.specs.declared.evidence.Evidence.{Evidence}
 use Rattle.explain_locate.specs.declared.evidence.Evidence.TheVariants.{OfEvents, OfPart, Missing}
 use Rattle.explain_locate.specs.Evidences.{IsEvidenceOf}
-use Rattle.follow_monitor.specs.OwnParts.{KeyCore}
+use Rattle.follow_violations.specs.OwnParts.{KeyCore}
 use Rattle.cli_outcome.specs.declared.outcome.Answer.{Answer}
 use Rattle.cli_outcome.specs.Lines.{line}
 use Rattle.cli_judge.specs.Answers.{IsTextOf, answer_of}

@@ -7,9 +7,9 @@ use Rattle.events.specs.HistoryView.{HistoryView}
 use Rattle.events.specs.declared.event.Event.{Event}
 use Rattle.events.specs.declared.operation.Operation.{Operation}
 use Rattle.history_text.specs.Texts.{number_data}
-use Rattle.follow_monitor.specs.OwnParts.{AreOwnLosses, KeyCore}
-use Rattle.follow_monitor.specs.declared.lost_keys.KeyViolation.{KeyViolation}
-use Rattle.follow_monitor.specs.declared.lost_keys.Origin.{Origin}
+use Rattle.follow_violations.specs.OwnParts.{AreOwnLosses, KeyCore}
+use Rattle.follow_violations.specs.declared.lost_keys.KeyViolation.{KeyViolation}
+use Rattle.follow_violations.specs.declared.lost_keys.Origin.{Origin}
 use Rattle.cli_outcome.specs.Lines.{line}
 use Rattle.explain_histories.specs.Values.{value_data}
 use Rattle.cli_explain.specs.Origins.{writer_data}

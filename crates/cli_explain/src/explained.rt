@@ -30,7 +30,7 @@ use cli_outcome::{Answer, CommandOutcome, line_of, run_text};
 use events::{History, Memory};
 use explain_locate::{Evidence, evidence_of, locate_from, location_line};
 use explain_shrink::{Explanation, explain_calls};
-use follow_monitor::KeyCore;
+use follow_violations::KeyCore;
 use history_text::{MAX_TEXT, read_history};
 use judge::{Verdict, judge_alone, report};
 use map_object::SortedMap;

@@ -10,7 +10,7 @@ use crate::writers::writer_value;
 use cli_outcome::line_of;
 use events::{Event, History, Memory, Operation};
 use explain_histories::value_or_null;
-use follow_monitor::{KeyCore, KeyViolation, Origin, own_losses};
+use follow_violations::{KeyCore, KeyViolation, Origin, own_losses};
 use serde_json::{Map, Value, put};
 use std::alloc::{AllocError, Global};
 

@@ -19,9 +19,9 @@ pub use Rattle.history_text.proofs.WrittenLemmas.{has_float-event}
 pub use Rattle.history_text.specs.Texts.{call_data, event_data, number_data, pair_data, reply_data}
 pub use Rattle.history_text.specs.declared.version.TextVersion.{TextVersion}
 pub use Rattle.history_text.specs.declared.version.TextVersion.TheVariants.{One, Three, Two}
-pub use Rattle.follow_monitor.specs.OwnParts.{KeyCore, part_of}
-pub use Rattle.follow_monitor.specs.declared.loss.Violation.{Violation}
-pub use Rattle.follow_monitor.specs.declared.lost_keys.KeyViolation.{KeyViolation}
+pub use Rattle.follow_violations.specs.OwnParts.{KeyCore, part_of}
+pub use Rattle.follow_violations.specs.declared.loss.Violation.{Violation}
+pub use Rattle.follow_violations.specs.declared.lost_keys.KeyViolation.{KeyViolation}
 pub use Rattle.map_object.specs.MapObject.{Contents}
 pub use Rattle.follow_monitor.specs.Faults.{event_limit, invocation_fault, shown}
 pub use Rattle.follow_monitor.specs.Following.{IsFollowing}

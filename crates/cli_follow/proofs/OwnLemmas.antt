@@ -3,7 +3,7 @@ use Rattle.cli_follow.proofs.Common.{◌≡◌, ℕ, List, [], ◌∷◌, length
 use Rattle.cli_follow.proofs.Common.{Reply, Contents, IsLinearizable, IsDead, pasts_of, Violation, KeyCore, part_of, IsLost}
 use Rattle.follow_cuts.specs.PartCuts.{kept_of}
 use Rattle.follow_cuts.specs.declared.past.Past.{Past}
-use Rattle.follow_monitor.specs.declared.puts.Put.{Put}
+use Rattle.follow_violations.specs.declared.puts.Put.{Put}
 use Rattle.follow_monitor.specs.Calls.{MayReply}
 
 abbrev pub IsRefuted : KeyCore → Type 0

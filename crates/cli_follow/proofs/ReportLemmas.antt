@@ -1,7 +1,7 @@
 -- The reports have no float, so that their texts are the compact ones.
 use Rattle.cli_follow.proofs.Common.{◌≡◌, ℕ, List, [], ◌∷◌, map, false, Option, Some, None, refl, items_of, has_float, items_have_float}
 use Rattle.cli_follow.proofs.Common.{number_data, value_data, KeyViolation, key_data, lost_data, spent_data}
-use Rattle.follow_monitor.specs.declared.lost_keys.Origin.{Origin}
+use Rattle.follow_violations.specs.declared.lost_keys.Origin.{Origin}
 
 items_have_float-numbers : (numbers : List ℕ) → items_have_float (items_of (map number_data numbers)) ≡ false
 items_have_float-numbers [] = refl

@@ -16,10 +16,10 @@ use Rattle.explain_histories.specs.SmallHistories.{AreOfNoHistory, IsSmallHistor
 use Rattle.stream_text.specs.Cuts.{lines_of}
 use Rattle.stream_text.specs.Lines.{SpellsEvent}
 use Rattle.follow_parts.specs.Keeping.{pasts_of}
-use Rattle.follow_monitor.specs.declared.lost_keys.KeyViolation.{KeyViolation}
-use Rattle.follow_monitor.specs.declared.loss.Violation.{Violation}
-use Rattle.follow_monitor.specs.KeyLosses.{AreKeyLosses}
-use Rattle.follow_monitor.specs.OwnParts.{key_core}
+use Rattle.follow_violations.specs.declared.lost_keys.KeyViolation.{KeyViolation}
+use Rattle.follow_violations.specs.declared.loss.Violation.{Violation}
+use Rattle.follow_violations.specs.KeyLosses.{AreKeyLosses}
+use Rattle.follow_violations.specs.OwnParts.{key_core}
 use Rattle.follow_monitor.specs.Outcomes.{IsLost, IsSpent}
 use Rattle.cli_outcome.specs.declared.outcome.Answer as outcomes
 use Rattle.cli_outcome.specs.declared.outcome.Answer.TheVariants as verdicts

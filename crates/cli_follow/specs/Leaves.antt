@@ -3,7 +3,7 @@ use Rattle.stream_text.specs.declared.line_fault.LineFault.TheVariants as lines
 use Rattle.follow_monitor.specs.declared.fault.FollowFault.TheVariants as turns
 use Rattle.std.specs.Prelude.{◌≡◌, ◌≢◌, ℕ, List, ⊤, string_bytes}
 use Rattle.stream_text.specs.declared.line_fault.LineFault.{LineFault}
-use Rattle.follow_monitor.specs.declared.loss.Violation.{Violation}
+use Rattle.follow_violations.specs.declared.loss.Violation.{Violation}
 use Rattle.follow_monitor.specs.declared.fault.FollowFault.{FollowFault}
 use Rattle.cli_outcome.specs.declared.outcome.Answer.{Answer}
 use Rattle.cli_outcome.specs.declared.outcome.Answer.TheVariants.{Yes, No, Undecided}

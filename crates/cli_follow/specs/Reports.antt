@@ -2,8 +2,8 @@
 use Rattle.std.specs.Prelude.{ℕ, List, ◌++◌, map, codes, decimal}
 use Rattle.serde_json.specs.Data.{Data, string, object, no_members, member}
 use Rattle.history_text.specs.Texts.{number_data, list_data}
-use Rattle.follow_monitor.specs.declared.lost_keys.KeyViolation.{KeyViolation}
-use Rattle.follow_monitor.specs.declared.lost_keys.Origin.{Origin}
+use Rattle.follow_violations.specs.declared.lost_keys.KeyViolation.{KeyViolation}
+use Rattle.follow_violations.specs.declared.lost_keys.Origin.{Origin}
 use Rattle.explain_histories.specs.Values.{value_data}
 use Rattle.cli_outcome.specs.Lines.{line}
 use Rattle.cli_outcome.specs.Averages.{average_text}

@@ -4,7 +4,7 @@ use Rattle.std.specs.Prelude.{◌≡◌, ◌≢◌, ℕ, Some}
 use Rattle.events.specs.declared.event.Event.{Event}
 use Rattle.events.specs.declared.event.Event.TheVariants.{Invoke, Answer}
 use Rattle.events.specs.HistoryView.{HistoryView}
-use Rattle.follow_monitor.specs.declared.loss.Violation.{Violation}
+use Rattle.follow_violations.specs.declared.loss.Violation.{Violation}
 use Rattle.follow_monitor.specs.Outcomes.{IsLost, IsSpent}
 use Rattle.cli_follow.specs.Refusals.{turn_fault}
 use Rattle.cli_follow.specs.declared.stops.Stop.{Stop}

@@ -1,7 +1,7 @@
 // The lines that answer a stream.
 ghost use Rattle.std.specs.Prelude.{◌≡◌, [], map, All, IfOk, OnOk, MatchOption, codes, string_bytes};
 ghost use Rattle.history_text.specs.Texts.{number_data};
-ghost use Rattle.follow_monitor.specs.OwnParts.{key_core};
+ghost use Rattle.follow_violations.specs.OwnParts.{key_core};
 ghost use Rattle.cli_outcome.specs.Lines.{line};
 ghost use Rattle.follow_pasts.specs.Pasts.{IsDead};
 ghost use Rattle.follow_parts.specs.Keeping.{pasts_of};
@@ -18,7 +18,7 @@ use crate::small_lines::small_line;
 use cli_outcome::{Answer, CommandOutcome, average_text, hinted_yes, line_of};
 use events::Memory;
 use explain_histories::value_or_null;
-use follow_monitor::{KeyViolation, Origin, Violation, key_core, key_losses};
+use follow_violations::{KeyViolation, Origin, Violation, key_core, key_losses};
 use serde_json::{Map, Value, put};
 use std::alloc::{AllocError, Global};
 

@@ -14,7 +14,8 @@ use crate::refusals::refused_event;
 use crate::reports::{lost_outcome, spent_outcome};
 use cli_outcome::CommandOutcome;
 use events::Memory;
-use follow_monitor::{FollowFault, Violation};
+use follow_monitor::FollowFault;
+use follow_violations::Violation;
 use std::alloc::Global;
 use stream_text::StreamEvent;
 

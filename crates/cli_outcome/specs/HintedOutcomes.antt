@@ -17,14 +17,14 @@ IsHintedBy answer bytes hint outcome = ⊥
 -- with a hint; or out of memory
 abbrev pub IsHintedOutcome : (List ℕ → Answer → List ℕ → List ℕ → Type 0) → (List ℕ → List ℕ → List ℕ → Type 0) → Option (List ℕ)
     → CommandOutcome → Type 0
-IsHintedOutcome IsAnswer IsRefusal told (Answered answer bytes) = IfSome told (λ text. IsAnswer text answer (string_bytes bytes) [])
-IsHintedOutcome IsAnswer IsRefusal told (Noted answer bytes note) =
-    IfSome told (λ text. IsAnswer text answer (string_bytes bytes) (string_bytes note))
-IsHintedOutcome IsAnswer IsRefusal told (Refused bytes hint) =
-    IfSome told (λ text. IsRefusal text (string_bytes bytes) (string_bytes hint))
-IsHintedOutcome IsAnswer IsRefusal told Memory = ⊤
-IsHintedOutcome IsAnswer IsRefusal told (Words bytes) = ⊥
-IsHintedOutcome IsAnswer IsRefusal told Failed = ⊥
+IsHintedOutcome IsAnswer IsRefusal found (Answered answer bytes) = IfSome found (λ text. IsAnswer text answer (string_bytes bytes) [])
+IsHintedOutcome IsAnswer IsRefusal found (Noted answer bytes note) =
+    IfSome found (λ text. IsAnswer text answer (string_bytes bytes) (string_bytes note))
+IsHintedOutcome IsAnswer IsRefusal found (Refused bytes hint) =
+    IfSome found (λ text. IsRefusal text (string_bytes bytes) (string_bytes hint))
+IsHintedOutcome IsAnswer IsRefusal found Memory = ⊤
+IsHintedOutcome IsAnswer IsRefusal found (Words bytes) = ⊥
+IsHintedOutcome IsAnswer IsRefusal found Failed = ⊥
 
 -- the outcome of a run that reads its text from the source
 abbrev pub IsHintedRead : (List ℕ → Answer → List ℕ → List ℕ → Type 0) → (List ℕ → List ℕ → List ℕ → Type 0) → Change → CommandOutcome → Type 0

@@ -8,12 +8,12 @@ use Rattle.cli_outcome.specs.Ends.{Change, IsSound, FailsOnce}
 -- the outcome of a text, if the text is known: an answer to it, without a note, or its refusal with
 -- a hint; or out of memory
 abbrev pub IsTextOutcome : (List ℕ → Answer → List ℕ → Type 0) → (List ℕ → List ℕ → List ℕ → Type 0) → Option (List ℕ) → CommandOutcome → Type 0
-IsTextOutcome IsAnswer IsRefusal told (Answered answer bytes) = IfSome told (λ text. IsAnswer text answer (string_bytes bytes))
-IsTextOutcome IsAnswer IsRefusal told (Noted answer bytes note) = ⊥
-IsTextOutcome IsAnswer IsRefusal told (Refused bytes hint) = IfSome told (λ text. IsRefusal text (string_bytes bytes) (string_bytes hint))
-IsTextOutcome IsAnswer IsRefusal told Memory = ⊤
-IsTextOutcome IsAnswer IsRefusal told (Words bytes) = ⊥
-IsTextOutcome IsAnswer IsRefusal told Failed = ⊥
+IsTextOutcome IsAnswer IsRefusal found (Answered answer bytes) = IfSome found (λ text. IsAnswer text answer (string_bytes bytes))
+IsTextOutcome IsAnswer IsRefusal found (Noted answer bytes note) = ⊥
+IsTextOutcome IsAnswer IsRefusal found (Refused bytes hint) = IfSome found (λ text. IsRefusal text (string_bytes bytes) (string_bytes hint))
+IsTextOutcome IsAnswer IsRefusal found Memory = ⊤
+IsTextOutcome IsAnswer IsRefusal found (Words bytes) = ⊥
+IsTextOutcome IsAnswer IsRefusal found Failed = ⊥
 
 -- if the outcome is an answer, this holds
 abbrev pub OnAnswered : CommandOutcome → Type 0 → Type 0

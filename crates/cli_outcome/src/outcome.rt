@@ -121,7 +121,7 @@ impl CommandOutcome {
         note: Result<String, AllocError>,
     ) -> CommandOutcome
         ensures { MatchResult line
-            (λ text. MatchResult note (λ told. result ≡ CommandOutcome.Noted answer text told)
+            (λ text. MatchResult note (λ words. result ≡ CommandOutcome.Noted answer text words)
             (λ _. result ≡ CommandOutcome.Memory))
             (λ _. result ≡ CommandOutcome.Memory) }
     {
@@ -140,7 +140,7 @@ impl CommandOutcome {
         hint: Result<String, AllocError>,
     ) -> CommandOutcome
         ensures { MatchResult line
-            (λ text. MatchResult hint (λ told. result ≡ CommandOutcome.Refused text told)
+            (λ text. MatchResult hint (λ words. result ≡ CommandOutcome.Refused text words)
             (λ _. result ≡ CommandOutcome.Memory))
             (λ _. result ≡ CommandOutcome.Memory) }
     {

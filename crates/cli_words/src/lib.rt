@@ -1,4 +1,5 @@
-//! From the words of the command line to the line that they ask for, or to the outcome without one.
+//! From the words of the command line to the line that they ask for, or to an outcome if they ask
+//! for none.
 //! Each program decides what it does for a line. Only this crate defines, for any such program,
 //! that an outcome is what the words ask for.
 #![tactic(auto)]

@@ -28,12 +28,12 @@ marks_stay_inside columns all lanes from to bar mark inside starts stands lane_i
     let (low, high) = and_parts (nat_le from (rank columns mark.column)) (nat_lt (rank columns mark.column) to) within in
     let le : from ≤ rank columns mark.column = leb-true from (rank columns mark.column) low in
     let lt : rank columns mark.column < to = ltb-true (rank columns mark.column) to high in
-    let begins : rank columns bar.from < rank columns mark.column = (ranks_rise columns bar.from mark.column).1 starts inside.behind in (
+    let begins : rank columns bar.from < rank columns mark.column = (ranks_rise columns bar.from mark.column).1 starts inside.after in (
       and_from (nat_lt (rank columns bar.from) to) (ends_from from (option_map (rank columns) bar.to))
           (lt-ltb (rank columns bar.from) to (omega arith)) (ends_after columns from mark.column bar.to le stands inside.before),
       record {
         lane = rw (inside.lane, lane_is) refl;
-        behind = omega (arith, begins);
+        after = omega (arith, begins);
         before = cut_behind columns from to mark.column bar.to le stands inside.before;
       },
     )

@@ -81,7 +81,7 @@ mark-inside events order bars place n a bar mark markable spans order_here here 
     let answered = subst (λ p. IfSome a.response (λ r. p < r.res)) (sym point) (point-before events order n a markable is here) in
     record {
       lane = lane;
-      behind = rw (column, span.from) (omega arith);
+      after = rw (column, span.from) (omega arith);
       before = rw (column, span.to) (to_end a.response points (mark_column points place) (ends a.response points place up within answered));
     }
 

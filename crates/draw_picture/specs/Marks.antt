@@ -18,7 +18,7 @@ pub record IsMarkable (calls : List Operation) (order : List ℕ) : Type 0 where
 -- one
 pub record IsInside (mark : Mark) (bar : Bar) : Type 0 where
   pub lane : mark.lane ≡ bar.lane
-  pub behind : bar.from < mark.column
+  pub after : bar.from < mark.column
   pub before : IfSome bar.to (λ to. mark.column < to)
 
 -- the mark of the call at a place of an order: at the call's point, inside its bar

@@ -143,7 +143,7 @@ pub record IsPartOf (among : List ℕ) (event from to : ℕ) (whole part : Pictu
   pub bars : part.bars.items ≡ map (cut_bar part.lanes.items from to) (bars_in among from to whole.bars.items)
   pub marks : part.marks.items ≡ map (cut_mark whole.lanes.items part.lanes.items from) (marks_in among from to whole.marks.items)
   pub columns : part.columns ≡ to - from
-  pub leaves : part.part ≡ Some (record { before = from; behind = length among - to; event = event })
+  pub leaves : part.part ≡ Some (record { before = from; after = length among - to; event = event })
   pub few : part.is_few ≡ whole.is_few
 
 -- the viewport with this much room around the column of an event
@@ -181,7 +181,7 @@ RanksRise = (columns : List ℕ) (a b : ℕ) → (a ≤ b → rank columns a ≤
 -- end
 pub record IsInsideCut (mark : Mark) (bar : Bar) : Type 0 where
   pub lane : mark.lane ≡ bar.lane
-  pub behind : bar.from ≤ mark.column
+  pub after : bar.from ≤ mark.column
   pub before : IfSome bar.to (λ to. mark.column < to)
 
 -- a mark that is inside a bar, and in the viewport, is inside the bar's part in the viewport

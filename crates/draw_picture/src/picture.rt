@@ -90,7 +90,7 @@ pub struct PicturePart {
     /// How many columns are before it.
     pub before: usize,
     /// How many columns are after it.
-    pub behind: usize,
+    pub after: usize,
     /// The event in its middle.
     pub event: usize,
 }

@@ -219,7 +219,7 @@ fn viewport_at(
         columns: to.saturating_sub(from),
         part: Some(PicturePart {
             before: from,
-            behind: columns.len().saturating_sub(to),
+            after: columns.len().saturating_sub(to),
             event,
         }),
         is_few: picture.is_few,

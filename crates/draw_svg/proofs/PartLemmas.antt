@@ -19,12 +19,12 @@ pub bar-whole : (text opened titled shaped striped numbered worded whole : List 
 bar-whole text opened titled shaped striped numbered worded whole width columns bar o t s r n w is = rw (is, w, n, r, s, t, o) refl
 
 -- what is said of a part
-pub part-whole : (text before behind counts : List ℕ) (width bottom end many : ℕ) (picture : Picture) (part : PicturePart)
+pub part-whole : (text before next counts : List ℕ) (width bottom end many : ℕ) (picture : Picture) (part : PicturePart)
     → picture.part ≡ Some part → many ≡ length picture.lanes.items → bottom ≡ y_of many → end ≡ x_of width picture.columns
-    → before ≡ with_before text part.before bottom → behind ≡ with_after before (end + 8) part.behind bottom
-    → counts ≡ with_note behind (bottom + 52) picture.columns part picture.is_few picture.heading
+    → before ≡ with_before text part.before bottom → next ≡ with_after before (end + 8) part.after bottom
+    → counts ≡ with_note next (bottom + 52) picture.columns part picture.is_few picture.heading
     → counts ≡ with_part_of text width picture picture.part
-part-whole text before behind counts width bottom end many picture part is m b e first second third =
+part-whole text before next counts width bottom end many picture part is m b e first second third =
     rw (third, second, first, b, e, m, is) refl
 
 -- what the shapes mean

@@ -51,12 +51,12 @@ with_after text x count bottom = if count == 0 then text else text ++ line_text 
 -- how many columns are shown, of how many, and around which event
 abbrev pub counts_text : ℕ → PicturePart → List ℕ
 counts_text columns part =
-    decimal columns ++ (codes " of " ++ (decimal (part.before + columns + part.behind) ++ (codes " columns, around event "
+    decimal columns ++ (codes " of " ++ (decimal (part.before + columns + part.after) ++ (codes " columns, around event "
     ++ (decimal part.event ++ codes ". "))))
 
 -- the counts, if not all columns are shown
 abbrev pub with_counts : List ℕ → ℕ → PicturePart → List ℕ
-with_counts text columns part = if part.before + part.behind == 0 then text else text ++ counts_text columns part
+with_counts text columns part = if part.before + part.after == 0 then text else text ++ counts_text columns part
 
 -- the words on which calls are left out: a part of a no or an undecided shows only the named
 -- segment, or a few calls of it
@@ -80,7 +80,7 @@ abbrev pub with_part_of : List ℕ → ℕ → Picture → Option PicturePart �
 with_part_of text width picture None = text
 with_part_of text width picture (Some part) =
     let bottom = y_of (length picture.lanes.items) in
-    with_note (with_after (with_before text part.before bottom) (x_of width picture.columns + 8) part.behind bottom)
+    with_note (with_after (with_before text part.before bottom) (x_of width picture.columns + 8) part.after bottom)
     (bottom + 52) picture.columns part picture.is_few picture.heading
 
 unfoldable pub with_part : List ℕ → ℕ → Picture → List ℕ

@@ -52,7 +52,7 @@ pub fn push_part(out: &mut String, width: u8, picture: &Picture) -> Result<(), M
     let bottom = y_of(picture.lanes.len());
     let end = x_of(width, picture.columns) + 8;
     push_before(out, part.before, bottom)?;
-    push_after(out, end, part.behind, bottom)?;
+    push_after(out, end, part.after, bottom)?;
     push_note(out, bottom + 52, part, picture)?;
     Ok(())
 }
@@ -125,7 +125,7 @@ fn push_counts(out: &mut String, columns: usize, part: PicturePart) -> Result<()
     ensures { OnOk result (string_bytes out.new ≡ with_counts (string_bytes out.old) columns
         part) }
 {
-    let left_out = part.before as u128 + part.behind as u128;
+    let left_out = part.before as u128 + part.after as u128;
     if left_out == 0 {
         return Ok(());
     }
@@ -137,7 +137,7 @@ fn push_counted(out: &mut String, columns: usize, part: PicturePart) -> Result<(
     ensures { OnOk result (string_bytes out.new ≡ string_bytes out.old ++ counts_text columns
         part) }
 {
-    let all = part.before as u128 + columns as u128 + part.behind as u128;
+    let all = part.before as u128 + columns as u128 + part.after as u128;
     let event = part.event;
     write!(out, "{columns} of {all} columns, around event {event}. ")?;
     Ok(())

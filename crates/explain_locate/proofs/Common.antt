@@ -21,8 +21,8 @@ pub use Rattle.explain_shrink.specs.Explained.{IsExplained}
 pub use Rattle.history_text.specs.Texts.{list_data, number_data}
 pub use Rattle.judge.specs.Laws.{OneExactVerdict}
 pub use Rattle.events.proofs.NumberLemmas.{IsSomeAnd-within, some_at}
-pub use Rattle.follow_monitor.specs.OwnParts.{KeyCore, key_core, part_of}
-pub use Rattle.follow_monitor.specs.declared.loss.Violation.{Violation}
+pub use Rattle.follow_violations.specs.OwnParts.{KeyCore, key_core, part_of}
+pub use Rattle.follow_violations.specs.declared.loss.Violation.{Violation}
 pub use Rattle.map_object.specs.MapObject.{Contents}
 pub use Rattle.follow_monitor.specs.Following.{IsFollowing}
 pub use Rattle.follow_monitor.specs.Outcomes.{IsAnswered, IsKeptWith, IsLost, IsSpent}

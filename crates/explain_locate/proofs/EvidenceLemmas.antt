@@ -1,7 +1,7 @@
 -- What shows a location.
 use Rattle.explain_locate.proofs.Common.{◌≡◌, ℕ, ◌+◌, suc, List, [], ◌∷◌, ◌++◌, length, take, Some, subst, Event, Answer, HistoryView, Violation, KeyCore}
 use Rattle.explain_locate.proofs.Common.{key_core, IsLostAt, IsLossEvidence, IsOwnEvidence, ShowsNoneUpTo}
-use Rattle.follow_monitor.specs.LossLaws.{IsOwnPartOf, OwnPartsHaveNoOrder}
+use Rattle.follow_violations.specs.Laws.{IsOwnPartOf, OwnPartsHaveNoOrder}
 use Rattle.explain_locate.specs.declared.evidence.Evidence.{Evidence}
 use Rattle.explain_locate.specs.declared.evidence.Evidence.TheVariants.{OfEvents, OfPart, Missing}
 use Rattle.explain_locate.proofs.FormLemmas.{kept_of_own}

@@ -7,8 +7,8 @@ use Rattle.orders.specs.Orders.{IsLinearizable}
 use Rattle.follow_monitor.specs.Prefixes.{prefix_of}
 use Rattle.explain_shrink.specs.Explained.{IsExplained, IsExplanation}
 use Rattle.explain_shrink.specs.declared.explanation.Explanation.{Explanation}
-use Rattle.follow_monitor.specs.declared.loss.Violation.{Violation}
-use Rattle.follow_monitor.specs.OwnParts.{key_core}
+use Rattle.follow_violations.specs.declared.loss.Violation.{Violation}
+use Rattle.follow_violations.specs.OwnParts.{key_core}
 use Rattle.explain_locate.specs.declared.location.Location.{Location}
 use Rattle.explain_locate.specs.declared.location.Location.TheVariants as locations
 use Rattle.explain_locate.specs.declared.evidence.Evidence.{Evidence}

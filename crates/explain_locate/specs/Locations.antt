@@ -5,7 +5,7 @@ use Rattle.events.specs.declared.event.Reply.{Reply}
 use Rattle.events.specs.HistoryView.{HistoryView}
 use Rattle.orders.specs.Orders.{IsLinearizableHistory}
 use Rattle.follow_monitor.specs.Prefixes.{prefix_of, IsAnswerOf, GoesWrongAt}
-use Rattle.follow_monitor.specs.declared.loss.Violation.{Violation}
+use Rattle.follow_violations.specs.declared.loss.Violation.{Violation}
 use Rattle.follow_monitor.specs.Following.{IsFollowing}
 use Rattle.follow_monitor.specs.MonitorView.{MonitorView}
 use Rattle.follow_monitor.specs.Outcomes.{IsAnswered}

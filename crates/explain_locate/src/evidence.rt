@@ -1,6 +1,6 @@
 // What shows a location.
 use explain_shrink::Explanation;
-use follow_monitor::KeyCore;
+use follow_violations::KeyCore;
 
 /// What shows that a history goes wrong at an event, or may.
 #[derive(Drop)]

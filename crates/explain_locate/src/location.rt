@@ -1,5 +1,5 @@
 // Locations of the event at which a history goes wrong, and orders of the events before it.
-use follow_monitor::Violation;
+use follow_violations::Violation;
 
 /// Where a history goes wrong, as far as searches within a budget find. Events and calls are
 /// numbered from 0.

@@ -14,7 +14,7 @@ use crate::evidence::Evidence;
 use crate::location::Location;
 use events::{History, Memory};
 use explain_shrink::{Explanation, explain_calls, explain_history};
-use follow_monitor::{KeyCore, Violation, key_core, own_parts_have_no_order};
+use follow_violations::{KeyCore, Violation, key_core, own_parts_have_no_order};
 use map_object::SortedMap;
 use std::alloc::Global;
 

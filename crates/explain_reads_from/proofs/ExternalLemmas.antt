@@ -5,7 +5,7 @@ use Rattle.std.proofs.lemmas.List.Kept.{AllPairs-filter}
 use Rattle.events.specs.declared.operation.Operation.{Operation}
 use Rattle.events.proofs.Lists.{Contains-filter, Contains-from_filter}
 use Rattle.map_object.specs.MapObject.{Contents}
-use Rattle.explain_reads_from.specs.Told.{all_reported}
+use Rattle.explain_reads_from.specs.Reported.{all_reported}
 use Rattle.explain_reads_from.specs.External.{is_internal, IsBelow, AreExternal}
 
 fails_from : (b : Bool) → not b ≡ true → b ≡ false

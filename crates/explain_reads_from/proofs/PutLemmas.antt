@@ -22,10 +22,10 @@ use Rattle.map_object.specs.MapObject.{Contents, IsRising, value_at, is_just, is
 use Rattle.map_object.specs.MapObject.{after, after_reply, IsLegalReply}
 use Rattle.orders.specs.Orders.{IsLegal, IsLegalCall, after_call, calls_at}
 use Rattle.explain_shrink.specs.Tells.{put_by}
-use Rattle.explain_reads_from.specs.Told.{pairs_told, pairs_reported_by, all_reported}
+use Rattle.explain_reads_from.specs.Reported.{pairs_reported, pairs_reported_by, all_reported}
 use Rattle.explain_reads_from.specs.External.{is_put}
 use Rattle.explain_reads_from.specs.Writers.{says_undone, is_undone, writes}
-use Rattle.explain_reads_from.specs.Laws.{WhatIsToldWasPut}
+use Rattle.explain_reads_from.specs.Laws.{WhatIsReportedWasPut}
 
 -- ---- different kinds of replies
 
@@ -130,7 +130,7 @@ only_one : (one : Bool) (first pair : ℕ × ℕ) → Contains (cond one (first 
 only_one true first pair is = ⊎_elim (λ same. same) (λ later. absurd (Contains-nil pair later)) (Contains-cases first [] pair is)
 only_one false first pair is = absurd (Contains-nil pair is)
 
-told_there : (m : Contents) (call : Call) (reply : Reply) (pair : ℕ × ℕ) → IsLegalReply m call reply → Contains (pairs_told call reply) pair
+told_there : (m : Contents) (call : Call) (reply : Reply) (pair : ℕ × ℕ) → IsLegalReply m call reply → Contains (pairs_reported call reply) pair
     → Contains m pair
 told_there m call replies.None pair legal told = absurd (Contains-nil pair told)
 told_there m call (replies.Some value) pair legal told =
@@ -292,8 +292,8 @@ completed : (call : Call) (response : Option Response) (inv : ℕ) (pair : ℕ �
 completed call None inv pair told = absurd (Contains-nil pair told)
 completed call (Some response) inv pair told = refl
 
-pub what_is_told_was_put : WhatIsToldWasPut
-what_is_told_was_put start calls pair rising (order, is) told =
+pub what_is_reported_was_put : WhatIsReportedWasPut
+what_is_reported_was_put start calls pair rising (order, is) told =
     let (a, known, tells) = teller calls pair told in
     let (n, at) = place_of-Contains calls a known in
     let done = subst (λ (o : Option Operation). IsSomeAnd o (λ b. IsTrue (is_completed b))) (sym at)

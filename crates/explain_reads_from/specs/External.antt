@@ -6,7 +6,7 @@ use Rattle.events.specs.declared.operation.Operation.{Operation}
 use Rattle.events.specs.Keys.{low_key}
 use Rattle.map_object.specs.MapObject.{Contents, value_at, is_just}
 use Rattle.explain_shrink.specs.Tells.{put_of}
-use Rattle.explain_reads_from.specs.Told.{all_reported}
+use Rattle.explain_reads_from.specs.Reported.{all_reported}
 
 -- whether this value is put at a key
 abbrev pub is_put : Option (Option ℕ) → ℕ → Bool

@@ -6,15 +6,15 @@ use Rattle.events.specs.Precedence.{NonePrecedesItself}
 use Rattle.map_object.specs.MapObject.{Contents, IsRising}
 use Rattle.orders.specs.Orders.{IsLinearizable}
 use Rattle.call_effects.specs.TimeCuts.{InvocationsRise}
-use Rattle.explain_reads_from.specs.Told.{all_reported}
+use Rattle.explain_reads_from.specs.Reported.{all_reported}
 use Rattle.explain_reads_from.specs.External.{holds}
 use Rattle.explain_reads_from.specs.Writers.{writes}
 use Rattle.explain_reads_from.specs.Missed.{missed_writes}
 
 -- if calls have an order, each pair that they report was there at the start, or one of the calls
 -- puts it
-abbrev pub WhatIsToldWasPut : Type 0
-WhatIsToldWasPut =
+abbrev pub WhatIsReportedWasPut : Type 0
+WhatIsReportedWasPut =
     (start : Contents) (calls : List Operation) (pair : ℕ × ℕ) → IsRising start → IsLinearizable start calls → Contains (all_reported calls) pair
     → (holds start pair ≡ true) ⊎ ((a : Operation) × Contains calls a × (writes pair a ≡ true))
 

@@ -1,4 +1,4 @@
-pub mod Told
+pub mod Reported
 pub mod External
 pub mod Writers
 pub mod Missed

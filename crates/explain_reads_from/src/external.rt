@@ -3,7 +3,7 @@ ghost use Rattle.std.specs.Prelude.{◌≡◌, ◌↔◌, ℕ, not, filter, AllP
 ghost use Rattle.std.specs.List.{list_any};
 ghost use Rattle.explain_reads_from.specs.External.{is_put, may_put, may_change, is_internal, IsBelow, AreExternal};
 
-use crate::told::all_reported;
+use crate::reported::all_reported;
 use crate::writing::{holds, is_put};
 use events::{Memory, Operation};
 use explain_shrink::put_of;
@@ -21,8 +21,8 @@ pub fn external_reads(
 ) -> Result<Vec<(u64, u64)>, Memory>
     ensures { IfOk result (λ pairs. AreExternal start.now calls.now pairs.items) }
 {
-    let told = in_order(all_reported(alloc, calls)?);
-    external_of(alloc, start, calls, &told)
+    let reported = in_order(all_reported(alloc, calls)?);
+    external_of(alloc, start, calls, &reported)
 }
 
 /// Sorts the pairs by rising key and value, and leaves each once.
@@ -40,13 +40,13 @@ fn external_of(
     alloc: Global,
     start: &SortedMap,
     calls: &[Operation],
-    told: &[(u64, u64)],
+    reported: &[(u64, u64)],
 ) -> Result<Vec<(u64, u64)>, Memory>
     ensures { IfOk result (λ pairs. pairs.items ≡ filter
-        (λ pair. not (is_internal start.now calls.now pair)) told.now) }
+        (λ pair. not (is_internal start.now calls.now pair)) reported.now) }
 {
     let mut pairs = Vec::new(alloc);
-    for pair in told {
+    for pair in reported {
         if !is_internal(start, calls, *pair) {
             pairs.push(*pair)?;
         }

@@ -7,10 +7,10 @@
 mod external;
 mod laws;
 mod missing;
-mod told;
+mod reported;
 mod writing;
 
 pub use external::external_reads;
-pub use laws::{missed_calls_refute, one_is_missed_at_a_key, what_is_told_was_put};
+pub use laws::{missed_calls_refute, one_is_missed_at_a_key, what_is_reported_was_put};
 pub use missing::{Missed, missed_writes};
 pub use writing::{holds, says_undone, writers_of};

@@ -1,4 +1,4 @@
-//! Laws of what a monitor may save of the calls of a stream, for each part of the keys.
+//! Laws of what a monitor stores of the calls of a stream, for each part of the keys.
 //!
 //! A part is some keys, with the pasts that these may have. A past says which calls took effect at the keys, what they found there, and what the
 //! keys hold. The pasts of all parts together represent the calls so far (`Represent`). Whatever events follow, the calls have an order exactly if

@@ -1,11 +1,11 @@
 -- The open call of a process is answered: of the calls only it changes.
-use Rattle.follow_monitor.proofs.Common.{◌≡◌, ◌≢◌, ℕ, zero, suc, ◌+◌, ◌==◌, Bool, true, false, cond, not, List, [], ◌∷◌, ◌++◌, length, map, Some}
-use Rattle.follow_monitor.proofs.Common.{None, refl, sym, ap, ◌∙◌, subst, ⊎_elim, inl, inr, arith, ◌⊎◌, Contains, slice_get, and_parts, cases_order}
-use Rattle.follow_monitor.proofs.Common.{eq-eqb, ne_eqb, Contains-append_cases, none-some, same_Some, Call, Event, Invoke, Answer, Reply, Operation}
-use Rattle.follow_monitor.proofs.Common.{process_of, is_invocation, events_of, events_alternate, IsWellFormed, ends_waiting, has_open_call}
-use Rattle.follow_monitor.proofs.Common.{response_from, operation_of, operations_from, operations, IsWellFormed-push, inv_rises, Contains-nil}
-use Rattle.follow_monitor.proofs.Common.{Contains-cases, Contains-first, Contains-later, Contains-from_map, begun_at, answered_at, invoked_from}
-use Rattle.follow_monitor.proofs.Common.{response_found, turns_later, operations-invoke, operations-answer, same_call, IsOpenCall}
+use Rattle.follow_monitor.proofs.Common.{invoked_from, response_found, turns_later, operations-invoke, operations-answer, same_call, begun_at}
+use Rattle.follow_monitor.proofs.Common.{answered_at, Contains-from_map, IsWellFormed-push, Contains-nil, Contains-cases, Contains-first}
+use Rattle.follow_monitor.proofs.Common.{Contains-later, inv_rises, process_of, is_invocation, events_of, events_alternate, IsWellFormed}
+use Rattle.follow_monitor.proofs.Common.{ends_waiting, has_open_call, response_from, operation_of, operations_from, operations, Call, Event, Invoke}
+use Rattle.follow_monitor.proofs.Common.{Answer, Reply, Operation, IsOpenCall, ◌≡◌, ◌≢◌, ℕ, zero, suc, ◌+◌, ◌==◌, Bool, true, false, cond, not, List}
+use Rattle.follow_monitor.proofs.Common.{[], ◌∷◌, ◌++◌, length, map, Some, None, refl, sym, ap, ◌∙◌, subst, ⊎_elim, inl, inr, arith, and_parts}
+use Rattle.follow_monitor.proofs.Common.{cases_order, eq-eqb, ne_eqb, Contains-append_cases, none-some, same_Some, ◌⊎◌, Contains, slice_get}
 
 -- ---- the open call
 

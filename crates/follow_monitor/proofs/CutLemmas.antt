@@ -1,13 +1,13 @@
 -- An order of the calls of a whole, cut to the calls of its first events.
 use Rattle.events.specs.declared.event.Reply.TheVariants as replies
-use Rattle.follow_monitor.proofs.Common.{◌≡◌, ℕ, ◌<◌, ◌≤◌, Bool, true, false, cond, List, [], ◌∷◌, length, Option, Some, None, refl, sym, ap, ◌∙◌}
-use Rattle.follow_monitor.proofs.Common.{subst, ⊎_elim, inr, IsTrue, arith, ◌⊎◌, slice_get, IsSomeAnd, All, AllPairs, Contains, lt-ltb, false≢true}
-use Rattle.follow_monitor.proofs.Common.{none-some, slice_get_within, AllPairs-cons, All-nil, All-cons, All-head, All-tail, All-contains, Call, Reply}
-use Rattle.follow_monitor.proofs.Common.{Operation, Response, is_completed, is_before, precedes, Contents, after, after_reply, after_call}
-use Rattle.follow_monitor.proofs.Common.{IsLegalCall, IsLegal, calls_at, KeepsPrecedence, IsCompletedAt, IsOrder, AllPairs-nil, AllPairs-head}
-use Rattle.follow_monitor.proofs.Common.{AllPairs-tail, Contains-first, Contains-later, Contains-nil, Contains-cases, All-from_contains}
-use Rattle.follow_monitor.proofs.Common.{slice_get-below, some_at, AreRelatedAs, AllPairs-from_filter_map, AllPairs-filter_map, AllPairs-weaker}
-use Rattle.follow_monitor.proofs.Common.{IsExtendedResponse, IsExtended}
+use Rattle.follow_monitor.proofs.Common.{IsExtendedResponse, IsExtended, AreRelatedAs, AllPairs-from_filter_map, AllPairs-filter_map, AllPairs-weaker}
+use Rattle.follow_monitor.proofs.Common.{AllPairs-nil, AllPairs-head, AllPairs-tail, Contains-first, Contains-later, Contains-nil, Contains-cases}
+use Rattle.follow_monitor.proofs.Common.{All-from_contains, slice_get-below, some_at, is_completed, is_before, precedes, Call, Reply, Operation}
+use Rattle.follow_monitor.proofs.Common.{Response, Contents, after, after_reply, after_call, IsLegalCall, IsLegal, calls_at, KeepsPrecedence}
+use Rattle.follow_monitor.proofs.Common.{IsCompletedAt, IsOrder, ◌≡◌, ℕ, ◌<◌, ◌≤◌, Bool, true, false, cond, List, [], ◌∷◌, length, Option, Some, None}
+use Rattle.follow_monitor.proofs.Common.{refl, sym, ap, ◌∙◌, subst, ⊎_elim, inr, IsTrue, arith, lt-ltb, false≢true, All-nil, All-cons, All-head}
+use Rattle.follow_monitor.proofs.Common.{All-tail, All-contains, none-some, slice_get_within, ◌⊎◌, slice_get, IsSomeAnd, All, AllPairs, Contains}
+use Rattle.std.proofs.lemmas.List.Kept.{AllPairs-cons}
 use Rattle.std.specs.Prelude.{◌≢◌, is_some}
 
 -- whether a reply is `refused`

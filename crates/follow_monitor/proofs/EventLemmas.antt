@@ -1,9 +1,9 @@
 -- Each response is that of one call, and there are at most as many as invocations.
-use Rattle.follow_monitor.proofs.Common.{◌≡◌, ℕ, zero, suc, ◌+◌, ◌*◌, ◌≤◌, Bool, true, false, not, ◌&&◌, ◌||◌, cond, ◌==◌, List, [], ◌∷◌, length}
-use Rattle.follow_monitor.proofs.Common.{Some, refl, sym, ap, subst, inl, inr, ⊎_elim, arith, ◌++◌, ◌∙◌, ◌⊎◌, slice_get, IsSomeAnd, Contains}
-use Rattle.follow_monitor.proofs.Common.{false≢true, or_cases, and_parts, none-some, sum_by-cons, length-append, Event, Call, Invoke, Answer, Reply}
-use Rattle.follow_monitor.proofs.Common.{is_invocation, events_of, events_alternate, IsWellFormed, call_count, response_from, operations_from}
-use Rattle.follow_monitor.proofs.Common.{Contains-first, Contains-later, Contains-split, Contains-around}
+use Rattle.follow_monitor.proofs.Common.{Contains-first, Contains-later, Contains-split, Contains-around, is_invocation, events_of, events_alternate}
+use Rattle.follow_monitor.proofs.Common.{IsWellFormed, call_count, response_from, operations_from, Call, Event, Invoke, Answer, Reply, ◌≡◌, ℕ, zero}
+use Rattle.follow_monitor.proofs.Common.{suc, ◌+◌, ◌*◌, ◌≤◌, Bool, true, false, not, ◌&&◌, ◌||◌, cond, ◌==◌, List, [], ◌∷◌, length, Some, refl, sym}
+use Rattle.follow_monitor.proofs.Common.{ap, subst, inl, inr, ⊎_elim, arith, ◌++◌, ◌∙◌, false≢true, or_cases, and_parts, length-append, sum_by-cons}
+use Rattle.follow_monitor.proofs.Common.{none-some, ◌⊎◌, slice_get, IsSomeAnd, Contains}
 use Rattle.std.proofs.Common.{eqb-true, eq-eqb}
 use Rattle.std.proofs.Math.Nat.{zero-add}
 

@@ -1,8 +1,8 @@
 -- What is wrong with an event, by the open calls that are known.
 use Rattle.follow_monitor.specs.declared.fault.FollowFault.TheVariants as faults
-use Rattle.follow_monitor.proofs.Common.{◌≡◌, ℕ, ◌<◌, ◌≤◌, true, false, List, length, Option, Some, None, refl, sym, ◌∙◌, false_from_ne_true, le-leb}
-use Rattle.follow_monitor.proofs.Common.{le-ltb, lt-leb, none-some, Call, Event, has_open_call, low_key, high_key, Contents, event_limit}
-use Rattle.follow_monitor.proofs.Common.{invocation_fault, answer_fault, MonitorView, known_call, IsFollowing, OpenCall, is_some}
+use Rattle.follow_monitor.proofs.Common.{has_open_call, low_key, high_key, Call, Event, event_limit, invocation_fault, answer_fault, IsFollowing}
+use Rattle.follow_monitor.proofs.Common.{MonitorView, known_call, OpenCall, Contents, ◌≡◌, ℕ, ◌<◌, ◌≤◌, true, false, List, length, Option, Some, None}
+use Rattle.follow_monitor.proofs.Common.{refl, sym, ◌∙◌, is_some, false_from_ne_true, le-leb, le-ltb, lt-leb, none-some}
 use Rattle.follow_monitor.proofs.OpenLemmas.{is_open, open_of}
 
 -- a test of what is known

@@ -1,9 +1,9 @@
 -- A monitor goes on after an event.
-use Rattle.follow_monitor.proofs.Common.{◌≡◌, ◌≢◌, ℕ, ◌+◌, ◌-◌, ◌^◌, ◌<◌, ◌≤◌, ◌==◌, ◌++◌, ◌∷◌, [], List, Some, None, true, cond, refl, sym, ap, ◌∙◌}
-use Rattle.follow_monitor.proofs.Common.{subst, arith, All, false≢true, length_push, Call, Event, Invoke, Answer, Reply, Operation, IsWellFormed}
-use Rattle.follow_monitor.proofs.Common.{has_open_call, low_key, high_key, operations, IsWellFormed-push, Put, Contents, InvocationsKeepOrders}
-use Rattle.follow_monitor.proofs.Common.{operations-invoke, PartGoesOn, KeptPartsDecide, begun, is_reported, IsCounted, IsStateOf, PartsView, kept_parts}
-use Rattle.follow_monitor.proofs.Common.{MonitorView, known_call, IsFollowing, AreRecentPuts, OpenCall}
+use Rattle.follow_monitor.proofs.Common.{operations-invoke, IsWellFormed-push, IsWellFormed, has_open_call, low_key, high_key, operations, Call}
+use Rattle.follow_monitor.proofs.Common.{Event, Invoke, Answer, Reply, Operation, PartGoesOn, KeptPartsDecide, IsFollowing, MonitorView, known_call}
+use Rattle.follow_monitor.proofs.Common.{InvocationsKeepOrders, AreRecentPuts, OpenCall, Put, begun, is_reported, IsCounted, IsStateOf, PartsView}
+use Rattle.follow_monitor.proofs.Common.{kept_parts, Contents, ◌≡◌, ◌≢◌, ℕ, ◌+◌, ◌-◌, ◌^◌, ◌<◌, ◌≤◌, ◌==◌, ◌++◌, ◌∷◌, [], List, Some, None, true}
+use Rattle.follow_monitor.proofs.Common.{cond, refl, sym, ap, ◌∙◌, subst, arith, false≢true, length_push, All}
 use Rattle.follow_monitor.proofs.CallLemmas.{well_formed_on}
 use Rattle.follow_monitor.proofs.FaultLemmas.{waits, idles}
 use Rattle.follow_monitor.proofs.JudgeLemmas.{AreAround, around, is_call}

@@ -1,12 +1,13 @@
 -- The answer of an open call: it is the answer of the call's number, and if there is no order with it, the events go wrong there.
-use Rattle.follow_monitor.proofs.Common.{◌≡◌, ◌≢◌, ℕ, ◌+◌, ◌<◌, ◌≤◌, List, [], ◌∷◌, ◌++◌, length, map, take, Option, Some, None, refl, sym, ap, ◌∙◌}
-use Rattle.follow_monitor.proofs.Common.{subst, arith, All, AllPairs, Any, Contains, slice_get, IsSomeAnd, option_map, eq-eqb, ne_eqb, length_push}
-use Rattle.follow_monitor.proofs.Common.{take_at, All-contains, All-head, All-weaker, slice_get-map, Call, Get, Insert, Remove, Scan, Replace, Event}
-use Rattle.follow_monitor.proofs.Common.{Answer, Reply, Operation, Response, low_key, high_key, operations, inv_rises, AllPairs-across, AllPairs-back}
-use Rattle.follow_monitor.proofs.Common.{AllPairs-head, Contains-split, Contains-map, Contents, IsRising, IsLinearizable, IsAnswerOf, GoesWrongAt}
-use Rattle.follow_monitor.proofs.Common.{PrefixesHaveOrders, answered_at, completed_at, HasForm, OrdersAreKeyedOrders, KeptPart, PartGoesOn}
-use Rattle.follow_monitor.proofs.Common.{KeptPartsDecide, KeptPast, IsDead, covered, begun, is_reported, reported, IsKeptBeside, pasts_of, EndedPart}
-use Rattle.follow_monitor.proofs.Common.{MayReply, event_limit, answer_fault, MonitorView, known_call, IsCallOf, IsFollowing, OpenCall, map_fixed}
+use Rattle.follow_monitor.proofs.Common.{completed_at, answered_at, Contains-map, AllPairs-across, AllPairs-back, AllPairs-head, Contains-split}
+use Rattle.follow_monitor.proofs.Common.{inv_rises, low_key, high_key, operations, Call, Get, Insert, Remove, Scan, Replace, Event, Answer, Reply}
+use Rattle.follow_monitor.proofs.Common.{Operation, Response, OrdersAreKeyedOrders, HasForm, KeptPart, PartGoesOn, KeptPartsDecide, KeptPast}
+use Rattle.follow_monitor.proofs.Common.{MayReply, event_limit, answer_fault, IsCallOf, IsFollowing, MonitorView, known_call, PrefixesHaveOrders}
+use Rattle.follow_monitor.proofs.Common.{IsAnswerOf, GoesWrongAt, OpenCall, begun, is_reported, reported, IsKeptBeside, pasts_of, EndedPart, IsDead}
+use Rattle.follow_monitor.proofs.Common.{covered, Contents, IsRising, IsLinearizable, ◌≡◌, ◌≢◌, ℕ, ◌+◌, ◌<◌, ◌≤◌, List, [], ◌∷◌, ◌++◌, length, map}
+use Rattle.follow_monitor.proofs.Common.{take, Option, Some, None, refl, sym, ap, ◌∙◌, subst, arith, eq-eqb, ne_eqb, length_push, take_at}
+use Rattle.follow_monitor.proofs.Common.{All-contains, All-head, All-weaker, map_fixed, slice_get-map, option_map, All, AllPairs, Any, Contains}
+use Rattle.follow_monitor.proofs.Common.{slice_get, IsSomeAnd}
 use Rattle.std.proofs.Common.{append_assoc}
 use mathlib.Core.List.{map-append}
 use Rattle.follow_monitor.proofs.CallLemmas.{open_call, answered_calls, with_answer}

@@ -1,12 +1,15 @@
 -- What the parts make of an answer, for the events.
-use Rattle.follow_monitor.proofs.Common.{◌≡◌, ℕ, suc, ◌<◌, ◌==◌, true, false, List, [], ◌∷◌, ◌++◌, length, map, Some, None, cond, refl, sym, ap, ◌∙◌}
-use Rattle.follow_monitor.proofs.Common.{subst, ⊎_elim, All, AllZip, All-head, Event, Answer, Reply, Call, Operation, Response, may_change}
-use Rattle.follow_monitor.proofs.Common.{operations, OrdersAreKeyedOrders, answered, KeptPast, IsWithRead, PartGoesOn, KeptPartsDecide, Put, Contents}
-use Rattle.follow_monitor.proofs.Common.{IsLinearizable, IsDead, AreDoubtful, covered, begun, is_reported, IsCounted, IsEndedBy, IsKeptBeside}
-use Rattle.follow_monitor.proofs.Common.{IsStateOf, pasts_of, response_at, PartsView, kept_parts, EndedPart, PrefixesHaveOrders, GoesWrongAt}
-use Rattle.follow_monitor.proofs.Common.{IsAnswerOf, IsLostPart, IsPendingIn, MayReply, event_limit, IsFollowing, IsLossAt, MonitorView, known_call}
-use Rattle.follow_monitor.proofs.Common.{AreAllPuts, put_limit, AreRecentPuts, ArePutsOf, BecomeWithAnswer, OpenCall, HasPasts, IsReached}
-use Rattle.follow_monitor.proofs.Common.{KeptPastsAreReached, Violation, kept_of, Past, IsKeptWith, IsLost, IsOfAnswer, IsSpent}
+use Rattle.follow_monitor.proofs.Common.{may_change, operations, Call, Event, Answer, Reply, Operation, Response, OrdersAreKeyedOrders, IsWithRead}
+use Rattle.follow_monitor.proofs.Common.{PartGoesOn, KeptPartsDecide, answered, KeptPast, IsLostPart, IsPendingIn, MayReply, event_limit, IsFollowing}
+use Rattle.follow_monitor.proofs.Common.{IsLossAt, MonitorView, known_call, AreAllPuts, IsKeptWith, IsLost, IsOfAnswer, IsSpent, PrefixesHaveOrders}
+use Rattle.follow_monitor.proofs.Common.{GoesWrongAt, IsAnswerOf, put_limit, AreRecentPuts, ArePutsOf, BecomeWithAnswer, Violation, OpenCall, Put}
+use Rattle.follow_monitor.proofs.Common.{begun, is_reported, IsCounted, IsEndedBy, IsKeptBeside, IsStateOf, pasts_of, response_at, PartsView}
+use Rattle.follow_monitor.proofs.Common.{kept_parts, EndedPart, IsDead, AreDoubtful, covered, Contents, IsLinearizable, ◌≡◌, ℕ, suc, ◌<◌, ◌==◌, true}
+use Rattle.follow_monitor.proofs.Common.{false, List, [], ◌∷◌, ◌++◌, length, map, Some, None, cond, refl, sym, ap, ◌∙◌, subst, ⊎_elim, All-head}
+use Rattle.follow_monitor.proofs.Common.{AllZip, All}
+use Rattle.follow_cuts.specs.PartCuts.{kept_of}
+use Rattle.follow_cuts.specs.declared.past.Past.{Past}
+use Rattle.follow_laws.specs.KeptReached.{HasPasts, IsReached, KeptPastsAreReached}
 use Rattle.std.specs.Prelude.{◌≢◌}
 use Rattle.follow_monitor.proofs.CallLemmas.{well_formed_on}
 use Rattle.follow_monitor.proofs.FollowLemmas.{around_it, calls_then, state_before, answer_taken}

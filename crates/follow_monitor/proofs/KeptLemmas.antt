@@ -1,5 +1,5 @@
 -- What a monitor keeps is what contracts see of it (`same_with`), also while its parts are taken out.
-use Rattle.follow_monitor.proofs.Common.{◌≡◌, Option, Some, sym, ap, ◌∙◌, PartsView, MonitorView, parts_of, Kept}
+use Rattle.follow_monitor.proofs.Common.{MonitorView, parts_of, Kept, PartsView, ◌≡◌, Option, Some, sym, ap, ◌∙◌}
 
 -- what contracts see of it with these parts
 abbrev pub seen_with : PartsView → Kept → MonitorView

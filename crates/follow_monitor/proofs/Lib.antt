@@ -1,13 +1,5 @@
 mod Common
-pub mod LawLemmas
-pub mod AnyLemmas
-pub mod LossPairLemmas
-pub mod NameLemmas
-pub mod WriterLemmas
-pub mod OriginLemmas
 mod OverlapLemmas
-pub mod LossLemmas
-pub mod LossReachLemmas
 mod EventLemmas
 mod CutLemmas
 mod PrefixLemmas

@@ -1,11 +1,10 @@
 -- Nothing is missed in the pasts of a part that is kept: a get that begins and is answered is left in each of them, and the parts decide.
-use Rattle.follow_monitor.proofs.Common.{◌≡◌, ℕ, suc, ◌<◌, true, false, List, [], ◌∷◌, ◌++◌, map, length, Some, append-nil, refl, sym, ap, ◌∙◌, subst}
-use Rattle.follow_monitor.proofs.Common.{arith, All, Contains, AllZip, eq-eqb, ne_eqb, append_assoc, length_push, All-nil, All-head, All-tail}
-use Rattle.follow_monitor.proofs.Common.{All-contains, All-from_contains, Get, Event, Answer, Invoke, Reply, Operation, IsWellFormed, has_open_call}
-use Rattle.follow_monitor.proofs.Common.{operations, IsWellFormed-push, Contents, IsRising, IsLinearizable, begun_at, answered_at, invoked_before}
-use Rattle.follow_monitor.proofs.Common.{operations-invoke, is_refusal, HasKeysIn, KeptPast, IsWithRead, KeptPart, AreKept, IsOwn, PartGoesOn, IsOpenCall}
-use Rattle.follow_monitor.proofs.Common.{read_after, NothingIsMissed, IsKeptFirst, first_of}
-use Rattle.follow_monitor.proofs.AnyLemmas.{any_from_map}
+use Rattle.follow_monitor.proofs.Common.{invoked_before, operations-invoke, begun_at, answered_at, IsWellFormed-push, All-from_contains, IsWellFormed}
+use Rattle.follow_monitor.proofs.Common.{has_open_call, operations, Get, Event, Answer, Invoke, Reply, Operation, IsKeptFirst, first_of, IsWithRead}
+use Rattle.follow_monitor.proofs.Common.{KeptPart, AreKept, IsOwn, PartGoesOn, is_refusal, HasKeysIn, KeptPast, IsOpenCall, read_after}
+use Rattle.follow_monitor.proofs.Common.{NothingIsMissed, Contents, IsRising, IsLinearizable, ◌≡◌, ℕ, suc, ◌<◌, true, false, List, [], ◌∷◌, ◌++◌, map}
+use Rattle.follow_monitor.proofs.Common.{length, Some, append-nil, refl, sym, ap, ◌∙◌, subst, arith, eq-eqb, ne_eqb, append_assoc, length_push}
+use Rattle.follow_monitor.proofs.Common.{All-nil, All-head, All-tail, All-contains, AllZip, All, Contains, any_from_map}
 use Rattle.std.proofs.Common.{eqb-true}
 use Rattle.follow_laws.proofs.KeptAnswerLemmas.{reads_are_answered}
 use Rattle.follow_laws.proofs.KeptDecideLemmas.{kept_parts_decide}

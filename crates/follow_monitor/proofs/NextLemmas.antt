@@ -1,10 +1,10 @@
 -- A monitor goes on after an event: its open calls, and how many calls there are.
-use Rattle.follow_monitor.proofs.Common.{◌≡◌, ◌≢◌, ℕ, suc, ◌+◌, ◌≤◌, ◌==◌, cond, List, [], ◌∷◌, ◌++◌, length, Some, None, sym, ap, ◌∙◌, subst, ⊎_elim}
-use Rattle.follow_monitor.proofs.Common.{arith, All, slice_get, option_map, cases_Bool, eq-eqb, eqb-true, eqb-false, ne_eqb, length-append}
-use Rattle.follow_monitor.proofs.Common.{length-map, All-contains, none-some, same_Some, slice_get-map, slice_get_within, Call, Event, Invoke, Answer}
-use Rattle.follow_monitor.proofs.Common.{Reply, Operation, IsWellFormed, low_key, high_key, operations, operations_from, All-from_contains}
-use Rattle.follow_monitor.proofs.Common.{slice_get-append_left, slice_get-middle, begun_at, answered_at, invoked_before, operations-invoke}
-use Rattle.follow_monitor.proofs.Common.{known_call, IsOpenCall, IsCallOf, OpenCall}
+use Rattle.follow_monitor.proofs.Common.{invoked_before, operations-invoke, begun_at, answered_at, All-from_contains, slice_get-append_left}
+use Rattle.follow_monitor.proofs.Common.{slice_get-middle, IsWellFormed, low_key, high_key, operations, operations_from, Call, Event, Invoke, Answer}
+use Rattle.follow_monitor.proofs.Common.{Reply, Operation, IsOpenCall, IsCallOf, known_call, OpenCall, ◌≡◌, ◌≢◌, ℕ, suc, ◌+◌, ◌≤◌, ◌==◌, cond, List}
+use Rattle.follow_monitor.proofs.Common.{[], ◌∷◌, ◌++◌, length, Some, None, sym, ap, ◌∙◌, subst, ⊎_elim, arith, cases_Bool, eq-eqb, eqb-true}
+use Rattle.follow_monitor.proofs.Common.{eqb-false, ne_eqb, length-append, length-map, All-contains, none-some, same_Some, slice_get-map}
+use Rattle.follow_monitor.proofs.Common.{slice_get_within, option_map, All, slice_get}
 use Rattle.follow_monitor.proofs.CallLemmas.{open_call, invoked_later, answered_later}
 use Rattle.follow_monitor.proofs.OpenLemmas.{open_on, opened, open_before, calls_are, same_at, open_after, open_still}
 

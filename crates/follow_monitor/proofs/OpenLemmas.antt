@@ -1,13 +1,12 @@
 -- Which calls are open after an event, and which processes have an open call.
 use Rattle.events.specs.declared.event.Reply.TheVariants as replies
-use Rattle.follow_monitor.proofs.Common.{◌≡◌, ◌≢◌, ℕ, zero, suc, ◌+◌, ◌<◌, ◌==◌, Bool, true, false, not, List, [], ◌∷◌, ◌++◌, length, map, Option}
-use Rattle.follow_monitor.proofs.Common.{Some, None, refl, sym, ap, ◌∙◌, subst, ⊎_elim, inl, inr, arith, ◌⊎◌, Contains, slice_get, nat_cmp, is_eq}
-use Rattle.follow_monitor.proofs.Common.{and_parts, eq-eqb, eqb-true, ne_eqb, false≢true, Contains-append_left, Contains-append_right, filter-append}
-use Rattle.follow_monitor.proofs.Common.{none-some, slice_get_within, Call, Event, Invoke, Answer, Reply, Operation, Response, process_of}
-use Rattle.follow_monitor.proofs.Common.{is_invocation, events_of, events_alternate, IsWellFormed, ends_waiting, has_open_call, response_from}
-use Rattle.follow_monitor.proofs.Common.{operation_of, operations_from, operations, inv_rises, Contains-first, Contains-later, slice_get-append_left}
-use Rattle.follow_monitor.proofs.Common.{slice_get-middle, Contains-map, begun_at, answered_at, invoked_before, operations-invoke, none_of, same_call}
-use Rattle.follow_monitor.proofs.Common.{IsOpenCall}
+use Rattle.follow_monitor.proofs.Common.{invoked_before, operations-invoke, none_of, same_call, begun_at, answered_at, Contains-map, Contains-first}
+use Rattle.follow_monitor.proofs.Common.{Contains-later, slice_get-append_left, slice_get-middle, inv_rises, process_of, is_invocation, events_of}
+use Rattle.follow_monitor.proofs.Common.{events_alternate, IsWellFormed, ends_waiting, has_open_call, response_from, operation_of, operations_from}
+use Rattle.follow_monitor.proofs.Common.{operations, Call, Event, Invoke, Answer, Reply, Operation, Response, IsOpenCall, ◌≡◌, ◌≢◌, ℕ, zero, suc, ◌+◌}
+use Rattle.follow_monitor.proofs.Common.{◌<◌, ◌==◌, Bool, true, false, not, List, [], ◌∷◌, ◌++◌, length, map, Option, Some, None, refl, sym, ap, ◌∙◌}
+use Rattle.follow_monitor.proofs.Common.{subst, ⊎_elim, inl, inr, arith, and_parts, eq-eqb, eqb-true, ne_eqb, false≢true, Contains-append_left}
+use Rattle.follow_monitor.proofs.Common.{Contains-append_right, filter-append, none-some, slice_get_within, nat_cmp, is_eq, ◌⊎◌, Contains, slice_get}
 use Rattle.follow_monitor.proofs.CallLemmas.{open_call, answered_calls, invoked_later, answered_later, well_formed_on}
 
 -- a query is at a process if it is the same number

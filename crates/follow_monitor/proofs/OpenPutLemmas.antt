@@ -1,11 +1,11 @@
 -- The puts of open calls.
-use Rattle.follow_monitor.proofs.Common.{◌≡◌, ℕ, ◌<◌, ◌≤◌, false, List, [], ◌∷◌, ◌++◌, get_or, Some, eqb, sym, ◌∙◌, subst, ⊎_elim, arith, ◌↔◌, IfOk}
-use Rattle.follow_monitor.proofs.Common.{Result, Ok, Err, All, AllPairs, Any, Contains, IsDistinct, nat_cmp, eqb-false, false≢true, ne_eqb}
-use Rattle.follow_monitor.proofs.Common.{All-contains, All-cons, All-nil, Contains-append_left, Contains-append_right, Contains-get_or}
-use Rattle.follow_monitor.proofs.Common.{Contains-push_cases, Contains-permutation, IsPermutation-sym, All-from_contains, AllPairs-across}
-use Rattle.follow_monitor.proofs.Common.{AllPairs-append, AllPairs-front, Contains-first, AllPairs-from_map, writes, begun, Put, IsOpenPut}
-use Rattle.follow_monitor.proofs.Common.{ArePutsOfEntries, HaveOwnEvents, AreOpenPuts, known_call, OpenCall, IsDistinct-IsPermutation}
-use Rattle.follow_monitor.proofs.Common.{IsDistinct-from_apart, apart_from_distinct, below_from_sorted}
+use Rattle.follow_monitor.proofs.Common.{AllPairs-from_map, All-from_contains, AllPairs-across, AllPairs-append, AllPairs-front, Contains-first}
+use Rattle.follow_monitor.proofs.Common.{writes, known_call, IsOpenPut, ArePutsOfEntries, HaveOwnEvents, AreOpenPuts, OpenCall, Put, begun, ◌≡◌, ℕ}
+use Rattle.follow_monitor.proofs.Common.{◌<◌, ◌≤◌, false, List, [], ◌∷◌, ◌++◌, get_or, Some, eqb, sym, ◌∙◌, subst, ⊎_elim, arith, eqb-false}
+use Rattle.follow_monitor.proofs.Common.{false≢true, ne_eqb, All-contains, All-cons, All-nil, Contains-append_left, Contains-append_right}
+use Rattle.follow_monitor.proofs.Common.{Contains-get_or, Contains-push_cases, Contains-permutation, IsPermutation-sym, IsDistinct, nat_cmp, ◌↔◌}
+use Rattle.follow_monitor.proofs.Common.{IfOk, Result, Ok, Err, All, AllPairs, Any, Contains}
+use Rattle.std.proofs.lemmas.Map.Keys.{IsDistinct-IsPermutation, IsDistinct-from_apart, apart_from_distinct, below_from_sorted}
 use Rattle.std.specs.Prelude.{◌≢◌}
 use Rattle.std.specs.List.Sorted.{IsPermutation, IsStrictlySortedBy}
 use Rattle.std.specs.Map.{keys_of}

@@ -1,7 +1,6 @@
 -- If no two calls of a stream overlap, no answer leaves a doubt.
-use Rattle.follow_monitor.proofs.Common.{suc, [], ◌∷◌, ◌++◌, length, subst, All, Contains, All-head, All-back, All-contains, operations}
-use Rattle.follow_monitor.proofs.Common.{Answer, KeptPart, IsOwn, first_of, covered, pasts_of}
-use Rattle.follow_monitor.specs.Laws.{NoDoubtWithoutOverlap}
+use Rattle.follow_monitor.proofs.Common.{All-back, operations, Answer, first_of, KeptPart, IsOwn, pasts_of, covered, suc, [], ◌∷◌, ◌++◌, length}
+use Rattle.follow_monitor.proofs.Common.{subst, All-head, All-contains, All, Contains, NoDoubtWithoutOverlap}
 
 pub no_doubt_without_overlap : NoDoubtWithoutOverlap
 no_doubt_without_overlap start events process reply budget loss apart spent =

@@ -1,6 +1,7 @@
 -- Pairs by rising key, one after another.
-use Rattle.follow_monitor.proofs.Common.{ℕ, ◌<◌, ◌≤◌, [], ◌∷◌, ◌++◌, All, All-append, All-cons, All-head, All-nil, All-weaker, AllPairs-across}
-use Rattle.follow_monitor.proofs.Common.{All-back, Contents, ArePairsOf, all_pairs_push}
+use Rattle.follow_monitor.proofs.Common.{AllPairs-across, All-back, ArePairsOf, Contents, ℕ, ◌<◌, ◌≤◌, [], ◌∷◌, ◌++◌, All-append, All-cons, All-head}
+use Rattle.follow_monitor.proofs.Common.{All-nil, All-weaker, All}
+use Rattle.std.proofs.lemmas.List.Quantifiers.{all_pairs_push}
 
 -- pairs of a scan, with one more after them
 pub pairs_push : (low high : ℕ) (before : Contents) (pair : ℕ × ℕ) → ArePairsOf low high before → low ≤ pair.0 → pair.0 ≤ high

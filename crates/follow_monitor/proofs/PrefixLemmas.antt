@@ -1,12 +1,12 @@
 -- The first events of a history, and one invocation more.
-use Rattle.follow_monitor.proofs.Common.{◌≡◌, ℕ, zero, ◌+◌, ◌<◌, ◌≤◌, List, [], ◌∷◌, ◌++◌, length, take, drop, refl, sym, ap, ◌∙◌, subst, arith, Bool}
-use Rattle.follow_monitor.proofs.Common.{true, false, suc, cond, ◌==◌, Some, None, IsTrue, ⊎_elim, slice_get, IsSomeAnd, All, list_all, false≢true}
-use Rattle.follow_monitor.proofs.Common.{and_parts, none-some, slice_get_within, get_or_from_slice_get, take_more, length-append, All-head, All-tail}
-use Rattle.follow_monitor.proofs.Common.{All-weaker, All-contains, filter-append, list_all-append, sum_by-append, Contains-at, slice_get-append_left}
-use Rattle.follow_monitor.proofs.Common.{place-push, some_at, Call, Event, Invoke, Answer, Operation, process_of, is_invocation, events_of}
-use Rattle.follow_monitor.proofs.Common.{events_alternate, is_shaped, is_small, AreHistoryEvents, is_completed, operations_from, operations}
-use Rattle.follow_monitor.proofs.Common.{extended_at, inv-at_least, Contents, KeepsPrecedence, IsLegal, calls_at, IsCompletedAt, IsOrder}
-use Rattle.follow_monitor.proofs.Common.{IsLinearizable}
+use Rattle.follow_monitor.proofs.Common.{extended_at, Contains-at, slice_get-append_left, place-push, some_at, inv-at_least, process_of}
+use Rattle.follow_monitor.proofs.Common.{is_invocation, events_of, events_alternate, is_shaped, is_small, AreHistoryEvents, operations_from}
+use Rattle.follow_monitor.proofs.Common.{operations, is_completed, Call, Event, Invoke, Answer, Operation, Contents, KeepsPrecedence, IsLegal}
+use Rattle.follow_monitor.proofs.Common.{calls_at, IsCompletedAt, IsOrder, IsLinearizable, ◌≡◌, ℕ, zero, ◌+◌, ◌<◌, ◌≤◌, List, [], ◌∷◌, ◌++◌, length}
+use Rattle.follow_monitor.proofs.Common.{take, drop, refl, sym, ap, ◌∙◌, subst, arith, Bool, true, false, suc, cond, ◌==◌, Some, None, IsTrue, ⊎_elim}
+use Rattle.follow_monitor.proofs.Common.{false≢true, and_parts, take_more, length-append, All-head, All-tail, All-weaker, All-contains, filter-append}
+use Rattle.follow_monitor.proofs.Common.{list_all-append, sum_by-append, none-some, slice_get_within, get_or_from_slice_get, list_all, slice_get}
+use Rattle.follow_monitor.proofs.Common.{IsSomeAnd, All}
 use Rattle.std.proofs.Common.{take-append-drop}
 use Rattle.events.proofs.OperationLemmas.{operations_from-invoke}
 use Rattle.follow_monitor.proofs.CutLemmas.{kept, order_of_part}

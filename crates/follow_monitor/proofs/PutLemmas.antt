@@ -1,15 +1,17 @@
 -- Which calls put values, as they are known from event to event.
-use Rattle.follow_monitor.proofs.Common.{◌≡◌, ℕ, zero, suc, ◌+◌, ◌-◌, ◌<◌, true, false, not, List, [], ◌∷◌, ◌++◌, length, take, Option, Some, None}
-use Rattle.follow_monitor.proofs.Common.{refl, sym, ap, ◌∙◌, subst, ⊎_elim, inl, inr, arith, ◌⊎◌, ◌&&◌, All, AllPairs, Contains, is_some, slice_get}
-use Rattle.follow_monitor.proofs.Common.{and_parts, eqb-true, false≢true, ltb-true, length-append, length-drop, length-take, take-append-drop}
-use Rattle.follow_monitor.proofs.Common.{All-append, All-contains, All-cons, All-nil, All-tail, Contains-append_cases, Contains-append_left}
-use Rattle.follow_monitor.proofs.Common.{Contains-append_right, Contains-get_or, none-some, same_Some, keep_last, Call, Event, Invoke, Answer, Reply}
-use Rattle.follow_monitor.proofs.Common.{Operation, Response, IsWellFormed, low_key, is_before, is_completed, operation_of, operations_from}
-use Rattle.follow_monitor.proofs.Common.{operations, inv_rises, All-back, All-front, All-from_contains, AllPairs-across, AllPairs-append}
-use Rattle.follow_monitor.proofs.Common.{AllPairs-back, Contains-around, Contains-cases, Contains-first, Contains-later, Contains-nil}
-use Rattle.follow_monitor.proofs.Common.{completed_stays, same_call, is_undone, writes, begun, is_reported, IsPutOf, Put, put_limit, IsAnsweredPut}
-use Rattle.follow_monitor.proofs.Common.{AreLastPuts, AreRecentPuts, IsAnsweredBefore, BecomeWithAnswer, ArePutsOf, HaveOwnEvents, AreAllPuts}
-use Rattle.follow_monitor.proofs.Common.{known_call, IsOpenCall, IsCallOf, OpenCall, put_by, is_put}
+use Rattle.follow_monitor.proofs.Common.{completed_stays, same_call, keep_last, All-back, All-front, All-from_contains, AllPairs-across}
+use Rattle.follow_monitor.proofs.Common.{AllPairs-append, AllPairs-back, Contains-around, Contains-cases, Contains-first, Contains-later}
+use Rattle.follow_monitor.proofs.Common.{Contains-nil, inv_rises, IsWellFormed, low_key, operation_of, operations_from, operations, is_before}
+use Rattle.follow_monitor.proofs.Common.{is_completed, Call, Event, Invoke, Answer, Reply, Operation, Response, is_undone, writes, IsPutOf}
+use Rattle.follow_monitor.proofs.Common.{IsOpenCall, IsCallOf, known_call, HaveOwnEvents, AreAllPuts, put_limit, IsAnsweredPut, AreLastPuts}
+use Rattle.follow_monitor.proofs.Common.{AreRecentPuts, IsAnsweredBefore, BecomeWithAnswer, ArePutsOf, OpenCall, Put, begun, is_reported, ◌≡◌, ℕ}
+use Rattle.follow_monitor.proofs.Common.{zero, suc, ◌+◌, ◌-◌, ◌<◌, true, false, not, List, [], ◌∷◌, ◌++◌, length, take, Option, Some, None, refl, sym}
+use Rattle.follow_monitor.proofs.Common.{ap, ◌∙◌, subst, ⊎_elim, inl, inr, arith, ◌&&◌, is_some, and_parts, eqb-true, false≢true, ltb-true}
+use Rattle.follow_monitor.proofs.Common.{length-append, length-drop, length-take, take-append-drop, All-append, All-contains, All-cons, All-nil}
+use Rattle.follow_monitor.proofs.Common.{All-tail, Contains-append_cases, Contains-append_left, Contains-append_right, Contains-get_or, none-some}
+use Rattle.follow_monitor.proofs.Common.{same_Some, ◌⊎◌, All, AllPairs, Contains, slice_get}
+use Rattle.explain_reads_from.specs.External.{is_put}
+use Rattle.explain_shrink.specs.Tells.{put_by}
 use Rattle.std.specs.Prelude.{◌==◌}
 
 -- ---- a call puts one pair

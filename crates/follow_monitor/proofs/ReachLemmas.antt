@@ -1,10 +1,12 @@
 -- What is said where a stream goes wrong may be so.
-use Rattle.follow_monitor.proofs.Common.{◌≡◌, ℕ, suc, true, List, [], ◌∷◌, ◌++◌, length, None, Some, sym, subst, All, Any, eq-eqb, All-append}
-use Rattle.follow_monitor.proofs.Common.{All-weaker, none-some, same_Some, All-from_contains, Call, Get, Insert, Remove, Scan, Replace, Answer}
-use Rattle.follow_monitor.proofs.Common.{Operation, operations, concerns_key, Event, Reply, Contents, IsRising, HasKeysIn, begun, covered, pasts_of}
-use Rattle.follow_monitor.proofs.Common.{IsPutOf, Put, DoubtsAreReached, LossesAreReached, MayBeSo, ArePutsOf, IsAnsweredPut, Violation, KeyViolation}
-use Rattle.follow_monitor.proofs.Common.{AreKeyLosses, key_of, ValuesAreReached, IsKeptWith, IsOfAnswer}
-use Rattle.follow_monitor.proofs.AnyLemmas.{any_of, any_weaker}
+use Rattle.follow_monitor.proofs.Common.{All-from_contains, operations, Call, Get, Insert, Remove, Scan, Replace, Event, Answer, Reply, Operation}
+use Rattle.follow_monitor.proofs.Common.{concerns_key, HasKeysIn, IsPutOf, DoubtsAreReached, LossesAreReached, MayBeSo, IsKeptWith, IsOfAnswer}
+use Rattle.follow_monitor.proofs.Common.{ArePutsOf, IsAnsweredPut, Violation, Put, begun, pasts_of, covered, Contents, IsRising, ◌≡◌, ℕ, suc, true}
+use Rattle.follow_monitor.proofs.Common.{List, [], ◌∷◌, ◌++◌, length, None, Some, sym, subst, eq-eqb, All-append, All-weaker, none-some, same_Some}
+use Rattle.follow_monitor.proofs.Common.{All, Any, any_of, any_weaker}
+use Rattle.follow_violations.specs.KeyLosses.{AreKeyLosses, key_of}
+use Rattle.follow_violations.specs.Laws.{ValuesAreReached}
+use Rattle.follow_violations.specs.declared.lost_keys.KeyViolation.{KeyViolation}
 
 -- the only key of a call
 only_key : (call : Call) (key : ℕ) → key_of call ≡ Some key → concerns_key call key ≡ true

@@ -1,7 +1,7 @@
 -- A monitor before any event.
-use Rattle.follow_monitor.proofs.Common.{◌≡◌, ◌≢◌, ℕ, ◌<◌, ◌≤◌, false, List, [], refl, sym, ap, ◌∙◌, subst, All-nil, none-some, Invoke, Operation}
-use Rattle.follow_monitor.proofs.Common.{low_key, high_key, precedes, AllPairs-nil, Put, Contents, IsRising, IsLinearizable, IsStateOf, PartsView}
-use Rattle.follow_monitor.proofs.Common.{known_call, IsFollowing, put_limit, AreRecentPuts, OpenCall}
+use Rattle.follow_monitor.proofs.Common.{AllPairs-nil, low_key, high_key, precedes, Invoke, Operation, IsFollowing, known_call, put_limit}
+use Rattle.follow_monitor.proofs.Common.{AreRecentPuts, OpenCall, Put, IsStateOf, PartsView, Contents, IsRising, IsLinearizable, ◌≡◌, ◌≢◌, ℕ, ◌<◌}
+use Rattle.follow_monitor.proofs.Common.{◌≤◌, false, List, [], refl, sym, ap, ◌∙◌, subst, All-nil, none-some}
 use Rattle.follow_monitor.proofs.PutLemmas.{no_puts}
 
 none_ordered : (m : Contents) → IsLinearizable m []

@@ -15,10 +15,10 @@ use Rattle.follow_laws.specs.KeptParts.{KeptPart, AreKept}
 use Rattle.follow_pasts.specs.Ranges.{covered}
 use Rattle.follow_orders.specs.Answers.{HaveNoOverlap}
 use Rattle.follow_parts.specs.Keeping.{pasts_of}
-use Rattle.follow_monitor.specs.KeyLosses.{AreKeyLosses}
-use Rattle.follow_monitor.specs.LossLaws.{MayHave}
-use Rattle.follow_monitor.specs.declared.loss.Violation.{Violation}
-use Rattle.follow_monitor.specs.declared.lost_keys.KeyViolation.{KeyViolation}
+use Rattle.follow_violations.specs.KeyLosses.{AreKeyLosses}
+use Rattle.follow_violations.specs.Laws.{MayHave}
+use Rattle.follow_violations.specs.declared.loss.Violation.{Violation}
+use Rattle.follow_violations.specs.declared.lost_keys.KeyViolation.{KeyViolation}
 use Rattle.follow_monitor.specs.Calls.{MayReply}
 use Rattle.follow_monitor.specs.Outcomes.{IsLost, IsSpent}
 

@@ -1,8 +1,3 @@
-pub mod CallPuts
-pub mod KeyLosses
-pub mod OwnParts
-pub mod LossLaws
-pub mod Collecting
 pub mod Prefixes
 pub mod PrefixLaws
 pub mod Faults

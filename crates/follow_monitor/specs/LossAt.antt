@@ -1,7 +1,7 @@
 -- What is put together where a stream goes wrong.
 use Rattle.std.specs.Prelude.{◌≡◌, ℕ, List}
-use Rattle.follow_monitor.specs.declared.loss.Violation.{Violation}
-use Rattle.follow_monitor.specs.declared.puts.Put.{Put}
+use Rattle.follow_violations.specs.declared.loss.Violation.{Violation}
+use Rattle.follow_violations.specs.declared.puts.Put.{Put}
 use Rattle.follow_parts.specs.declared.state.EndedPart.{EndedPart}
 use Rattle.follow_monitor.specs.OpenPuts.{AreAllPuts}
 use Rattle.follow_monitor.specs.declared.open_calls.OpenCall.{OpenCall}

@@ -3,7 +3,7 @@ use Rattle.std.specs.Prelude.{ℕ, List, [], Option, None, Some}
 use Rattle.std.specs.BTreeMap.{is_at}
 use Rattle.std.specs.Map.{lookup}
 use Rattle.std.specs.Ordering.{nat_cmp}
-use Rattle.follow_monitor.specs.declared.puts.Put.{Put}
+use Rattle.follow_violations.specs.declared.puts.Put.{Put}
 use Rattle.follow_parts.specs.Views.{PartsView}
 use Rattle.follow_monitor.specs.declared.open_calls.OpenCall.{OpenCall}
 

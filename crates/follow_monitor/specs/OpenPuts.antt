@@ -1,7 +1,7 @@
 -- The puts of the open calls that a monitor knows.
 use Rattle.std.specs.Prelude.{◌≡◌, ◌≢◌, ◌↔◌, ℕ, ◌<◌, List, ◌++◌, Some, AllPairs, Any, Contains}
-use Rattle.follow_monitor.specs.CallPuts.{IsPutOf}
-use Rattle.follow_monitor.specs.declared.puts.Put.{Put}
+use Rattle.follow_violations.specs.Puts.{IsPutOf}
+use Rattle.follow_violations.specs.declared.puts.Put.{Put}
 use Rattle.follow_parts.specs.Keeping.{begun}
 use Rattle.follow_monitor.specs.MonitorView.{known_call}
 use Rattle.follow_monitor.specs.declared.open_calls.OpenCall.{OpenCall}

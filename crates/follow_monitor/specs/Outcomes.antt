@@ -7,7 +7,7 @@ use Rattle.events.specs.Keys.{may_change}
 use Rattle.events.specs.Operations.{operations}
 use Rattle.map_object.specs.MapObject.{Contents}
 use Rattle.orders.specs.Orders.{IsLinearizable}
-use Rattle.follow_monitor.specs.declared.loss.Violation.{Violation}
+use Rattle.follow_violations.specs.declared.loss.Violation.{Violation}
 use Rattle.follow_monitor.specs.Prefixes.{GoesWrongAt, IsAnswerOf}
 use Rattle.follow_laws.specs.KeptReached.{IsReached}
 use Rattle.follow_pasts.specs.Pasts.{IsDead, AreDoubtful}

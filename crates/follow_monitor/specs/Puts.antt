@@ -4,8 +4,8 @@ use Rattle.events.specs.declared.event.Call.{Call}
 use Rattle.events.specs.declared.event.Reply.{Reply}
 use Rattle.events.specs.declared.operation.Operation.{Operation}
 use Rattle.events.specs.declared.operation.Response.{Response}
-use Rattle.follow_monitor.specs.CallPuts.{IsPutOf}
-use Rattle.follow_monitor.specs.declared.puts.Put.{Put}
+use Rattle.follow_violations.specs.Puts.{IsPutOf}
+use Rattle.follow_violations.specs.declared.puts.Put.{Put}
 use Rattle.follow_parts.specs.Keeping.{begun, is_reported}
 
 -- how many are known at most of those that were answered

@@ -5,9 +5,9 @@ ghost use Rattle.follow_monitor.specs.OpenPuts.{AreAllPuts, AreOpenPuts, ArePuts
 ghost use Rattle.follow_monitor.specs.declared.open_calls.OpenCall.{OpenCall as Open};
 
 use crate::open_calls::OpenCall;
-use crate::puts::{Put, put_of, put_with};
 use circular_buffer::HeapCircularBuffer;
 use events::{Call, Memory, Reply};
+use follow_violations::{Put, put_of, put_with};
 use std::alloc::Global;
 use std::collections::BTreeMap;
 

@@ -1,7 +1,7 @@
 // What an answer makes of a stream.
 use crate::fault::FollowFault;
-use crate::loss::Violation;
 use crate::monitor::Monitor;
+use follow_violations::Violation;
 
 /// What an answer makes of a stream.
 #[derive(Drop)]

@@ -1,7 +1,7 @@
 // Laws of what is said where a stream goes wrong.
 ghost use Rattle.follow_monitor.specs.Laws.{DoubtsAreReached, LossesAreReached, NoDoubtWithoutOverlap, NothingIsMissed};
 
-use crate::lost_keys::values_are_reached;
+use follow_violations::values_are_reached;
 
 /// What `key_losses` says of an undecided may be so. So may what it says of a no, if some map gives
 /// the call this answer. Each value is left at its key by a legal order of calls. Some of the

@@ -1,6 +1,4 @@
 // Streams of a few events, worked by hand.
-mod losses;
-
 use crate::answered::Answered;
 use crate::fault::FollowFault;
 use crate::monitor::Monitor;

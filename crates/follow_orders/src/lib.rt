@@ -1,4 +1,4 @@
-//! One order of a list of calls, kept while the calls are answered.
+//! One order of a list of calls, which is mended while the calls are answered.
 //!
 //! Calls begin without an answer, and are answered one after another. A completed call that is not
 //! one of them, such as a scan, can be inserted. The order is a stack, with the map after its last

@@ -1,5 +1,5 @@
-//! Makes a front an order: the completed calls that are left come into it. `follow_fronts` has the front
-//! itself.
+//! Adds the completed calls that are left to a front, until it is an order. `follow_fronts` has the
+//! front itself.
 //!
 //! The last few calls of the front are taken back. Then an order of the calls that are left is
 //! guessed by the values that they found (`chains`), or searched for (`reduced_search`). A front can

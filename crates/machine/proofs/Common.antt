@@ -24,7 +24,7 @@ pub use Rattle.art_core.specs.NamedTurns.{AreMade, WantsTurn, finished_count, ne
 pub use Rattle.art_core.specs.Plans.{IsPlan, IsRun, IsSerial}
 pub use Rattle.art_core.specs.Starts.{AreInsertedIn, inserts, start_plan}
 pub use Rattle.art_core.specs.declared.item.Item.{Item}
-pub use Rattle.art_core.specs.declared.item.Item.TheVariants.{End, HistoryBuilder, Until}
+pub use Rattle.art_core.specs.declared.item.Item.TheVariants.{End, Turns, Until}
 pub use Rattle.art_core.specs.declared.process.Process.{Process}
 pub use Rattle.art_rows.specs.declared.table.Shape.{Shape}
 pub use Rattle.art_rows.specs.Steps.{Rest, access_of, reply_of}

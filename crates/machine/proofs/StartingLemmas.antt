@@ -2,7 +2,7 @@
 use Rattle.machine.proofs.Common.{[], ◌∷◌, ◌≡◌, ℕ, ◌+◌, ◌*◌, ◌<◌, ◌≤◌, List, length, take, refl, sym, ap, subst, ◌∙◌, arith, inl, inr, get_or, IsTrue}
 use Rattle.machine.proofs.Common.{slice_get, replicate, filter_map, Contains, All, length-replicate, length-map, get_or-map, take_more}
 use Rattle.machine.proofs.Common.{Contains-get_or, Contains-push_cases, some_at, Call, Insert, Stamped, Contents, Shape, Variant, is_tree_call, Item}
-use Rattle.machine.proofs.Common.{HistoryBuilder, Process, Plan, State, answered, next_move, opened, AreMade, AreInsertedIn, inserts, start_plan, IsPlan}
+use Rattle.machine.proofs.Common.{Turns, Process, Plan, State, answered, next_move, opened, AreMade, AreInsertedIn, inserts, start_plan, IsPlan}
 use Rattle.machine.proofs.Common.{run-lengths, Machine, MachineFault, HasMadeItem, HasStoppedIn, IsOpened}
 use Rattle.std.proofs.Common.{Some, None}
 use Rattle.events.proofs.FilterLemmas.{Contains-filter_map, Contains-from_filter_map}
@@ -46,7 +46,7 @@ module _ (shape : Shape) (variant : Variant) (start : Contents) where
   plan = start_plan shape variant start
 
   abbrev pub all_turns : Item
-  all_turns = HistoryBuilder 0 (START_TURNS + 1)
+  all_turns = Turns 0 (START_TURNS + 1)
 
   inserted-in : (s : State) (process : Process) (made : ℕ) → AreMade plan all_turns (opened plan) made s → made ≤ START_TURNS
       → slice_get s.processes 0 ≡ Some process → AreInsertedIn shape variant start s process

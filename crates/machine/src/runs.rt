@@ -66,7 +66,7 @@ impl Machine {
             → IsTrue result ↔ WantsTurn plan item first made now }
     {
         match item {
-            Item::HistoryBuilder { turns, .. } => made < turns,
+            Item::Turns { turns, .. } => made < turns,
             Item::End { process } => self.finished_calls(process) == before,
             Item::Until { process, point } => {
                 self.finished_calls(process) == before && !is_at(self.point(process), point)
@@ -102,9 +102,8 @@ fn process_of(item: Item) -> usize
     ensures { result ≡ process_of_item item }
 {
     match item {
-        Item::HistoryBuilder { process, .. }
-        | Item::End { process }
-        | Item::Until { process, .. } => process,
+        Item::Turns { process, .. } | Item::End { process } | Item::Until { process, .. } =>
+            process,
     }
 }
 

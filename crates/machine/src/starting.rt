@@ -58,7 +58,7 @@ fn insert_pairs(
         Err(_) => return Err(MachineFault::Memory),
     };
     let mut machine = Machine::open(alloc, shape, variant, scripts, START_TURNS)?;
-    let all = Item::HistoryBuilder {
+    let all = Item::Turns {
         process: 0,
         turns: START_TURNS + 1,
     };

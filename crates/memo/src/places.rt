@@ -92,7 +92,7 @@ impl Places {
     /// Returns the bits of the places above the least missing one, in words of 64 bits. The last
     /// word is not 0, so each set has one such list of words.
     pub fn words(&self) -> &[u64]
-        ensures told { (least : ℕ) × (places_of least result.now ≡ self.now) }
+        ensures form { (least : ℕ) × (places_of least result.now ≡ self.now) }
         ensures trimmed { IsTrimmed result.now }
     {
         &self.words

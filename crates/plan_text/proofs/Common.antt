@@ -13,7 +13,7 @@ pub use Rattle.std.specs.List.{list_all}
 pub use Rattle.std.specs.Prelude.{All, IsTrue, decimal, sum, ◌⊎◌}
 pub use Rattle.art_core.specs.Starts.{inserts}
 pub use Rattle.art_core.specs.declared.item.Item.{Item}
-pub use Rattle.art_core.specs.declared.item.Item.TheVariants.{End, HistoryBuilder, Until}
+pub use Rattle.art_core.specs.declared.item.Item.TheVariants.{End, Turns, Until}
 pub use Rattle.art_rows.specs.declared.table.Shape.{Shape}
 pub use Rattle.art_rows.specs.TreeCalls.{is_tree_call}
 pub use Rattle.art_rows.specs.declared.access.Point.{Point}

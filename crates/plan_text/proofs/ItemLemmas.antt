@@ -1,7 +1,7 @@
 -- What values and a word spell items.
 use Rattle.plan_text.proofs.Common.{◌≡◌, ℕ, ◌+◌, ◌≤◌, ◌<◌, true, List, [], ◌∷◌, ◌++◌, length, map, take, get_or, codes, refl, sym, ap, ◌∙◌, arith}
 use Rattle.plan_text.proofs.Common.{IsTrue, list_all, and_parts, leb-true, map_more, map_push, list_all-append, Data, string, view, Value}
-use Rattle.plan_text.proofs.Common.{number_data, list_data, Point, Item, HistoryBuilder, End, Until, is_item, turn_limit, point_name, item_data}
+use Rattle.plan_text.proofs.Common.{number_data, list_data, Point, Item, Turns, End, Until, is_item, turn_limit, point_name, item_data}
 
 -- ---- the items of a schedule, one after the other
 
@@ -35,14 +35,14 @@ words_differ h = let letter : 116 ≡ 117 = ap (λ (name : List ℕ). get_or nam
 -- the word of an item of three values is one of two
 pub word_of_three : (process : ℕ) (word : List ℕ) (last : Data) (i : Item) → (word ≡ codes "turns" → ⊥) → (word ≡ codes "until" → ⊥)
     → item_data i ≡ three process word last → ⊥
-word_of_three process word last (HistoryBuilder p n) not_turns not_until h = let same : word ≡ codes "turns" = cc in not_turns same
+word_of_three process word last (Turns p n) not_turns not_until h = let same : word ≡ codes "turns" = cc in not_turns same
 word_of_three process word last (End p) not_turns not_until h = cc
 word_of_three process word last (Until p x) not_turns not_until h = let same : word ≡ codes "until" = cc in not_until same
 
 -- after `turns` comes a number of turns
 pub no_turns : (process : ℕ) (word : List ℕ) (last : Data) (i : Item) → word ≡ codes "turns"
     → ((n : ℕ) → last ≡ number_data n → 1 ≤ n → n ≤ turn_limit → ⊥) → item_data i ≡ three process word last → IsTrue (is_item i) → ⊥
-no_turns process word last (HistoryBuilder p n) is none h standing =
+no_turns process word last (Turns p n) is none h standing =
     let number : last ≡ number_data n = cc in
     let limits = and_parts _ _ standing in
     none n number (leb-true _ _ limits.0) (leb-true _ _ limits.1)
@@ -54,7 +54,7 @@ no_turns process word last (Until p x) is none h standing =
 -- after `until` comes the name of a point
 pub no_point : (process : ℕ) (word : List ℕ) (last : Data) (i : Item) → word ≡ codes "until"
     → ((x : Point) → last ≡ string (point_name x) → ⊥) → item_data i ≡ three process word last → ⊥
-no_point process word last (HistoryBuilder p n) is none h =
+no_point process word last (Turns p n) is none h =
     let same : word ≡ codes "turns" = cc in
     words_differ (sym same ∙ is)
 no_point process word last (End p) is none h = cc

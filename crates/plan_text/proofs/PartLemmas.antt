@@ -2,14 +2,14 @@
 use Rattle.plan_text.proofs.Common.{◌≡◌, ℕ, ◌+◌, ◌≤◌, true, subst, List, [], ◌∷◌, length, map, codes, sym, ◌∙◌, arith, All, IsTrue, list_all}
 use Rattle.plan_text.proofs.Common.{list_all-map, AllPass-from_list_all, list_all-from_AllPass, Data, string, Members, member, object, view, Value}
 use Rattle.plan_text.proofs.Common.{Call, Insert, Contents, is_tree_call, AreFew, scripts_data, inserts, number_data, list_data, pair_data}
-use Rattle.plan_text.proofs.Common.{list_data_injective, length_as, pairs_injective, Shape, Item, HistoryBuilder, End, Until, point_name, item_data, rows_data}
+use Rattle.plan_text.proofs.Common.{list_data_injective, length_as, pairs_injective, Shape, Item, Turns, End, Until, point_name, item_data, rows_data}
 use Rattle.std.proofs.Common.{sum}
 use Rattle.events.specs.Limits.{call_limit}
 use Rattle.plan_text.proofs.PlanTextLemmas.{scripts_data_injective}
 
 -- a value that spells an item has two items or three
 pub length_of_item : (vs : List Value) (i : Item) → list_data (map view vs) ≡ item_data i → (2 ≤ length vs) × (length vs ≤ 3)
-length_of_item vs (HistoryBuilder process turns) h =
+length_of_item vs (Turns process turns) h =
     let n = length_as vs (number_data process ∷ string (codes "turns") ∷ number_data turns ∷ []) h in (omega arith, omega arith)
 length_of_item vs (End process) h = let n = length_as vs (number_data process ∷ string (codes "end") ∷ []) h in (omega arith, omega arith)
 length_of_item vs (Until process point) h =

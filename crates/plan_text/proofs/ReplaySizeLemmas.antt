@@ -4,7 +4,7 @@ use Rattle.plan_text.proofs.Common.{All, IsTrue, decimal, sum, and_parts, ltb-tr
 use Rattle.plan_text.proofs.Common.{serde_json_on_literals, Data, Members, member, no_members, string, items_of, compact_text, items_text}
 use Rattle.plan_text.proofs.Common.{members_text, Insert, Contents, text_limit, list_data, number_data, pair_data, Shape, is_tree_call, Point, Child}
 use Rattle.plan_text.proofs.Common.{Check, LockRoot, LockRow, Unlock, Answer, Variant, Coupled, Optimistic, ReadUnchecked, ScanUnvalidated}
-use Rattle.plan_text.proofs.Common.{LockUnchecked, EarlyRelease, inserts, Item, HistoryBuilder, End, Until, scripts_data, script_data, ReplayView, IsReplay}
+use Rattle.plan_text.proofs.Common.{LockUnchecked, EarlyRelease, inserts, Item, Turns, End, Until, scripts_data, script_data, ReplayView, IsReplay}
 use Rattle.plan_text.proofs.Common.{is_item, document, item_data, last_members, other_members, point_name, rows_data, variant_name, AreHeld, is_plain}
 use Rattle.plan_text.proofs.Common.{written_data, written_parts}
 use Rattle.std.specs.Prelude.{codes}
@@ -33,7 +33,7 @@ size-point Answer = omega arith
 
 size-item : (item : Item) → IsTrue (is_item item) → process_of_item item < 2 ^ 64 → length (compact_text (item_data item)) ≤ 42
 unfolding serde_json_on_literals
-size-item (HistoryBuilder process turns) h small =
+size-item (Turns process turns) h small =
     let few : turns ≤ 1000000 = leb-true turns 1000000 (and_parts (nat_le 1 turns) (nat_le turns 1000000) h).1 in
     omega (
       arith,

@@ -3,7 +3,7 @@ use Rattle.plans.specs.declared.fault.MachineFault.TheVariants as faults
 use Rattle.plan_text.proofs.Common.{◌≡◌, ℕ, List, map, get_or, Option, Some, None, is_some, Result, IfOk, IfNone, IfSome, Ok, Err, refl, sym, ap, ◌∙◌}
 use Rattle.plan_text.proofs.Common.{subst, arith, Data, string, Call, Contents, number_data, list_data, IsJson, list_data_injective, same_value}
 use Rattle.plan_text.proofs.Common.{map_injective, Shape, Point, Child, Check, LockRoot, LockRow, Unlock, Answer, Variant, Coupled, Optimistic}
-use Rattle.plan_text.proofs.Common.{ReadUnchecked, ScanUnvalidated, LockUnchecked, EarlyRelease, Item, HistoryBuilder, End, Until, ReplayView, shown}
+use Rattle.plan_text.proofs.Common.{ReadUnchecked, ScanUnvalidated, LockUnchecked, EarlyRelease, Item, Turns, End, Until, ReplayView, shown}
 use Rattle.plan_text.proofs.Common.{variant_name, point_name, item_data, rows_data, Parts, document, SpellsStart, ArePartsOf, SpellsReplayAs}
 use Rattle.plan_text.proofs.Common.{SpellsReplay}
 use Rattle.plans.specs.declared.fault.MachineFault.{MachineFault}
@@ -192,13 +192,13 @@ shape_injective a b h =
 
 -- a value spells one item only
 item_injective : (a b : Item) → item_data a ≡ item_data b → a ≡ b
-item_injective (HistoryBuilder p n) (HistoryBuilder q m) h = cc
-item_injective (HistoryBuilder p n) (End q) h = cc
-item_injective (HistoryBuilder p n) (Until q y) h = cc
-item_injective (End p) (HistoryBuilder q m) h = cc
+item_injective (Turns p n) (Turns q m) h = cc
+item_injective (Turns p n) (End q) h = cc
+item_injective (Turns p n) (Until q y) h = cc
+item_injective (End p) (Turns q m) h = cc
 item_injective (End p) (End q) h = cc
 item_injective (End p) (Until q y) h = cc
-item_injective (Until p x) (HistoryBuilder q m) h = cc
+item_injective (Until p x) (Turns q m) h = cc
 item_injective (Until p x) (End q) h = cc
 item_injective (Until p x) (Until q y) h =
     let names : point_name x ≡ point_name y = cc in

@@ -1,12 +1,12 @@
 -- The value of a replay has no float, nests five deep at most, and spells the replay.
 use Rattle.plan_text.proofs.Common.{◌≡◌, ℕ, ◌≤◌, Bool, true, false, not, ◌&&◌, List, [], ◌∷◌, refl, arith, and_parts, depth, items_depth, items_of}
-use Rattle.plan_text.proofs.Common.{has_float, items_have_float, has_no_pairs, pair_data, IsJson, items_have_float-map, items_depth-map, Item, HistoryBuilder}
+use Rattle.plan_text.proofs.Common.{has_float, items_have_float, has_no_pairs, pair_data, IsJson, items_have_float-map, items_depth-map, Item, Turns}
 use Rattle.plan_text.proofs.Common.{End, Until, SpellsScripts, scripts_data, are_plain_scripts, ReplayView, IsReplay, document, item_data, ArePartsOf}
 use Rattle.plan_text.proofs.Common.{SpellsReplay, SpellsStart, is_plain, written_data, written_parts, written_start}
 use Rattle.plan_text.proofs.WrittenPlanLemmas.{any_scripts, depth-scripts, has_float-scripts, plain_scripts}
 
 has_float-item : (item : Item) → has_float (item_data item) ≡ false
-has_float-item (HistoryBuilder process turns) = refl
+has_float-item (Turns process turns) = refl
 has_float-item (End process) = refl
 has_float-item (Until process point) = refl
 
@@ -23,7 +23,7 @@ pub has_float-replay : (r : ReplayView) → has_float (written_data r) ≡ false
 has_float-replay r = has_float-document (is_plain r) r
 
 depth-item : (item : Item) → depth (item_data item) ≤ 1
-depth-item (HistoryBuilder process turns) = omega arith
+depth-item (Turns process turns) = omega arith
 depth-item (End process) = omega arith
 depth-item (Until process point) = omega arith
 

@@ -10,7 +10,7 @@ use Rattle.art_rows.specs.declared.variant.Variant.{Variant}
 use Rattle.art_rows.specs.declared.variant.Variant.TheVariants.{Coupled, Optimistic, ReadUnchecked, ScanUnvalidated, LockUnchecked}
 use Rattle.art_rows.specs.declared.variant.Variant.TheVariants.{EarlyRelease}
 use Rattle.art_core.specs.declared.item.Item.{Item}
-use Rattle.art_core.specs.declared.item.Item.TheVariants.{HistoryBuilder, End, Until}
+use Rattle.art_core.specs.declared.item.Item.TheVariants.{Turns, End, Until}
 use Rattle.plan_text.specs.Scripts.{SpellsScripts}
 use Rattle.plan_text.specs.Replays.{ReplayView, IsReplay}
 
@@ -33,7 +33,7 @@ point_name Unlock = codes "unlock"
 point_name Answer = codes "answer"
 
 abbrev pub item_data : Item → Data
-item_data (HistoryBuilder process turns) = list_data (number_data process ∷ string (codes "turns") ∷ number_data turns ∷ [])
+item_data (Turns process turns) = list_data (number_data process ∷ string (codes "turns") ∷ number_data turns ∷ [])
 item_data (End process) = list_data (number_data process ∷ string (codes "end") ∷ [])
 item_data (Until process point) = list_data (number_data process ∷ string (codes "until") ∷ string (point_name point) ∷ [])
 

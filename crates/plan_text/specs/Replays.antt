@@ -5,7 +5,7 @@ use Rattle.map_object.specs.MapObject.{Contents}
 use Rattle.art_rows.specs.declared.table.Shape.{Shape}
 use Rattle.art_rows.specs.declared.variant.Variant.{Variant}
 use Rattle.art_core.specs.declared.item.Item.{Item}
-use Rattle.art_core.specs.declared.item.Item.TheVariants.{HistoryBuilder, End, Until}
+use Rattle.art_core.specs.declared.item.Item.TheVariants.{Turns, End, Until}
 use Rattle.art_core.specs.Starts.{IsStartOf}
 use Rattle.art_core.specs.Core.{Plan}
 use Rattle.art_core.specs.Plans.{IsPlan}
@@ -33,7 +33,7 @@ plan_in r = record { shape = r.shape; variant = r.variant; scripts = r.scripts }
 
 -- whether an item that names a number of turns names some, and not too many
 abbrev pub is_item : Item → Bool
-is_item (HistoryBuilder process turns) = nat_le 1 turns && nat_le turns turn_limit
+is_item (Turns process turns) = nat_le 1 turns && nat_le turns turn_limit
 is_item (End process) = true
 is_item (Until process point) = true
 

@@ -118,7 +118,7 @@ fn turns_or_until(process: u64, word: &str, last: &Value) -> Option<Item>
         → item_data item ≡ list_data (number_data process ∷ string word.now ∷ view last.now ∷ []) → IsTrue (is_item item) → ⊥) }
 {
     match word {
-        "turns" => Some(Item::HistoryBuilder {
+        "turns" => Some(Item::Turns {
             process: process as usize,
             turns: turns_of(last)?,
         }),

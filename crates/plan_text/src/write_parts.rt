@@ -65,7 +65,7 @@ fn item_value(alloc: Global, item: Item) -> Result<Value, AllocError>
     ensures { IfOk result (λ value. view value ≡ item_data item) }
 {
     match item {
-        Item::HistoryBuilder { process, turns } => {
+        Item::Turns { process, turns } => {
             long_value(alloc, process, "turns", Value::from(turns))
         }
         Item::End { process } => short_value(alloc, process, "end"),

@@ -3,7 +3,7 @@ use Rattle.potzendai.proofs.Common.{◌≡◌, ℕ, List, [], ◌∷◌, ◌++�
 use Rattle.potzendai.proofs.Common.{Undecided, CommandOutcome, Answered, Noted, Refused, Memory, Words, Failed, lines_of, status_of, SpellLinearizable}
 use Rattle.potzendai.proofs.Common.{BeginUnlinearizable}
 use Rattle.events.specs.declared.event.Event.{Event}
-use Rattle.follow_monitor.specs.declared.loss.Violation.{Violation}
+use Rattle.follow_violations.specs.declared.loss.Violation.{Violation}
 use Rattle.cli_follow.specs.Answers.{GoesWrongHere}
 use Rattle.cli_follow.specs.Outcomes.{IsStreamOutcome}
 use Rattle.cli_follow.proofs.StreamLemmas.{SpellStream-push}

@@ -70,7 +70,7 @@ static GROWN: [(usize, u64); 14] = [
 /// One turn, and then all others.
 fn make_all_turns<R: Abort>(rt: &R, alloc: Global, machine: &mut Machine) {
     assert_eq!(rt; machine.turn(alloc, 0), Ok(()));
-    let others = [Item::HistoryBuilder {
+    let others = [Item::Turns {
         process: 0,
         turns: 90_000,
     }];

@@ -15,5 +15,6 @@ mod tests;
 pub use found::SearchEnd;
 pub use search_choices::{
     few_keys_go_first, reads_go_first, stuck_calls_are_dead_ends, told_calls_leave_all,
+    twins_go_first, vain_calls_are_left_out,
 };
 pub use searching::search_calls;

@@ -4,7 +4,7 @@ use Rattle.events.specs.declared.event.Call.{Call}
 use Rattle.art_rows.specs.declared.table.Shape.{Shape}
 use Rattle.art_rows.specs.declared.variant.Variant.{Variant}
 use Rattle.art_core.specs.declared.item.Item.{Item}
-use Rattle.art_core.specs.declared.item.Item.TheVariants.{HistoryBuilder, End, Until}
+use Rattle.art_core.specs.declared.item.Item.TheVariants.{Turns, End, Until}
 use Rattle.art_core.specs.Core.{Plan, State, opened}
 use Rattle.art_core.specs.Runs.{Gives}
 use Rattle.machine.specs.Running.{plan_of}
@@ -27,7 +27,7 @@ pub record IsDrawnRun (plan : Plan) (first : State) (limit : ℕ) (turns : List 
 
 -- the turns that an item names by its number alone
 abbrev pub turns_in : Item → List ℕ
-turns_in (HistoryBuilder process turns) = replicate turns process
+turns_in (Turns process turns) = replicate turns process
 turns_in (End process) = []
 turns_in (Until process point) = []
 

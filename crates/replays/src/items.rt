@@ -30,13 +30,13 @@ fn push_turn(items: &mut Vec<Item>, process: usize) -> Result<(), AllocFailed<It
     ensures held { OnOk result (AreHeld items.new.items) }
 {
     let Some(item) = items.pop() else {
-        return items.push(Item::HistoryBuilder { process, turns: 1 });
+        return items.push(Item::Turns { process, turns: 1 });
     };
     match longer_item(item, process) {
         Some(longer) => items.push(longer),
         None => {
             items.push(item)?;
-            items.push(Item::HistoryBuilder { process, turns: 1 })
+            items.push(Item::Turns { process, turns: 1 })
         }
     }
 }
@@ -48,10 +48,10 @@ fn longer_item(item: Item, process: usize) -> Option<Item>
     ensures held { IfSome result (λ longer. process_of_item longer < 2 ^ 64) }
 {
     match item {
-        Item::HistoryBuilder {
+        Item::Turns {
             process: own,
             turns,
-        } if own == process && turns < MAX_TURNS => Some(Item::HistoryBuilder {
+        } if own == process && turns < MAX_TURNS => Some(Item::Turns {
             process,
             turns: turns + 1,
         }),

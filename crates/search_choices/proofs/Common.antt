@@ -44,7 +44,7 @@ pub use Rattle.search.specs.Remaining.{IsEarliestAnswer, RemainsBefore}
 pub use Rattle.search.specs.Standing.{pairs_after}
 pub use Rattle.orders.proofs.RangeLemmas.{IsInside, IsLegalCall-within, IsOutside, value_at-within, within-after_call, within_left_call}
 pub use Rattle.search_choices.specs.Dead.{HasListed, IsLeftBy, IsReported, IsStuck, IsUnput, Puts, Reports, StuckCallsAreDeadEnds}
-pub use Rattle.search_choices.specs.FirstKeys.{AllMissOne, AreFirstKeys, AreNextOfOne, BeginsWithOne, Differs, FewKeysGoFirst, HasAnswered, IsCallOfOne}
+pub use Rattle.search_choices.specs.FirstKeys.{AllMissOne, AreFirstKeys, AreNextOfOne, Differs, FewKeysGoFirst, HasAnswered, IsCallOfOne}
 pub use Rattle.search_choices.specs.FirstKeys.{IsMissed, IsScanOfOne, MissesOne, OneDiffers}
 pub use Rattle.search_choices.specs.Idle.{AreIdle, IsBarred, IsDoneNext, IsFree, IsOpenNext, IsPassedOver, MissesPair, WaitsForNone}
 pub use Rattle.search_choices.specs.Reads.{HasOrderAfter, IsReadNext, ReadsGoFirst, ToldCallsLeaveAll, is_told_response}

@@ -11,13 +11,28 @@ use Rattle.search_choices.proofs.Common.{has_number-Contains, has_number-from_Co
 use Rattle.search_choices.proofs.Common.{IsLegal, KeepsPrecedence, after_call, after_calls, calls_at, IsCompletedAt, IsOrder, IsLegal-front}
 use Rattle.search_choices.proofs.Common.{IsLegal-back, calls_at-append, IsCallOf, in_or_out, after_call_cases, rising_after, IsOutside, IsNext}
 use Rattle.search_choices.proofs.Common.{IsNext-from_front, IsFront-from_order, IsEarliestAnswer, pairs_after, preceded_from_earliest, IsLeftBy}
-use Rattle.search_choices.proofs.Common.{IsCallOfOne, IsScanOfOne, IsMissed, MissesOne, HasAnswered, AllMissOne, AreFirstKeys, BeginsWithOne}
-use Rattle.search_choices.proofs.Common.{FewKeysGoFirst, Differs, OneDiffers, AreNextOfOne, HasOrderAfter, AreNext, Closes, AreChoices}
+use Rattle.search_choices.proofs.Common.{IsCallOfOne, IsScanOfOne, IsMissed, MissesOne, HasAnswered, AllMissOne, AreFirstKeys}
+use Rattle.search_choices.proofs.Common.{FewKeysGoFirst, Differs, OneDiffers, AreNextOfOne, AreNext, Closes, AreChoices}
 use Rattle.search_choices.proofs.ApartLemmas.{LetsPass, passes, value_stays}
 use Rattle.search_choices.proofs.DeadLemmas.{found_there}
 use Rattle.search_choices.proofs.EarliestLemmas.{below_or_at}
 use Rattle.search_choices.proofs.IdleLemmas.{begins_later}
+use Rattle.search_choices.proofs.Common.{length-append}
+use Rattle.std.proofs.Common.{zero, suc}
+use Rattle.search_choices.proofs.VainLemmas.{vain_left_out}
+use Rattle.search_choices.specs.Idle.{IsVain}
 use Rattle.search_choices.proofs.ReadLemmas.{not_twice, parts, legal_rest, moves_forward}
+
+-- what is left has an order that begins with a call of one of these keys, and is as long as this one
+record Begins (start : Contents) (calls : List Operation) (path keys tail : List ℕ) : Type 0 where
+  n : ℕ
+  call : Operation
+  here : slice_get calls n ≡ Some call
+  of_one : IsCallOfOne keys call.call
+  next : IsNext start calls path n
+  rest : List ℕ
+  order : IsOrder start calls (path ++ n ∷ rest)
+  shorter : length rest < length tail
 
 -- ---- calls of these keys, and others
 
@@ -308,7 +323,7 @@ module _ (start : Contents) (calls : List Operation) (path : List ℕ) (answered
         (passes m (calls_at calls front) (calls_at calls back) a (rising_after (calls_at calls path) start rising)
         (All-from_contains (LetsPass a) (calls_at calls front) let_it) there)
 
-    begins : BeginsWithOne start calls path keys
+    begins : Begins start calls path keys tail
     begins = record {
       n = n;
       call = a;
@@ -316,11 +331,13 @@ module _ (start : Contents) (calls : List Operation) (path : List ℕ) (answered
       of_one = c.of_one;
       next = IsNext-from_front start calls path n (front ++ back)
           (IsFront-from_order start calls (path ++ n ∷ (front ++ back)) apart comes_first);
-      goes_on = (front ++ back, subst (IsOrder start calls) (sym (append_assoc path (n ∷ []) (front ++ back))) comes_first);
+      rest = front ++ back;
+      order = comes_first;
+      shorter = omega (arith, ap length c.is, length-append front (n ∷ back), length-append front back);
     }
 
-  begins_with_one : HasOrderAfter start calls path → BeginsWithOne start calls path keys
-  begins_with_one (tail, order) = ⊎_elim
+  begins_with_one : (tail : List ℕ) → IsOrder start calls (path ++ tail) → Begins start calls path keys tail
+  begins_with_one tail order = ⊎_elim
       (λ c. begins tail c order e_left)
       (λ none. absurd (not_before tail none legal_tail e_left))
       (first_or_none calls keys tail (All-back (λ k. k < length calls) path tail order.legal_order.known))
@@ -340,7 +357,16 @@ module _ (start : Contents) (calls : List Operation) (path : List ℕ) (answered
           (subst (IsLegal start) (calls_at-append calls path tail) order.legal_order.legal)
 
 pub few_keys_first : FewKeysGoFirst
-few_keys_first start calls path answered keys rising apart earliest first left = begins_with_one start calls path answered keys rising apart earliest first left
+few_keys_first start calls path answered keys rising apart earliest first (tail, order) =
+    let b = begins_with_one start calls path answered keys rising apart earliest first tail order in
+    record {
+      n = b.n;
+      call = b.call;
+      here = b.here;
+      of_one = b.of_one;
+      next = b.next;
+      goes_on = (b.rest, subst (IsOrder start calls) (sym (append_assoc path (b.n ∷ []) b.rest)) b.order);
+    }
 
 -- ---- the calls of these keys make an end
 
@@ -348,9 +374,19 @@ few_close : (start : Contents) (calls : List Operation) (path : List ℕ) (answe
     → NonePrecedesItself calls → IsEarliestAnswer calls path (Some answered)
     → AreFirstKeys (pairs_after start calls path) calls path answered keys → AreNextOfOne start calls path keys rest
     → Closes start calls path rest
-few_close start calls path answered keys rest rising apart earliest first rests dead left =
-    let begun = few_keys_first start calls path answered keys rising apart earliest first left in
-    dead begun.n (rests.all begun.n begun.call begun.here begun.of_one begun.next) begun.goes_on
+few_close start calls path answered keys rest rising apart earliest first rests dead (tail, left) = go (length tail) tail (omega arith) left
+  where
+    begins_at : (tail : List ℕ) → IsOrder start calls (path ++ tail) → Begins start calls path keys tail
+    begins_at tail is = begins_with_one start calls path answered keys rising apart earliest first tail is
+
+    go : (k : ℕ) (tail : List ℕ) → length tail ≤ k → IsOrder start calls (path ++ tail) → ⊥
+    go zero tail short is = let b = begins_at tail is in absurd (omega (arith, short, b.shorter))
+    go (suc k) tail short is =
+        let b = begins_at tail is in
+        ⊎_elim
+        (λ listed. dead b.n listed (b.rest, subst (IsOrder start calls) (sym (append_assoc path (b.n ∷ []) b.rest)) b.order))
+        (λ vain. go k b.rest (omega (arith, short, b.shorter)) (vain_left_out start calls path b.rest b.n vain b.order))
+        (rests.all b.n b.call b.here b.of_one b.next)
 
 pub few_choices : (start : Contents) (calls : List Operation) (path : List ℕ) (answered : ℕ) (keys rest : List ℕ) (pairs : Contents)
     → IsRising start → NonePrecedesItself calls → IsEarliestAnswer calls path (Some answered) → pairs ≡ pairs_after start calls path
@@ -365,12 +401,18 @@ few_choices start calls path answered keys rest pairs rising apart earliest hold
 abbrev pub IsOfOther : List Operation → List ℕ → ℕ → Type 0
 IsOfOther calls keys n = (a : Operation) → slice_get calls n ≡ Some a → IsCallOfOne keys a.call → ⊥
 
+-- or it is pending, and would change nothing
+abbrev pub IsLeftAside : Contents → List Operation → List ℕ → ℕ → Type 0
+IsLeftAside m calls keys n = IsOfOther calls keys n ⊎ IsVain m calls n
+
 -- all that may come next are listed, except for those
-pub next_of_one : (start : Contents) (calls : List Operation) (path keys rest : List ℕ) → AreNext start calls path rest
-    → ((n : ℕ) → IsNext start calls path n → Contains rest n ⊎ IsOfOther calls keys n) → AreNextOfOne start calls path keys rest
-next_of_one start calls path keys rest next all = record {
+pub next_of_one : (start m : Contents) (calls : List Operation) (path keys rest : List ℕ) → m ≡ pairs_after start calls path
+    → AreNext start calls path rest
+    → ((n : ℕ) → IsNext start calls path n → Contains rest n ⊎ IsLeftAside m calls keys n) → AreNextOfOne start calls path keys rest
+next_of_one start m calls path keys rest holds next all = record {
   next = next;
-  all = λ n a here one is_next. ⊎_elim (λ listed. listed) (λ other. absurd (other a here one)) (all n is_next);
+  all = λ n a here one is_next. ⊎_elim (λ listed. inl listed)
+      (λ aside. ⊎_elim (λ other. absurd (other a here one)) (λ vain. inr (subst (λ p. IsVain p calls n) holds vain)) aside) (all n is_next);
 }
 
 -- ---- keys and scans looked at one by one

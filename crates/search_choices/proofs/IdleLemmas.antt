@@ -14,9 +14,9 @@ use Rattle.search_choices.proofs.Common.{IsEarliestAnswer, pairs_after, Closes, 
 use Rattle.search_choices.proofs.Common.{IsBarred, WaitsForNone, IsDoneNext, AreIdle, IsPassedOver, MissesPair, IsOrder-not_yet, AllPairs-at, Bool, inl}
 use Rattle.search_choices.proofs.Common.{inr, cases_order}
 use Rattle.search_choices.proofs.ApartLemmas.{LetsPass, passes, pending_passes, value_stays}
+use Rattle.search_choices.proofs.VainLemmas.{lean_close}
 use Rattle.search_choices.proofs.ReadLemmas.{not_twice, legal_rest, moves_forward}
 use Rattle.search_choices.proofs.EarliestLemmas.{below_or_at}
-use Rattle.search_choices.proofs.StandingLemmas.{all_close}
 
 -- ---- a scan that lists a pair which is not there, and which no pending call may put there
 
@@ -216,24 +216,26 @@ module _ (start : Contents) (calls : List Operation) (path : List ℕ) (answered
       )
 
   -- all calls that may come next make an end, if only idle pending ones are passed over
-  pub choices_close : (rest : List ℕ) → ((n : ℕ) → IsNext start calls path n → Contains rest n ⊎ IsPassedOver true calls n)
+  pub choices_close : (m : Contents) (rest : List ℕ) → ((n : ℕ) → IsNext start calls path n → Contains rest n ⊎ IsPassedOver true m calls n)
       → Closes start calls path rest
-  choices_close rest all = idle_close rest (λ n a next done. ⊎_elim
+  choices_close m rest all = idle_close rest (λ n a next done.
+      let not_pending : a.response ≡ None → Contains rest n = λ pending. absurd (false≢true (sym (ap is_some pending) ∙ done.completed)) in
+      ⊎_elim
       (λ h. h)
-      (λ passed. let pending : a.response ≡ None = rw done.here at passed.1 in
-      absurd (false≢true (sym (ap is_some pending) ∙ done.completed)))
+      (λ passed. ⊎_elim (λ idle. not_pending (rw done.here at idle.1)) (λ vain. not_pending (rw done.here at vain).0) passed)
       (all n next))
 
 -- where the pending calls are idle the completed ones that may come next make an end, and else all that may
 pub tried_close : (start : Contents) (calls : List Operation) (path : List ℕ) (answered : ℕ) (idle : Bool) (rest : List ℕ) → IsRising start
     → NonePrecedesItself calls → IsEarliestAnswer calls path (Some answered)
     → (idle ≡ true → AreIdle (pairs_after start calls path) calls path answered)
-    → ((n : ℕ) → IsNext start calls path n → Contains rest n ⊎ IsPassedOver idle calls n) → Closes start calls path rest
+    → ((n : ℕ) → IsNext start calls path n → Contains rest n ⊎ IsPassedOver idle (pairs_after start calls path) calls n)
+    → Closes start calls path rest
 tried_close start calls path answered true rest rising apart earliest idles all =
-    choices_close start calls path answered rising apart earliest (idles refl) rest all
+    choices_close start calls path answered rising apart earliest (idles refl) (pairs_after start calls path) rest all
 tried_close start calls path answered false rest rising apart earliest idles all =
-    all_close start calls path rest apart (IsOrder-not_yet start calls path answered earliest)
-    (λ n next. ⊎_elim (λ h. h) (λ passed. absurd (false≢true passed.0)) (all n next))
+    lean_close start calls path rest apart (IsOrder-not_yet start calls path answered earliest)
+    (λ n next. ⊎_elim (λ h. inl h) (λ passed. ⊎_elim (λ idle. absurd (false≢true idle.0)) (λ vain. inr vain) passed) (all n next))
 
 -- ---- calls looked at one by one
 

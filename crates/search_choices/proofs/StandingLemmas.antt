@@ -57,14 +57,6 @@ module _ (start : Contents) (calls : List Operation) where
   pub none_at_end : IsDead start calls [] → IsLinearizable start calls → ⊥
   none_at_end dead (order, is_order) = dead (order, is_order)
 
-  -- the calls that may come next make an end
-  pub all_close : (path rest : List ℕ) → NonePrecedesItself calls → (IsOrder start calls path → ⊥)
-      → ((n : ℕ) → IsNext start calls path n → Contains rest n) → Closes start calls path rest
-  all_close path rest apart not_order all dead ([], order) = not_order (subst (IsOrder start calls) (append-nil path) order)
-  all_close path rest apart not_order all dead (n ∷ tail, order) =
-      let next = IsNext-from_front start calls path n tail (IsFront-from_order start calls (path ++ n ∷ tail) apart order) in
-      dead n (all n next) (tail, subst (IsOrder start calls) (sym (append_assoc path (n ∷ []) tail)) order)
-
   -- a read on its own makes an end
   pub read_closes : (path : List ℕ) (n : ℕ) → IsRising start → IsReadNext start calls path n → Closes start calls path (n ∷ [])
   read_closes path n rising read dead more = dead n (Contains-first n []) ((reads_first start calls path n rising read).0 more)

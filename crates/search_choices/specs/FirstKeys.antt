@@ -12,6 +12,7 @@ use Rattle.call_effects.specs.Values.{IsCallOf}
 use Rattle.memo.proofs.FrontLemmas.{IsNext}
 use Rattle.search.specs.Remaining.{IsEarliestAnswer}
 use Rattle.search.specs.Standing.{pairs_after}
+use Rattle.search_choices.specs.Idle.{IsVain}
 use Rattle.search_choices.specs.Dead.{IsLeftBy, HasListed}
 use Rattle.search_choices.specs.Reads.{HasOrderAfter}
 use Rattle.search_choices.specs.Standing.{AreNext}
@@ -83,7 +84,8 @@ FewKeysGoFirst =
     → IsEarliestAnswer calls path (Some answered) → AreFirstKeys (pairs_after start calls path) calls path answered keys
     → HasOrderAfter start calls path → BeginsWithOne start calls path keys
 
--- the calls of these keys among those that may come next, pending ones too
+-- the calls of these keys among those that may come next, pending ones too, but for those that would change nothing
 pub record AreNextOfOne (start : Contents) (calls : List Operation) (path keys rest : List ℕ) : Type 0 where
   pub next : AreNext start calls path rest
-  pub all : (n : ℕ) (a : Operation) → slice_get calls n ≡ Some a → IsCallOfOne keys a.call → IsNext start calls path n → Contains rest n
+  pub all : (n : ℕ) (a : Operation) → slice_get calls n ≡ Some a → IsCallOfOne keys a.call → IsNext start calls path n
+      → Contains rest n ⊎ IsVain (pairs_after start calls path) calls n

@@ -1,11 +1,12 @@
 -- Pending calls that need not be tried in the state of a search: no completed call that could be
 -- the next one waits for them.
-use Rattle.std.specs.Prelude.{◌≡◌, ◌⊎◌, ℕ, ◌≤◌, Bool, true, List, Some, None, slice_get, All, Contains, IsSomeAnd}
+use Rattle.std.specs.Prelude.{◌≡◌, ◌⊎◌, ℕ, ◌≤◌, ◌∷◌, ◌++◌, Bool, true, List, Some, None, slice_get, All, Contains, IsSomeAnd}
 use Rattle.events.specs.declared.operation.Operation.{Operation}
 use Rattle.events.specs.Keys.{low_key, high_key}
 use Rattle.events.specs.Precedence.{is_completed}
-use Rattle.map_object.specs.MapObject.{Contents, value_at}
-use Rattle.orders.specs.Orders.{IsLegalCall, after_calls}
+use Rattle.map_object.specs.MapObject.{Contents, after, value_at}
+use Rattle.orders.specs.Orders.{IsLegalCall, IsOrder, after_calls}
+use Rattle.search.specs.Standing.{pairs_after}
 use Rattle.orders.proofs.RangeLemmas.{IsOutside}
 
 -- a pending call that is left, and was not invoked after a place: it may come next where that is
@@ -56,6 +57,16 @@ abbrev pub MissesPair : Contents → List Operation → List ℕ → ℕ → ℕ
 MissesPair m calls path answered low high pairs =
     (pair : ℕ × ℕ) × Contains pairs pair × IsMissing m calls path answered low high pair.0 pair.1
 
--- a call is passed over where pending ones are idle: it is pending
-abbrev pub IsPassedOver : Bool → List Operation → ℕ → Type 0
-IsPassedOver idle calls n = (idle ≡ true) × IsSomeAnd (slice_get calls n) (λ p. p.response ≡ None)
+-- a pending call would change nothing
+abbrev pub IsVain : Contents → List Operation → ℕ → Type 0
+IsVain m calls n = IsSomeAnd (slice_get calls n) (λ p. (p.response ≡ None) × (after m p.call ≡ m))
+
+-- a call is passed over: it is pending, and pending ones are idle, or it would change nothing
+abbrev pub IsPassedOver : Bool → Contents → List Operation → ℕ → Type 0
+IsPassedOver idle m calls n = ((idle ≡ true) × IsSomeAnd (slice_get calls n) (λ p. p.response ≡ None)) ⊎ IsVain m calls n
+
+-- a pending call that would change nothing is left out: what is left has an order without it
+abbrev pub VainCallsAreLeftOut : Type 0
+VainCallsAreLeftOut =
+    (start : Contents) (calls : List Operation) (path tail : List ℕ) (n : ℕ) → IsVain (pairs_after start calls path) calls n
+    → IsOrder start calls (path ++ n ∷ tail) → IsOrder start calls (path ++ tail)

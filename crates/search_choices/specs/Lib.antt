@@ -3,3 +3,4 @@ pub mod Idle
 pub mod Dead
 pub mod Standing
 pub mod FirstKeys
+pub mod Twins

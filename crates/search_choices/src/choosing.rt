@@ -13,7 +13,8 @@ ghost use Rattle.search_choices.specs.Standing.{places, StandsBare, AreChoices, 
 use crate::branch::CallSearch;
 use crate::dead::{end_of_look, is_dead_end, is_futile, names};
 use crate::first_keys::first_keys;
-use crate::idle::{are_idle, is_taken};
+use crate::idle::{are_idle, is_taken, is_vain};
+use crate::twins::first_twins;
 use call_effects::{earlier_answer, ended_after, is_read};
 use events::{Call, Memory, Operation};
 use orders::may_come_next;
@@ -21,11 +22,12 @@ use std::alloc::Global;
 
 /// The calls to try next in the state of a search, the last one first: one read on its own, if
 /// there is one, or else all calls that may come next. Those that were answered first are tried
-/// first. Pending ones are passed over if no completed one could wait for them, and otherwise tried
-/// last, by invocation. If several calls are left to try, only those of a few keys are, pending
-/// ones too, if such keys are seen (`few_keys_go_first`). Calls that are seen to be futile are left
-/// out, and all if a call that is left is seen to be stuck. `None` if all completed calls are
-/// taken.
+/// first. Pending ones are passed over if no completed one could wait for them, or if they would
+/// change nothing (`vain_calls_are_left_out`). Otherwise they are tried last, by invocation. If
+/// several calls are left to try, only those of a few keys are, pending ones too, if such keys are
+/// seen (`few_keys_go_first`). Of calls that ask the same and are answered the same, only the first
+/// is tried (`twins_go_first`). Calls that are seen to be futile are left out, and all if a call
+/// that is left is seen to be stuck. `None` if all completed calls are taken.
 pub fn choices(
     alloc: Global,
     calls: &[Operation],
@@ -54,8 +56,9 @@ pub fn choices(
         return Ok(Some(Vec::new(alloc)));
     }
     let few = narrowed(alloc, calls, standing, answered, next)?;
-    let rest = hopeful(alloc, calls, standing, end, &few)?;
-    Ok(Some(by_answer(calls, rest)))
+    let firsts = first_twins(alloc, calls, &by_answer(calls, few))?;
+    let rest = hopeful(alloc, calls, standing, end, &firsts)?;
+    Ok(Some(reversed(rest)))
 }
 
 /// Whether a list has only one call, and its answer says that it changed nothing.
@@ -180,12 +183,19 @@ fn hopeful(
     Ok(rest)
 }
 
-/// The calls at these places, the one that was answered first last. Pending ones come before all
-/// others, those that were invoked later first.
+/// The calls at these places, the one that was answered first first. Pending ones come after all
+/// others, by invocation.
 fn by_answer(calls: &[Operation], mut rest: Vec<u32>) -> Vec<u32>
     ensures { IsPermutation rest.items result.items }
 {
     rest.sort_unstable_by_key(|place| (answer_of(calls, *place), *place));
+    rest
+}
+
+/// A list from its end.
+fn reversed(mut rest: Vec<u32>) -> Vec<u32>
+    ensures { IsPermutation rest.items result.items }
+{
     rest.reverse();
     rest
 }
@@ -256,13 +266,13 @@ fn may_come(
     ensures next { result ≡ true → IsNext start calls.now (places standing.now.levels.items) place }
     ensures not_next { result ≡ false → IsNext start calls.now (places standing.now.levels.items)
         place
-        → IsPassedOver idle calls.now place }
+        → IsPassedOver idle standing.now.map calls.now place }
 {
     if is_taken(standing, place) {
         return false;
     }
     let call = &calls[place];
-    if idle && call.response.is_none() {
+    if call.response.is_none() && (idle || is_vain(&standing.map, &call.call)) {
         return false;
     }
     may_come_next(&standing.map, call)

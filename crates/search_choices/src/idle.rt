@@ -4,12 +4,13 @@ ghost use Rattle.events.specs.Lists.{has_number};
 ghost use Rattle.events.specs.declared.operation.Operation.{Operation};
 ghost use Rattle.events.specs.declared.operation.Response.{Response};
 ghost use Rattle.events.specs.Keys.{low_key, high_key};
-ghost use Rattle.map_object.specs.MapObject.{Contents, IsRising, value_at};
+ghost use Rattle.map_object.specs.MapObject.{Contents, IsRising, after, value_at};
 ghost use Rattle.orders.proofs.RangeLemmas.{IsOutside};
 ghost use Rattle.search_choices.specs.Idle.{AreIdle, WaitsForNone, IsDoneNext, IsOpenNext, IsFree, MissesPair, IsMissing};
 ghost use Rattle.search_choices.specs.Standing.{places, StandsBare};
 
 use crate::branch::CallSearch;
+use call_effects::says_unchanged;
 use events::{Call, Operation, Reply};
 use map_object::SortedMap;
 
@@ -37,6 +38,21 @@ pub(crate) fn are_idle(calls: &[Operation], standing: &CallSearch, answered: usi
         }
     }
     true
+}
+
+/// Whether a call would change nothing at a map.
+pub(crate) fn is_vain(map: &SortedMap, call: &Call) -> bool
+    ensures { result ≡ true → after map.now call.now ≡ map.now }
+{
+    match call {
+        Call::Get(_) | Call::Scan(_, _) => true,
+        Call::Insert(key, _) | Call::Remove(key) | Call::Replace(key, _, _) => {
+            match map.value(*key) {
+                Some(value) => says_unchanged(call, &Reply::Some(value)),
+                None => says_unchanged(call, &Reply::None),
+            }
+        }
+    }
 }
 
 /// Whether a call is completed and left, and may wait for a pending one.

@@ -1,7 +1,9 @@
 // Laws of searches, each the contract of a function that does nothing.
 ghost use Rattle.search_choices.specs.Dead.{StuckCallsAreDeadEnds};
 ghost use Rattle.search_choices.specs.FirstKeys.{FewKeysGoFirst};
+ghost use Rattle.search_choices.specs.Idle.{VainCallsAreLeftOut};
 ghost use Rattle.search_choices.specs.Reads.{ReadsGoFirst, ToldCallsLeaveAll};
+ghost use Rattle.search_choices.specs.Twins.{TwinsGoFirst};
 
 /// A completed call may be taken at once, if it may come next and leaves each map as it is at which
 /// it may be answered so. What is left has an order exactly if it has one that begins with this
@@ -31,4 +33,18 @@ pub fn stuck_calls_are_dead_ends()
 /// that begins with a call of one of these keys, pending or not.
 pub fn few_keys_go_first()
     ensures { FewKeysGoFirst }
+{}
+
+/// Two calls ask the same, and one of them may come next. Either it was answered no later than the
+/// other, and the same. Or only the other is pending, and this call was not refused. Or both are
+/// pending. Then, if what is left has an order that begins with the other, it has one that begins
+/// with this call.
+pub fn twins_go_first()
+    ensures { TwinsGoFirst }
+{}
+
+/// Suppose that what is left has an order that begins with a pending call, and that this call would
+/// change nothing. Then what is left has an order without it.
+pub fn vain_calls_are_left_out()
+    ensures { VainCallsAreLeftOut }
 {}

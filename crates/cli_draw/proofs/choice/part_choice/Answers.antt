@@ -1,7 +1,7 @@
 use Rattle.std.proofs.Common.{◌≡◌, List, ◌++◌, ap, ◌∙◌, subst, rules}
 use Rattle.events.specs.declared.operation.Operation.{Operation}
-use Rattle.follow_monitor.specs.OwnParts.{AreOwnLosses}
-use Rattle.follow_monitor.specs.declared.lost_keys.KeyViolation.{KeyViolation}
+use Rattle.follow_violations.specs.OwnParts.{AreOwnLosses}
+use Rattle.follow_violations.specs.declared.lost_keys.KeyViolation.{KeyViolation}
 use Rattle.map_object.specs.MapObject.{Contents}
 use Rattle.cli_draw.specs.Choices.{AreShown, places_begun}
 use Rattle.cli_draw.proofs.choice.part_choice.Goals as goal

@@ -9,7 +9,7 @@ returns c =
     let start = c.args.start.now in
     let calls = c.args.calls.now in
     IfOk-weaker c.external_of.result _ _
-    (λ pairs is. external_from start calls c.in_ok-all_reported.field-0.items c.in_order-told.result.items pairs.items c.in_ok-all_reported.ensures
-    c.in_order-told.ensures.rising c.in_order-told.ensures.same
+    (λ pairs is. external_from start calls c.in_ok-all_reported.field-0.items c.in_order-reported.result.items pairs.items c.in_ok-all_reported.ensures
+    c.in_order-reported.ensures.rising c.in_order-reported.ensures.same
     (is ∙ ap (filter (λ pair. not (is_internal start calls pair))) c.deref.ensures.value))
     c.external_of.ensures

@@ -1,4 +1,4 @@
-use Rattle.follow_monitor.proofs.Common.{arith, rules, IsNonDecreasingBy-from_sort_by_key, Put}
+use Rattle.follow_monitor.proofs.Common.{Put, arith, rules, IsNonDecreasingBy-from_sort_by_key}
 use Rattle.follow_monitor.proofs.all_puts.by_event.Goals as goal
 
 pub returns-clause-rising : goal.returns-clause-rising

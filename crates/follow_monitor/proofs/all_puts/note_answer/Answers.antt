@@ -1,4 +1,4 @@
-use Rattle.follow_monitor.proofs.Common.{◌++◌, ◌∷◌, sym, subst, Buffer, Put, begun, is_reported, AreLastPuts}
+use Rattle.follow_monitor.proofs.Common.{Buffer, AreLastPuts, Put, begun, is_reported, ◌++◌, ◌∷◌, sym, subst}
 use Rattle.follow_monitor.proofs.PutLemmas.{puts_answered, puts_answered_none}
 use Rattle.follow_monitor.proofs.all_puts.note_answer.Goals as goal
 

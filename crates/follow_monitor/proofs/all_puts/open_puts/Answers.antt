@@ -1,4 +1,5 @@
-use Rattle.follow_monitor.proofs.Common.{◌≡◌, ◌∷◌, [], map, rules, subst, sym, deref_pair, map-append, ArePutsOfEntries, nat_cmp_total}
+use Rattle.follow_monitor.proofs.Common.{ArePutsOfEntries, ◌≡◌, ◌∷◌, [], map, rules, subst, sym, map-append, deref_pair}
+use Rattle.std.proofs.lemmas.Cmp.{nat_cmp_total}
 use Rattle.std.proofs.lemmas.Map.Iter.{iter_end}
 use Rattle.std.proofs.lemmas.Map.Lookups.{exact_unsigned}
 use Rattle.std.proofs.lemmas.Map.Views.{btree_map_get_iff}

@@ -1,4 +1,4 @@
-use Rattle.follow_monitor.proofs.Common.{map, deref_pair, ArePutsOfEntries}
+use Rattle.follow_monitor.proofs.Common.{ArePutsOfEntries, map, deref_pair}
 use Rattle.follow_monitor.proofs.all_puts.open_puts.Given as goal
 
 abbrev pub invariant-loop-known : goal.invariant-loop-known

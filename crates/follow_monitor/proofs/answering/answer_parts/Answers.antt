@@ -1,4 +1,4 @@
-use Rattle.follow_monitor.proofs.Common.{◌++◌, ◌∷◌, inr, subst, begun, HasEndedBy, is_reported, IsAnswered, response_at}
+use Rattle.follow_monitor.proofs.Common.{begun, HasEndedBy, is_reported, IsAnswered, response_at, ◌++◌, ◌∷◌, inr, subst}
 use Rattle.follow_monitor.proofs.answering.answer_parts.Goals as goal
 
 pub unreachable-requires : goal.unreachable-requires

@@ -1,4 +1,4 @@
-use Rattle.follow_monitor.proofs.Common.{◌≡◌, ◌+◌, ◌∷◌, ◌++◌, take, drop, get_or, arith, subst, sym, ◌∙◌, take_more, get_or_default, ArePairsOf}
+use Rattle.follow_monitor.proofs.Common.{ArePairsOf, ◌≡◌, ◌+◌, ◌∷◌, ◌++◌, take, drop, get_or, arith, subst, sym, ◌∙◌, take_more, get_or_default}
 use Rattle.events.proofs.Places.{parts_at}
 use Rattle.events.proofs.StartLemmas.{is_above-true, is_above-All}
 use Rattle.follow_monitor.proofs.PairLemmas.{pairs_push, pairs_next}

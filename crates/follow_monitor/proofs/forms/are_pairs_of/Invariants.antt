@@ -1,4 +1,4 @@
-use Rattle.follow_monitor.proofs.Common.{take, ArePairsOf}
+use Rattle.follow_monitor.proofs.Common.{ArePairsOf, take}
 use Rattle.follow_monitor.proofs.forms.are_pairs_of.Given as goal
 
 -- the pairs so far are some that the scan may report

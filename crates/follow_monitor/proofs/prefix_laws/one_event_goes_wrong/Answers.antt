@@ -1,5 +1,5 @@
-use Rattle.follow_monitor.proofs.Common.{ℕ, ◌+◌, ◌<◌, ◌≤◌, List, ⊎_elim, subst, arith, take, cases_order, take-take, Event, HistoryView, operations}
-use Rattle.follow_monitor.proofs.Common.{IsLinearizable, IsLinearizableHistory, prefix_of, GoesWrongAt}
+use Rattle.follow_monitor.proofs.Common.{HistoryView, operations, Event, prefix_of, GoesWrongAt, IsLinearizable, IsLinearizableHistory, ℕ, ◌+◌, ◌<◌}
+use Rattle.follow_monitor.proofs.Common.{◌≤◌, List, ⊎_elim, subst, arith, take, cases_order, take-take}
 use Rattle.follow_monitor.proofs.PrefixLemmas.{prefix_has_order}
 use Rattle.follow_monitor.proofs.prefix_laws.one_event_goes_wrong.Goals as goal
 

@@ -1,5 +1,5 @@
-use Rattle.follow_monitor.proofs.Common.{◌≡◌, ℕ, ◌+◌, List, Some, sym, subst, take, slice_get, slice_get-below, Event, Invoke, Answer, HistoryView}
-use Rattle.follow_monitor.proofs.Common.{IsHistory, operations, IsLinearizable, IsLinearizableHistory, prefix_of, GoesWrongAt}
+use Rattle.follow_monitor.proofs.Common.{slice_get-below, IsHistory, HistoryView, operations, Event, Invoke, Answer, prefix_of, GoesWrongAt}
+use Rattle.follow_monitor.proofs.Common.{IsLinearizable, IsLinearizableHistory, ◌≡◌, ℕ, ◌+◌, List, Some, sym, subst, take, slice_get}
 use Rattle.follow_monitor.proofs.EventLemmas.{answer_has_call}
 use Rattle.follow_monitor.proofs.PrefixLemmas.{invocation_keeps_order, take_with}
 use Rattle.follow_monitor.proofs.prefix_laws.orders_are_lost_at_answers.Goals as goal

@@ -1,10 +1,16 @@
 use Rattle.search_choices.proofs.Common.{◌≡◌, Some, length, refl, ap, ◌∙◌, subst, ⊎_elim, arith, slice_get, cases_lt, slice_get_read, slice_get_within}
-use Rattle.search_choices.proofs.Common.{read_completed, read_leaves, AreIdle, IsPassedOver, places}
+use Rattle.search_choices.proofs.Common.{read_completed, read_leaves, AreIdle, IsPassedOver, places, Contents, Operation, Bool, List, ℕ, Contains, ◌⊎◌}
+use Rattle.search_choices.proofs.Common.{pairs_after}
 use Rattle.search_choices.proofs.EarliestLemmas.{not_next}
 use Rattle.search_choices.proofs.IdleLemmas.{tried-more, tried-less, tried_close}
 use Rattle.search_choices.proofs.StandingLemmas.{read_next, read_choices}
 use Rattle.search_choices.proofs.choosing.next_calls.Goals.{then-may_come+else-is_read+in_ok-push, else-may_come}
 use Rattle.search_choices.proofs.choosing.next_calls.Goals as goal
+
+-- where the map is what the calls lead to
+passed : (m pairs : Contents) (calls : List Operation) (idle : Bool) (rest : List ℕ) (n : ℕ) → m ≡ pairs → Contains rest n ⊎ IsPassedOver idle m calls n
+    → Contains rest n ⊎ IsPassedOver idle pairs calls n
+passed m pairs calls idle rest n is h = subst (λ p. Contains rest n ⊎ IsPassedOver idle p calls n) is h
 
 pub returns-then-answered-call-clause-choices : goal.returns-then-answered-call-clause-choices
 returns-then-answered-call-clause-choices g c =
@@ -19,9 +25,10 @@ returns-then-answered-call-clause-choices g c =
       next = inv.0;
       closes = tried_close g.start calls path c.args.answered c.are_idle-idle.result c.loop-place.next.items c.requires.1.1.1.0 c.requires.1.0
           c.requires.1.1.1.1.1 (λ yes. subst (λ m. AreIdle m calls path c.args.answered) c.requires.1.1.1.1.0.holds (c.are_idle-idle.ensures yes))
-          (λ n next. ⊎_elim (λ lt. inv.1 n lt next)
+          (λ n next. passed c.args.standing.now.map (pairs_after g.start calls path) calls c.are_idle-idle.result c.loop-place.next.items n
+          c.requires.1.1.1.1.0.holds (⊎_elim (λ lt. inv.1 n lt next)
           (λ ge. absurd (not_next calls path g.start i n c.args.answered a c.requires.1.1.0 here late c.requires.1.1.1.1.1 ge
-          next)) (cases_lt n i));
+          next)) (cases_lt n i)));
     }
 
 pub may_come-requires : goal.may_come-requires
@@ -53,9 +60,9 @@ loop-place-preserved g c =
     let path = places c.args.standing.now.levels.items in
     let i = c.loop-place.place in
     elim c.if-may_come.branch [
-      | then-may_come+else-is_read+in_ok-push w ↦ tried-more g.start calls path (IsPassedOver c.are_idle-idle.result calls) c.loop-place.next.items c.if-may_come.next.items i
+      | then-may_come+else-is_read+in_ok-push w ↦ tried-more g.start calls path (IsPassedOver c.are_idle-idle.result c.args.standing.now.map calls) c.loop-place.next.items c.if-may_come.next.items i
           (ap (λ v. v.items) w.next-is ∙ w.in_ok-push.ensures.items) (c.may_come.ensures.next w.if-may_come.true) c.loop-place.invariant
-      | else-may_come w ↦ tried-less g.start calls path (IsPassedOver c.are_idle-idle.result calls) c.loop-place.next.items c.if-may_come.next.items i
+      | else-may_come w ↦ tried-less g.start calls path (IsPassedOver c.are_idle-idle.result c.args.standing.now.map calls) c.loop-place.next.items c.if-may_come.next.items i
           (ap (λ v. v.items) w.next-is) (c.may_come.ensures.not_next w.if-may_come.false) c.loop-place.invariant
     ]
 
@@ -68,5 +75,6 @@ returns-clause-choices g c =
       next = inv.0;
       closes = tried_close g.start calls path c.args.answered c.are_idle-idle.result c.loop-place.next.items c.requires.1.1.1.0 c.requires.1.0
           c.requires.1.1.1.1.1 (λ yes. subst (λ m. AreIdle m calls path c.args.answered) c.requires.1.1.1.1.0.holds (c.are_idle-idle.ensures yes))
-          (λ n next. inv.1 n (omega (arith, c.loop-place-test.false, slice_get_within calls n next.call next.here)) next);
+          (λ n next. passed c.args.standing.now.map (pairs_after g.start calls path) calls c.are_idle-idle.result c.loop-place.next.items n
+          c.requires.1.1.1.1.0.holds (inv.1 n (omega (arith, c.loop-place-test.false, slice_get_within calls n next.call next.here)) next));
     }

@@ -10,4 +10,4 @@ ghost-may_come g a = g.start
 
 -- all of the calls so far that may come next and are not passed over, and no others
 abbrev pub invariant-loop-place : goal.invariant-loop-place
-invariant-loop-place g l = AreTried g.start l.calls (places l.standing.levels.items) (IsPassedOver l.idle l.calls) l.next.items l.place
+invariant-loop-place g l = AreTried g.start l.calls (places l.standing.levels.items) (IsPassedOver l.idle l.standing.map l.calls) l.next.items l.place

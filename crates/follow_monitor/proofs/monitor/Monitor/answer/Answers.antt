@@ -1,4 +1,4 @@
-use Rattle.follow_monitor.proofs.Common.{◌≡◌, ◌≤◌, length, None, Some, refl, sym, ◌∙◌, arith, event_limit, known_call}
+use Rattle.follow_monitor.proofs.Common.{event_limit, known_call, ◌≡◌, ◌≤◌, length, None, Some, refl, sym, ◌∙◌, arith}
 use Rattle.follow_monitor.proofs.FaultLemmas.{waits, idles, idle_answer, many_answers}
 use Rattle.follow_monitor.proofs.monitor.Monitor.answer.Goals as goal
 

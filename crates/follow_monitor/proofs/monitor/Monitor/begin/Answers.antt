@@ -1,6 +1,6 @@
-use Rattle.follow_monitor.proofs.Common.{◌≡◌, ℕ, ◌+◌, ◌<◌, ◌==◌, ◌++◌, ◌∷◌, [], List, None, Some, cond, sym, ap, ◌∙◌, subst, arith, Event, Invoke}
-use Rattle.follow_monitor.proofs.Common.{operations, Contents, event_limit, MonitorView, PartsView, Option, known_call, IsFollowing, OpenCall}
-use Rattle.follow_monitor.proofs.Common.{is_some, parts_of, Kept}
+use Rattle.follow_monitor.proofs.Common.{operations, Event, Invoke, event_limit, IsFollowing, MonitorView, known_call, parts_of, Kept, OpenCall}
+use Rattle.follow_monitor.proofs.Common.{PartsView, Contents, ◌≡◌, ℕ, ◌+◌, ◌<◌, ◌==◌, ◌++◌, ◌∷◌, [], List, None, Some, cond, sym, ap, ◌∙◌, subst}
+use Rattle.follow_monitor.proofs.Common.{arith, Option, is_some}
 use Rattle.follow_monitor.proofs.KeptLemmas.{seen_with, same_with}
 use Rattle.follow_monitor.proofs.FollowLemmas.{call_taken, call_more}
 use Rattle.follow_monitor.proofs.OpenLemmas.{at_process}

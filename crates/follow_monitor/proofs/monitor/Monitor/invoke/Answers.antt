@@ -1,5 +1,5 @@
-use Rattle.follow_monitor.proofs.Common.{◌≡◌, ◌≤◌, ◌<◌, length, None, sym, ◌∙◌, arith, low_key, high_key, event_limit, known_call}
-use Rattle.follow_monitor.proofs.Common.{err_from_is_err_and}
+use Rattle.follow_monitor.proofs.Common.{low_key, high_key, event_limit, known_call, ◌≡◌, ◌≤◌, ◌<◌, length, None, sym, ◌∙◌, arith}
+use Rattle.std.proofs.lemmas.Result.{err_from_is_err_and}
 use Rattle.follow_monitor.proofs.FaultLemmas.{some_known, none_known, waits, idles, open_fault, many_fault, no_fault}
 use Rattle.follow_monitor.proofs.monitor.Monitor.invoke.Goals as goal
 

@@ -1,6 +1,6 @@
-use Rattle.follow_monitor.proofs.Common.{◌≡◌, ℕ, ◌<◌, ◌==◌, ◌++◌, ◌∷◌, [], List, None, cond, sym, ap, ◌∙◌, subst, Event, Answer, Contents, begun}
-use Rattle.follow_monitor.proofs.Common.{IsEndedBy, response_at, AreAnswered, IsPartEndedBy, MayReply, event_limit, IsFollowing, IsLossAt}
-use Rattle.follow_monitor.proofs.Common.{MonitorView, PartsView, Option, known_call, is_some, parts_of, Kept}
+use Rattle.follow_monitor.proofs.Common.{Event, Answer, AreAnswered, IsPartEndedBy, MayReply, event_limit, IsFollowing, IsLossAt, MonitorView}
+use Rattle.follow_monitor.proofs.Common.{known_call, parts_of, Kept, begun, IsEndedBy, response_at, PartsView, Contents, ◌≡◌, ℕ, ◌<◌, ◌==◌, ◌++◌, ◌∷◌}
+use Rattle.follow_monitor.proofs.Common.{[], List, None, cond, sym, ap, ◌∙◌, subst, Option, is_some}
 use Rattle.follow_monitor.proofs.KeptLemmas.{seen_with, same_with}
 use Rattle.follow_monitor.proofs.FollowLemmas.{seen_so, around_it, state_before}
 use Rattle.follow_monitor.proofs.JudgeLemmas.{accepted, is_shaped}

@@ -1,4 +1,4 @@
-use Rattle.follow_monitor.proofs.Common.{ap, ◌∙◌, MonitorView, known_call, Kept}
+use Rattle.follow_monitor.proofs.Common.{MonitorView, known_call, Kept, ap, ◌∙◌}
 use Rattle.follow_monitor.proofs.monitor.Monitor.known.Goals as goal
 
 pub returns : goal.returns

@@ -1,4 +1,4 @@
-use Rattle.follow_monitor.proofs.Common.{sym, ap, subst, ◌∙◌, [], Buffer, Put, IsFollowing, is_some, Kept}
+use Rattle.follow_monitor.proofs.Common.{Buffer, IsFollowing, Kept, Put, sym, ap, subst, ◌∙◌, [], is_some}
 use Rattle.follow_monitor.proofs.KeptLemmas.{seen}
 use Rattle.follow_monitor.proofs.StartLemmas.{nothing_followed}
 use Rattle.follow_monitor.proofs.monitor.Monitor.new.Goals as goal

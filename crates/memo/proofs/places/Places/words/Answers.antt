@@ -1,8 +1,8 @@
 use Rattle.memo.proofs.Common.{◌∙◌, ap, sym, subst, places_of, IsTrimmed}
 use Rattle.memo.proofs.places.Places.words.Goals as goal
 
-pub returns-clause-told : goal.returns-clause-told
-returns-clause-told c =
+pub returns-clause-form : goal.returns-clause-form
+returns-clause-form c =
     (c.self.inside.least, ap (places_of c.self.inside.least) c.deref.ensures.value ∙ c.self.view_is)
 
 pub returns-clause-trimmed : goal.returns-clause-trimmed

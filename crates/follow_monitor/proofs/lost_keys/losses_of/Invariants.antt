@@ -1,9 +1,0 @@
-use Rattle.follow_monitor.proofs.Common.{◌≡◌, map, take, All, kept_of, IsKeyLoss}
-use Rattle.follow_monitor.proofs.lost_keys.losses_of.Given as goal
-
--- what is said of the keys so far
-abbrev pub invariant-loop-key : goal.invariant-loop-key
-invariant-loop-key l = record {
-  keys : map (λ loss. loss.key) l.losses.items ≡ take l.key-index l.keys;
-  each : All (IsKeyLoss (map kept_of l.pasts) l.puts) l.losses.items;
-}

@@ -1,7 +1,0 @@
-use Rattle.follow_monitor.proofs.Common.{take, kept_of, origin_in}
-use Rattle.follow_monitor.proofs.WriterLemmas.{AreEachOnce}
-use Rattle.follow_monitor.proofs.writers.origins_in.Given as goal
-
--- the values in the pasts so far, each once
-abbrev pub invariant-loop-past : goal.invariant-loop-past
-invariant-loop-past l = AreEachOnce (λ past. origin_in l.own l.key (kept_of past)) (take l.past-index l.pasts) l.from.items

@@ -1,0 +1,5 @@
+pub mod Puts
+pub mod KeyLosses
+pub mod OwnParts
+pub mod Laws
+pub mod Collecting
