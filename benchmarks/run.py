@@ -1,7 +1,7 @@
 #!/usr/bin/env python3
 """Times the program on histories that it generates, and prints the time and the peak memory of each run.
 
-    benchmarks/run.py [check|judge|search|segments|workers|follow|generate|replay|record|drive]..
+    benchmarks/run.py [check|judge|search|segments|workers|follow|wrong|generate|replay|record|drive]..
 
 What each part runs on:
 
@@ -11,6 +11,8 @@ What each part runs on:
 - `workers`: segments that are equal but for their keys, with many configurations and without order.
 - `follow`: a stream of processes that each begin a call as soon as their last one is answered. It is followed from a file. The table has its
   calls in a second of a processor, in place of its bytes.
+- `wrong`: the same streams with a thousand calls, of at most 64 processes. In each copy of a stream one answer is changed. It counts the copies in
+  which `follow` says at which event the stream goes wrong, or that it is right, just as `locate` does.
 - `generate` makes plans. `replay` runs generated plans on both full trees, each call to its end or some turns at a time. One of its calls waits for
   a lock as long as a machine may live.
 - `record`: threads note calls and answers at recorders. They are compared with as many threads that add to one shared word as often.
@@ -354,6 +356,61 @@ def follow():
         print(f"{row}, expected {expected:,}", flush=True)
 
 
+def events_of(drawn, calls):
+    """The events of a stream, up to the first one of a 65th process. Processes are numbered as they come."""
+    with tempfile.TemporaryFile("w+", encoding="utf-8") as file:
+        Stream(file, calls, **drawn).write_all()
+        file.seek(0)
+        lines = [json.loads(line) for line in file][1:]
+    numbers, events = {}, []
+    for line in lines:
+        number = numbers.setdefault(line["process"], len(numbers))
+        if number == 64:
+            break
+        events.append({**line, "process": number})
+    return events
+
+
+def says(event):
+    """Whether an event is an answer of more than `done` or an empty list."""
+    return event.get("answer", "done") not in ("done", [])
+
+
+def changed(chance, events):
+    """The events, of which one answer is changed: another value, none in place of a value, or a scan without one of its pairs."""
+    place = chance.choice([place for place, event in enumerate(events) if says(event)])
+    answer = events[place]["answer"]
+    if isinstance(answer, list):
+        gone = chance.randrange(len(answer))
+        answer = answer[:gone] + answer[gone + 1:]
+    else:
+        values = [event["invoke"][2] for event in events if event.get("invoke", "")[:1] == ["insert"]]
+        answer = chance.choice([value for value in {None, *chance.choices(values, k=3)} if value != answer])
+    return [*events[:place], {**events[place], "answer": answer}, *events[place + 1:]]
+
+
+def wrong(copies=175, calls=1000):
+    """Follows and locates copies of each stream with one answer changed. Both have to say the same."""
+    chance = random.Random(1)
+    sums = {}
+    for name, (_, drawn) in STREAMS.items():
+        events, counts = events_of(drawn, calls), {}
+        if not any(says(event) for event in events):
+            continue
+        for _ in range(copies):
+            copy = changed(chance, events)
+            lines = "\n".join(json.dumps(line, separators=(",", ":")) for line in ({"start": [], "version": 3}, *copy))
+            history = json.dumps({"events": copy, "start": [], "version": 3}, separators=(",", ":"), sort_keys=True)
+            followed = json.loads(run(["follow"], lines.encode())[-1].splitlines()[0])
+            located = json.loads(run(["locate"], history.encode())[-1])
+            same = (followed["verdict"], followed.get("event")) == (located["verdict"], located.get("event"))
+            said = f"the same, {located['verdict']}" if same else f"{followed['verdict']}, not {located['verdict']}"
+            counts[said] = counts.get(said, 0) + 1
+            sums[said] = sums.get(said, 0) + 1
+        print(f"wrong, {name:<42} {counts}", flush=True)
+    print(f"wrong, in all {sums}", flush=True)
+
+
 def generated(processes, calls, seed, most):
     """The words that generate a plan of calls of all kinds on the keys up to the most."""
     numbers = {"seed": seed, "processes": processes, "calls": calls, "get": 40, "insert": 30, "remove": 20, "scan": 10,
@@ -436,7 +493,7 @@ def drive(rounds=200):
 
 def main():
     parts = {"check": check, "judge": judge, "search": search, "segments": segments, "workers": workers,
-             "follow": follow, "generate": generate, "replay": replay, "record": record, "drive": drive}
+             "follow": follow, "wrong": wrong, "generate": generate, "replay": replay, "record": record, "drive": drive}
     unknown = [part for part in sys.argv[1:] if part not in parts]
     if unknown:
         sys.exit(f"benchmarks/run.py: {unknown[0]} is none of {', '.join(parts)}")

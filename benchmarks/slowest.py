@@ -1,13 +1,13 @@
 #!/usr/bin/env python3
 """Searches for short streams that the program follows slowly, or with much memory.
 
-    benchmarks/slowest.py [--seconds N] [--seed N] [--lines N]
+    benchmarks/slowest.py [--seconds N] [--seed N] [--lines N] [--budget N]
 
-All streams are right, and have at most so many lines (1,000). For so many seconds (60) it draws the traits of a stream, or changes some of those of
-one of the slowest until then, and follows the stream at a budget of 1,000,000 configurations. It prints the seconds of a processor, the peak of
-memory in MiB, the verdict and the traits of each stream that is among the ten slowest when it is found, and at the end the ten slowest and the ten
-with the most memory. The seed (1) fixes what is drawn, and the traits fix a stream. The status is 1 if one takes a second or 100 MiB, or is
-undecided.
+All streams are right, and have at most so many lines (1,000), of at most 64 processes at a time. For so many seconds (60) it draws the traits of a
+stream, or changes some of those of one of the slowest until then, and follows the stream at this budget (100,000, the program's default). It prints
+the seconds of a processor, the peak of memory in MiB, the verdict and the traits of each stream that is among the ten slowest when it is found, and
+at the end the ten slowest and the ten with the most memory. The seed (1) fixes what is drawn, and the traits fix a stream. The status is 1 if one
+takes a second or 100 MiB, or is undecided.
 """
 
 import argparse
@@ -22,13 +22,12 @@ import time
 TOP = os.path.dirname(os.path.dirname(os.path.abspath(__file__)))
 PROGRAM = os.path.join(TOP, "crates", "bench", "out", "bench")
 compact = json.JSONEncoder(separators=(",", ":")).encode
-BUDGET = "1000000"
 # What a stream may take, in seconds of a processor and MiB.
 SECONDS, MEMORY = 1, 100
 KEPT = 10
 # The traits that a stream may have.
 TRAITS = {
-    "processes": (1, 2, 3, 4, 6, 8, 12, 16, 24, 32, 48, 64, 100),
+    "processes": (1, 2, 3, 4, 6, 8, 12, 16, 24, 32, 48, 64),
     "keys": (1, 2, 3, 4, 6, 8, 16, 32, 64),
     "values": (1, 2, 3, 8, 1 << 30),
     "gets": (0, 1, 2, 5, 10),
@@ -114,12 +113,12 @@ def lines_of(traits, most):
     return lines
 
 
-def followed(lines):
+def followed(lines, budget):
     """The seconds of a processor and the peak of memory, in MiB, of a run, and its verdict."""
     with tempfile.TemporaryFile() as text:
         text.write("\n".join(lines).encode())
         text.seek(0)
-        child = subprocess.Popen([PROGRAM, "follow", "--budget", BUDGET], stdin=text, stdout=subprocess.PIPE, stderr=subprocess.DEVNULL)
+        child = subprocess.Popen([PROGRAM, "follow", "--budget", str(budget)], stdin=text, stdout=subprocess.PIPE, stderr=subprocess.DEVNULL)
         said = child.stdout.read()
         child.stdout.close()
         _, status, used = os.wait4(child.pid, 0)
@@ -139,6 +138,7 @@ def main():
     parser.add_argument("--seconds", type=int, default=60)
     parser.add_argument("--seed", type=int, default=1)
     parser.add_argument("--lines", type=int, default=1000)
+    parser.add_argument("--budget", type=int, default=100_000)
     given = parser.parse_args()
     chance = random.Random(given.seed)
     slowest, largest, count, bad = [], [], 0, 0
@@ -148,7 +148,7 @@ def main():
         drawn = changed(chance, chance.choice(kept)[-1]) if kept and chance.randrange(3) else {name: chance.choice(of) for name, of in TRAITS.items()}
         if not drawn["gets"] + drawn["inserts"]:
             continue
-        seconds, memory, verdict = followed(lines_of(drawn, given.lines))
+        seconds, memory, verdict = followed(lines_of(drawn, given.lines), given.budget)
         count += 1
         bad += seconds >= SECONDS or memory >= MEMORY or verdict != "yes"
         row = seconds, memory, verdict, drawn

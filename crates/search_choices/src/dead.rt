@@ -16,9 +16,9 @@ use call_effects::{earlier_answer, ended_after, is_read, value_after};
 use events::{Call, Operation, Reply};
 
 /// The most calls that are left and looked at.
-const MOST: usize = 256;
+const MOST: usize = 4_096;
 
-/// The place up to which calls are looked at: 256 of those that are left come before it, or all.
+/// The place up to which calls are looked at: 4,096 of those that are left come before it, or all.
 pub(crate) fn end_of_look(calls: &[Operation], standing: &CallSearch) -> usize
     ghost start: { Contents }
     requires stands { StandsBare start calls.now standing.now }
