@@ -52,7 +52,14 @@ pub fn choices(
         return Ok(Some(next));
     }
     let end = end_of_look(calls, standing);
-    if is_dead_end(calls, standing, end, last_of_look(standing, answered)) {
+    let first = first_of_look(calls, standing);
+    if is_dead_end(
+        calls,
+        standing,
+        end,
+        first,
+        last_of_look(standing, answered),
+    ) {
         return Ok(Some(Vec::new(alloc)));
     }
     let few = narrowed(alloc, calls, standing, answered, next)?;
@@ -145,6 +152,28 @@ fn is_of_one(call: &Call, keys: &[u64]) -> bool
         }
     }
     false
+}
+
+/// The place from which on a call has to begin to be tested for being stuck. At the start of a
+/// search all calls are tested. Those that began by the earliest answer then were tested before the
+/// last call was taken. But if that call was a read, none were tested there, and the calls before it
+/// count too. A call that was not futile leaves no call stuck, unless it is a replace, which may put
+/// nothing.
+fn first_of_look(calls: &[Operation], standing: &CallSearch) -> usize {
+    let mut first = usize::MAX;
+    for level in standing.levels.iter().rev() {
+        let Some(call) = calls.get(level.place as usize) else {
+            return 0;
+        };
+        first = first.min(answer_of(calls, level.place));
+        if matches!(call.call, Call::Replace(_, _, _)) {
+            return 0;
+        }
+        if !is_read(call) {
+            return first;
+        }
+    }
+    0
 }
 
 /// The place up to which a call has to begin to be tested for being stuck. At the start of a search

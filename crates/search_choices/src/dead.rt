@@ -37,14 +37,15 @@ pub(crate) fn end_of_look(calls: &[Operation], standing: &CallSearch) -> usize
     calls.len()
 }
 
-/// Whether a call that is left, and begins no later than a place, is seen to be stuck. Then the
-/// calls taken are a dead end. Calls are looked at up to `end`. It costs a look into the map for
-/// each call that is left and begins by that place. If the map does not have what the call
-/// reported, it also costs a look at the calls up to `end` that are left.
+/// Whether a call that is left, and begins at one of the places from `first` to `last`, is seen to
+/// be stuck. Then the calls taken are a dead end. Calls are looked at up to `end`. It costs a look
+/// into the map for each call that is left and begins at such a place. If the map does not have what
+/// the call reported, it also costs a look at the calls up to `end` that are left.
 pub(crate) fn is_dead_end(
     calls: &[Operation],
     standing: &CallSearch,
     end: usize,
+    first: usize,
     last: usize,
 ) -> bool
     ghost start: { Contents }
@@ -56,10 +57,11 @@ pub(crate) fn is_dead_end(
     ensures { result ≡ true → IsDead start calls.now (places standing.now.levels.items) }
 {
     for place in standing.low..end {
-        if last < calls[place].inv {
+        let begun = calls[place].inv;
+        if last < begun {
             return false;
         }
-        if is_stuck(calls, standing, end, place) {
+        if first <= begun && is_stuck(calls, standing, end, place) {
             return true;
         }
     }
