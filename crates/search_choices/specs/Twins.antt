@@ -7,7 +7,7 @@ use Rattle.map_object.specs.MapObject.{Contents}
 use Rattle.memo.proofs.FrontLemmas.{IsNext}
 use Rattle.search_choices.specs.Reads.{HasOrderAfter}
 
--- a call is answered no later than another one, and the same; or only the other is pending, and it is not refused; or both are pending
+-- a call is answered no later than another one, and the same; or only the other is pending, and the first is not refused; or both are pending
 abbrev pub AnswersFirst : Option Response → Option Response → Type 0
 AnswersFirst None None = ⊤
 AnswersFirst None (Some response) = ⊥
@@ -26,7 +26,7 @@ TwinsGoFirst =
     → IsNext start calls path n → IsTwin a b
     → HasOrderAfter start calls (path ++ k ∷ []) → HasOrderAfter start calls (path ++ n ∷ [])
 
--- a place and a later one of a list of calls whose calls are so
+-- the call at one place is the twin of the call at another place
 pub record IsTwinAt (calls : List Operation) (n k : ℕ) : Type 0 where
   pub first : Operation
   pub other : Operation
@@ -34,7 +34,7 @@ pub record IsTwinAt (calls : List Operation) (n k : ℕ) : Type 0 where
   pub there : slice_get calls k ≡ Some other
   pub twin : IsTwin first other
 
--- the call at a place has a twin at one of these places
+-- the call at one of these places is a twin of the call at a place
 abbrev pub HasTwin : List Operation → List ℕ → ℕ → Type 0
 HasTwin calls firsts n = (k : ℕ) × Contains firsts k × IsTwinAt calls k n
 

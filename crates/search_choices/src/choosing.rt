@@ -158,7 +158,7 @@ fn is_of_one(call: &Call, keys: &[u64]) -> bool
 /// search all calls are tested. Those that began by the earliest answer then were tested before the
 /// last call was taken. But if that call was a read, none were tested there, and the calls before it
 /// count too. A call that was not futile leaves no call stuck, unless it is a replace, which may put
-/// nothing.
+/// nothing. The place only saves tests: a call that is seen to be stuck is stuck, whatever the place.
 fn first_of_look(calls: &[Operation], standing: &CallSearch) -> usize {
     let mut first = usize::MAX;
     for level in standing.levels.iter().rev() {
